@@ -1,0 +1,4 @@
+pub mod Text
+pub mod State
+pub mod Edit
+pub mod Run

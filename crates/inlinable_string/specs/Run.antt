@@ -1,0 +1,94 @@
+-- What a list of commands does to a value, and which replies are legal, whatever memory answers.
+use Rattle.std.specs.Prelude.{◌≡◌, ℕ, ◌+◌, ◌-◌, ◌≤◌, ◌⊎◌, List, [], ◌∷◌, length}
+use Rattle.inlinable_string.specs.Text.{size}
+use Rattle.inlinable_string.specs.State.{TextState, HasInlineRoom, storage_with_room}
+use Rattle.inlinable_string.specs.Edit.{edit, text_after_step}
+use Rattle.inlinable_string.specs.declared.string_ext.Storage.{Storage}
+use Rattle.inlinable_string.specs.declared.run.Command.{Command}
+use Rattle.inlinable_string.specs.declared.run.Command.TheVariants.{PushStr, Truncate, Pop}
+use Rattle.inlinable_string.specs.declared.run.Reply.{Reply}
+use Rattle.inlinable_string.specs.declared.run.Reply.TheVariants.{Done, BadPlace, NoMemory}
+
+-- what a command needs of the room where the text lies
+pub data Need : Type 0 where
+  -- so many bytes more at the end
+  pushes : ℕ → Need
+  nothing : Need
+
+abbrev pub need_of : Command → Need
+need_of (PushStr u) = pushes (length u.now)
+need_of (Truncate p) = nothing
+need_of Pop = nothing
+
+-- where the text lies once a need is met
+abbrev pub storage_when_met : TextState → Need → Storage
+storage_when_met s (pushes n) = storage_with_room s n
+storage_when_met s nothing = s.storage
+
+-- where the text lies after a command with its reply
+abbrev pub storage_after_step : TextState → Command → Reply → Storage
+storage_after_step s command Done = storage_when_met s (need_of command)
+storage_after_step s command reply = s.storage
+
+-- how many bytes pushes may add before memory can be refused
+abbrev pub credit : TextState → ℕ
+credit s = s.capacity - size s.text
+
+-- the same once a need is met, where it was k
+abbrev pub credit_when_met : ℕ → Need → ℕ
+credit_when_met k (pushes n) = k - n
+credit_when_met k nothing = 0
+
+-- the same after a command with its reply
+abbrev pub credit_after_step : ℕ → Command → Reply → ℕ
+credit_after_step k command Done = credit_when_met k (need_of command)
+credit_after_step k command BadPlace = k
+credit_after_step k command reply = 0
+
+-- the state after a command with its reply; its capacity is the least that is certain
+abbrev pub state_after_step : TextState → Command → Reply → TextState
+state_after_step s command reply = record {
+  text = text_after_step s.text command reply;
+  storage = storage_after_step s command reply;
+  capacity =
+      size (text_after_step s.text command reply) + credit_after_step (credit s) command reply;
+  policy = s.policy;
+}
+
+-- the state after commands with their replies, one after the other
+abbrev pub state_after : TextState → List Command → List Reply → TextState
+state_after s [] replies = s
+state_after s (command ∷ commands) [] = s
+state_after s (command ∷ commands) (reply ∷ replies) =
+    state_after (state_after_step s command reply) commands replies
+
+abbrev pub storage_after : TextState → List Command → List Reply → Storage
+storage_after s commands replies = (state_after s commands replies).storage
+
+abbrev pub credit_after : TextState → List Command → List Reply → ℕ
+credit_after s commands replies = credit (state_after s commands replies)
+
+-- the command may ask for memory on the text t: it needs room, and no other refusal comes first
+abbrev pub AsksMemory : List ℕ → Command → Type 0
+AsksMemory t command = ¬ (need_of command ≡ nothing) × ((edit t command).0 ≡ Done)
+
+-- what is needed is there without any memory
+abbrev pub IsMet : TextState → Need → Type 0
+IsMet s (pushes n) = HasInlineRoom s n ⊎ (n ≤ credit s)
+IsMet s nothing = Unit {0}
+
+-- the command may not be refused for want of memory
+abbrev pub IsFree : TextState → Command → Type 0
+IsFree s command = ¬ (AsksMemory s.text command) ⊎ IsMet s (need_of command)
+
+-- the reply is that of `edit`, or want of memory to a command that is not free of it
+pub record IsLegal (s : TextState) (command : Command) (reply : Reply) : Type 0 where
+  pub answer : (reply ≡ (edit s.text command).0) ⊎ ((reply ≡ NoMemory) × ¬ (IsFree s command))
+
+-- there are as many replies as commands, and each is legal in its turn
+abbrev pub LegalReplies : TextState → List Command → List Reply → Type 0
+LegalReplies s [] [] = Unit {0}
+LegalReplies s (command ∷ commands) (reply ∷ replies) =
+    IsLegal s command reply × LegalReplies (state_after_step s command reply) commands replies
+LegalReplies s [] (reply ∷ replies) = ⊥
+LegalReplies s (command ∷ commands) [] = ⊥

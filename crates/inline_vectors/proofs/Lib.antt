@@ -1,0 +1,4 @@
+pub mod Cut
+pub mod Sizes
+pub mod Follows
+pub mod SixCommands

@@ -1,0 +1,22 @@
+-- What the values of the plain program stand for.
+use Rattle.std.specs.Prelude.{◌+◌}
+use Rattle.inlinable_string.specs.Text.{size}
+use Rattle.inlinable_string.specs.State.{TextState}
+use Rattle.inlinable_string.specs.Run.{Need, pushes, nothing}
+use Rattle.inline_vectors.specs.declared.plain.room.PlainText.{PlainText}
+use Rattle.inline_vectors.specs.declared.plain.room.Need as plain
+use Rattle.inline_vectors.specs.declared.plain.room.Need.TheVariants.{Pushes, Nothing}
+
+-- the state of a plain text; its capacity is the least that is certain
+abbrev pub state_of : PlainText → TextState
+state_of plain = record {
+  text = plain.text.items;
+  storage = plain.storage;
+  capacity = size plain.text.items + plain.credit;
+  policy = record { demotes = plain.demotes; limit = plain.limit };
+}
+
+-- a need, in the words of the definitions
+abbrev pub need_in : plain.Need → Need
+need_in (Pushes n) = pushes n
+need_in Nothing = nothing
