@@ -1,4 +1,7 @@
 pub mod Text
+pub mod Cells
 pub mod State
+pub mod Values
 pub mod Edit
 pub mod Run
+pub mod Step

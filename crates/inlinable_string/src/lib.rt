@@ -1,7 +1,19 @@
-//! Text that lies inline while it is short, and on the heap else.
+//! Short texts without memory: UTF-8 text that lies in the value itself while it is short, and on
+//! the heap else.
+//!
+//! - [`InlineStringN`] has at most `N` bytes and never asks for memory.
+//! - [`InlinableStringN`] goes to the heap where it outgrows `N` bytes.
+//! - [`StringExt`] and [`StringMake`] are implemented by it and by std's `String`, so that code can
+//!   be written once for both.
+//! - [`run`] gives lists of commands to any text.
 #![tactic(auto)]
 
+mod cells;
+mod inlinable_string;
+pub mod inline_string;
 pub mod run;
 pub mod string_ext;
 
-pub use string_ext::Storage;
+pub use inlinable_string::{InlinableString, InlinableStringN};
+pub use inline_string::{INLINE_STRING_CAPACITY, InlineString, InlineStringN};
+pub use string_ext::{Storage, StringExt, StringMake};

@@ -1,0 +1,95 @@
+-- Texts and their bytes.
+use Rattle.std.proofs.Common.{◌≡◌, ℕ, ◌+◌, ◌≤◌, true, false, Bool, ◌&&◌, List, [], ◌∷◌, ◌++◌, length, take, drop, refl, sym, ap, ◌∙◌, arith, subst, length-append, take-append-drop, length-take-le, append-nil, Result, Ok, Err, is_ok, if◌then◌else◌, OnOk, Option, Some, None, MatchOption, IfSome, IfNone, IsTrue, ◌↔◌, nat_eq}
+use Rattle.std.proofs.lemmas.Bool.Decides.{nat_tests}
+use lib.Utf8.{scalar}
+use Rattle.std.specs.declared.string.String.{String}
+use Rattle.std.specs.String.{string_bytes, string_len, string_capacity}
+use Rattle.std.proofs.lemmas.Str.{IsUtf8-string_bytes, length-le-encodes}
+use Rattle.std.specs.Char.{encode_utf8}
+use Rattle.std.specs.Str.{chars, all_scalars, IsUtf8, IsCharBoundary}
+use Rattle.std.specs.String.Boundary.{IsSplitPoint}
+use Rattle.std.proofs.lemmas.Str.{chars-nil, encodes-chars, scalars-chars, chars-append, chars_from_encodes, encodes-append, IsUtf8-take, IsCharBoundary-at_seam}
+use Rattle.inlinable_string.specs.Text.{bytes_of, size, IsCut, IsPlace}
+
+-- the bytes of the characters of UTF-8
+pub bytes_of-chars : (bs : List ℕ) → IsUtf8 bs → bytes_of (chars bs) ≡ bs
+bytes_of-chars bs u = encodes-chars bs u
+
+pub size-chars : (bs : List ℕ) → IsUtf8 bs → size (chars bs) ≡ length bs
+size-chars bs u = ap length (encodes-chars bs u)
+
+pub size-append : (a b : List ℕ) → size (a ++ b) ≡ size a + size b
+size-append a b = ap length (encodes-append a b) ∙ length-append (bytes_of a) (bytes_of b)
+
+-- a cut of the bytes is a cut of the characters
+pub cut_at_boundary : (bs : List ℕ) (p : ℕ) → IsUtf8 bs → IsCharBoundary bs p → IsCut (chars bs) p (chars (take p bs)) (chars (drop p bs))
+cut_at_boundary bs p u at =
+    let front : IsUtf8 (take p bs) = IsUtf8-take bs p u at in record {
+      joined = sym (ap chars (take-append-drop p bs)) ∙ chars-append (take p bs) (drop p bs) front;
+      before = size-chars (take p bs) front ∙ length-take-le p bs at.0;
+    }
+
+clash : false ≡ true → ⊥
+clash e = cc
+
+both : (x y : Bool) → (x && y) ≡ true → (x ≡ true) × (y ≡ true)
+both true y h = (refl, h)
+both false y h = cc
+
+-- the other way round
+pub scalars-front : (a b : List ℕ) → all_scalars (a ++ b) ≡ true → all_scalars a ≡ true
+scalars-front [] b h = refl
+scalars-front (x ∷ a) b h =
+    let p : (scalar x ≡ true) × (all_scalars (a ++ b) ≡ true) = both (scalar x) (all_scalars (a ++ b)) h in
+    rw (p.0, scalars-front a b p.1)
+
+pub scalars-back : (a b : List ℕ) → all_scalars (a ++ b) ≡ true → all_scalars b ≡ true
+scalars-back [] b h = h
+scalars-back (x ∷ a) b h = scalars-back a b (both (scalar x) (all_scalars (a ++ b)) h).1
+
+pub boundary_at_cut : (bs : List ℕ) (p : ℕ) (a b : List ℕ) → IsUtf8 bs → IsCut (chars bs) p a b → IsCharBoundary bs p
+boundary_at_cut bs p a b u c =
+    let joined : bs ≡ bytes_of a ++ bytes_of b = sym (encodes-chars bs u) ∙ ap bytes_of c.joined ∙ encodes-append a b in
+    let back : all_scalars b ≡ true = scalars-back a b (subst (λ t. all_scalars t ≡ true) c.joined (scalars-chars bs u)) in
+    subst (IsCharBoundary bs) c.before (IsCharBoundary-at_seam bs (bytes_of a) (bytes_of b) joined (b, (back, refl)))
+
+pub split_point_at_cut : (bs : List ℕ) (p : ℕ) → IsUtf8 bs → IsPlace (chars bs) p → IsSplitPoint bs p
+split_point_at_cut bs p u at =
+    let b : IsCharBoundary bs p = boundary_at_cut bs p at.0 at.1 u at.2 in (b.0, λ _. b.1)
+
+-- what std says of its bytes, of the characters
+pub pushed-chars : {T E : Type 0} (r : Result T E) (old s new : List ℕ) → IsUtf8 old → new ≡ (if is_ok r then old ++ s else old) → OnOk r (chars new ≡ chars old ++ chars s)
+pushed-chars (Ok x) old s new u e = ap chars e ∙ chars-append old s u
+pushed-chars (Err x) old s new u e = tt
+
+-- the characters of bytes that end with one
+pub popped-chars : (old new : List ℕ) (c : ℕ) → IsUtf8 old → IsUtf8 new → old ≡ new ++ encode_utf8 c → chars old ≡ chars new ++ c ∷ []
+popped-chars old new c u v e = sym (chars_from_encodes (chars new ++ c ∷ []) old u (encodes-append (chars new) (c ∷ []) ∙ rw (encodes-chars new v, append-nil) (sym e)))
+
+-- the number of bytes that std counts
+pub size-string : {Z : Type 0} (s : String Z) → size (chars (string_bytes s)) ≡ string_len s
+size-string s = size-chars _ (IsUtf8-string_bytes s) ∙ sym s.bytes.ok.0
+
+empty : (xs : List ℕ) → length xs ≡ 0 → xs ≡ []
+empty [] h = refl
+empty (x ∷ xs) h = absurd (omega (arith, h))
+
+pub popped-text : (r : Option ℕ) (old new : List ℕ) → IsUtf8 old → IsUtf8 new → IfSome r (λ c. old ≡ new ++ encode_utf8 c) → IfNone r (length old ≡ 0) → length new ≤ length old → MatchOption r ((chars old ≡ []) × (chars new ≡ [])) (λ c. chars old ≡ chars new ++ c ∷ [])
+popped-text None old new u v some none le = (ap chars (empty old none) ∙ chars-nil, ap chars (empty new (omega (arith, none, le))) ∙ chars-nil)
+popped-text (Some c) old new u v some none le = popped-chars old new c u v some
+
+-- only the empty text has no byte
+pub nil_from_size : (t : List ℕ) → size t ≡ 0 → t ≡ []
+nil_from_size t h = empty t (omega (arith, h, length-le-encodes t))
+
+-- the test for the empty text is a test of the size
+pub empty_at_size : (t : List ℕ) → IsTrue (nat_eq (size t) 0) ↔ (t ≡ [])
+empty_at_size t = (λ h. nil_from_size t (grind (arith, nat_tests, h)), λ e. rw e refl)
+
+-- a pushed text has room where the result has
+pub room_pushed : {Z : Type 0} (t bs : List ℕ) (s : String Z) → IsUtf8 bs → chars (string_bytes s) ≡ t ++ chars bs → size t + length bs ≤ string_capacity s
+room_pushed t bs s u e = omega (arith, ap size e, size-append t (chars bs), size-chars bs u, size-string s, s.bytes.ok.1)
+
+-- the characters of the bytes of a text with more behind them
+pub chars_joined : (t front back whole : List ℕ) → IsUtf8 front → front ≡ bytes_of t → whole ≡ front ++ back → chars whole ≡ t ++ chars back
+chars_joined t front back whole u e j = ap chars j ∙ chars-append front back u ∙ ap (λ x. x ++ chars back) (sym (chars_from_encodes t front u (sym e)))

@@ -1,0 +1,70 @@
+-- A text t that lies in l bytes w.
+use Rattle.std.proofs.Common.{◌≡◌, ℕ, ◌+◌, ◌≤◌, List, [], ◌∷◌, ◌++◌, length, take, drop, refl, sym, ap, ◌∙◌, arith, length-append, length-take-le, take-take, take_at, append-nil, length-drop}
+use Rattle.std.specs.Char.{encode_utf8}
+use Rattle.std.specs.List.{insert_slice}
+use Rattle.std.specs.Str.{chars, IsUtf8, IsCharBoundary}
+use Rattle.std.proofs.lemmas.List.{drop-append-le, drop-take, take_all, drop_all}
+use Rattle.std.proofs.lemmas.Str.{IsUtf8-had, IsUtf8-append, IsUtf8-take, chars-append, encodes-chars}
+use Rattle.inlinable_string.specs.Text.{bytes_of, size, IsCut, IsPlace}
+use Rattle.inlinable_string.proofs.Text.{size-chars, boundary_at_cut, cut_at_boundary, popped-chars}
+
+pub record Holds (t w : List ℕ) (l : ℕ) : Type 0 where
+  pub shown : chars w ≡ t
+  pub utf8 : IsUtf8 w
+  pub long : length w ≡ l
+
+pub size_of : (t w : List ℕ) (l : ℕ) → Holds t w l → size t ≡ l
+size_of t w l h = ap size (sym h.shown) ∙ size-chars _ h.utf8 ∙ h.long
+
+pub bytes_are : (t w : List ℕ) (l : ℕ) → Holds t w l → w ≡ bytes_of t
+bytes_are t w l h = sym (encodes-chars _ h.utf8) ∙ ap bytes_of h.shown
+
+pub edge : (t w : List ℕ) (l p : ℕ) → Holds t w l → IsPlace t p → IsCharBoundary w p
+edge t w l p h at = boundary_at_cut w p at.0 at.1 h.utf8 (rw h.shown at.2)
+
+pub within : (t w : List ℕ) (l p : ℕ) → Holds t w l → IsPlace t p → p ≤ l
+within t w l p h at = omega (arith, (edge t w l p h at).0, h.long)
+
+pub pushed : (t w v s : List ℕ) (l : ℕ) → Holds t w l → IsUtf8 s → v ≡ w ++ s → Holds (t ++ chars s) v (l + length s)
+pushed t w v s l h u e = record {
+  shown = ap chars e ∙ chars-append w s h.utf8 ∙ ap (λ x. x ++ chars s) h.shown;
+  utf8 = rw e (IsUtf8-append _ _ h.utf8 u);
+  long = ap length e ∙ length-append w s ∙ ap (λ k. k + length s) h.long;
+}
+
+pub truncated : (t w v : List ℕ) (l p : ℕ) → Holds t w l → IsPlace t p → v ≡ take p w → IsUtf8 v × ((rest : List ℕ) × IsCut t p (chars v) rest)
+truncated t w v l p h at e =
+    let b = edge t w l p h at in
+    (rw e (IsUtf8-take w p h.utf8 b), (chars (drop p w), rw (← h.shown, e) (cut_at_boundary w p h.utf8 b)))
+
+pub popped : (t w v : List ℕ) (l c : ℕ) → Holds t w l → IsUtf8 v → w ≡ v ++ encode_utf8 c → t ≡ chars v ++ c ∷ []
+popped t w v l c h u e = sym h.shown ∙ popped-chars w v c h.utf8 u e
+
+-- the l bytes from s on of the n bytes bs
+pub window_holds : (t bs : List ℕ) (s l n : ℕ) → chars (take l (drop s bs)) ≡ t → length bs ≡ n → s + l ≤ n → ∥ IsUtf8 (take l (drop s bs)) ∥₁ → Holds t (take l (drop s bs)) l
+window_holds t bs s l n e r h u = record { shown = e; utf8 = IsUtf8-had _ u; long = length-take-le l (drop s bs) (omega (arith, r, h, length-drop s bs)) }
+
+-- put in at the end
+pub inserted_last : (w s : List ℕ) (l : ℕ) → length w ≡ l → insert_slice w l s ≡ w ++ s
+inserted_last w s l e = ap (λ x. (x ++ s) ++ drop l w) (take_all l w (omega (arith, e))) ∙ ap (λ x. (w ++ s) ++ x) (drop_all l w (omega (arith, e))) ∙ append-nil (w ++ s)
+
+pub window_truncated : (t bs : List ℕ) (s l n p : ℕ) → s + l ≤ n → Holds t (take l (drop s bs)) l → IsPlace t p → (s + p ≤ n) × IsUtf8 (take p (drop s bs)) × ((rest : List ℕ) × IsCut t p (chars (take p (drop s bs))) rest)
+window_truncated t bs s l n p m h at =
+    let short : p ≤ l = within t (take l (drop s bs)) l p h at in
+    let r = truncated t (take l (drop s bs)) (take p (drop s bs)) l p h at (sym (take-take p l (drop s bs) short)) in (omega (arith, short, m), r.0, r.1)
+
+pub window_popped : (t bs front : List ℕ) (s l n c : ℕ) → s + l ≤ n → Holds t (take l (drop s bs)) l → IsUtf8 front → bytes_of t ≡ front ++ encode_utf8 c
+    → (s + length front ≤ n) × IsUtf8 (take (length front) (drop s bs)) × (t ≡ chars (take (length front) (drop s bs)) ++ c ∷ [])
+window_popped t bs front s l n c m h u e =
+    let ws = drop s bs in
+    let whole : take l ws ≡ front ++ encode_utf8 c = bytes_are t (take l ws) l h ∙ e in
+    let short : length front ≤ l = omega (arith, ap length whole, length-append front (encode_utf8 c), h.long) in
+    let same : take (length front) ws ≡ front = sym (take-take (length front) l ws short) ∙ ap (take (length front)) whole ∙ take_at front (encode_utf8 c) (length front) refl in
+    (omega (arith, short, m), rw same u, rw same (popped t (take l ws) front l c h u whole))
+
+-- bytes written behind the window
+pub extended : (old new u : List ℕ) (s l : ℕ) → s + l ≤ length old → take (s + l + length u) new ≡ take (s + l) old ++ u → take (l + length u) (drop s new) ≡ take l (drop s old) ++ u
+extended old new u s l h e =
+    let regrouped : s + (l + length u) ≡ s + l + length u = omega arith in
+    let short : s ≤ length (take (s + l) old) = omega (arith, length-take-le (s + l) old h) in
+    sym (drop-take s (l + length u) new) ∙ ap (λ k. drop s (take k new)) regrouped ∙ ap (drop s) e ∙ drop-append-le s (take (s + l) old) u short ∙ ap (λ x. x ++ u) (drop-take s l old)

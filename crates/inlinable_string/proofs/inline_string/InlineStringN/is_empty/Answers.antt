@@ -1,0 +1,5 @@
+use Rattle.inlinable_string.proofs.Text.{empty_at_size}
+use Rattle.inlinable_string.proofs.inline_string.InlineStringN.is_empty.Goals as goal
+
+pub returns : goal.returns
+returns g c = rw c.len.ensures.value (empty_at_size _)

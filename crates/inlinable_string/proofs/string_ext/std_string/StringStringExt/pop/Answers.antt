@@ -1,0 +1,10 @@
+use Rattle.std.proofs.lemmas.Str.{IsUtf8-string_bytes}
+use Rattle.inlinable_string.proofs.Text as text
+use Rattle.inlinable_string.proofs.string_ext.std_string.StringStringExt.pop.Goals as goal
+
+pub returns-clause-text : goal.returns-clause-text
+returns-clause-text c =
+    let old = c.args.self.now in
+    let new = c.pop.new.self in
+    text.popped-text _ _ _ (IsUtf8-string_bytes old) (IsUtf8-string_bytes new) c.pop.ensures.bytes (rw (← old.bytes.ok.0) c.pop.ensures.none)
+    (rw (← old.bytes.ok.0, ← new.bytes.ok.0) c.pop.ensures.bound)

@@ -1,0 +1,165 @@
+//! Text in an array: it never asks for memory, and has a limit.
+//!
+//! Use [`InlineStringN`] where no text is longer than the limit, or where a longer one is to be
+//! refused; where a longer one is to be kept, use [`crate::InlinableStringN`].
+ghost use Rattle.std.specs.Prelude.{◌≡◌, ℕ, ◌+◌, ◌≤◌, ◌<◌, ◌↔◌, List, ◌++◌, [], ◌∷◌, length, IsTrue, OnOk, OnErr, MatchOption, MatchResult};
+ghost use Rattle.std.specs.Str.{chars};
+ghost use Rattle.inlinable_string.specs.Text.{bytes_of, size, IsCut, IsPlace};
+
+use crate::cells::{put_in, write_at};
+use std::error::Error;
+use std::marker::Model;
+use std::{fmt, str};
+
+#[cfg(test)]
+mod tests;
+
+/// How many bytes an [`InlineString`] has at most, as in the crate `inlinable_string`.
+pub const INLINE_STRING_CAPACITY: usize = 30;
+
+/// The text of the usual limit.
+pub type InlineString = InlineStringN<INLINE_STRING_CAPACITY>;
+
+/// The text would have more bytes than its limit. It was left as it was.
+#[derive(Clone, Copy, Debug, PartialEq, Eq)]
+pub struct NotEnoughSpaceError;
+
+impl Error for NotEnoughSpaceError {}
+
+impl fmt::Display for NotEnoughSpaceError {
+    fn fmt<W: fmt::Write>(&self, f: &mut fmt::Formatter<W>) -> fmt::Result {
+        f.write_str("the text does not fit")
+    }
+}
+
+/// A UTF-8 text of at most `N` bytes, which lie in the value itself. A contract sees the list of
+/// its characters.
+// The text is the `len` bytes from `start` on, so that an edit near the front moves few bytes.
+#[derive(Drop)]
+pub struct InlineStringN<const N: usize> {
+    len: usize,
+    start: usize,
+    bytes: [u8; N],
+}
+
+impl<const N: usize> Model for InlineStringN<N> {
+    ghost use Rattle.std.specs.Prelude.{ℕ, ◌+◌, ◌≤◌, List, take, drop, IsUtf8};
+    ghost use Rattle.std.specs.Str.{chars};
+
+    ghost Value = { List ℕ };
+
+    ghost view = { λ s. chars (take s.len (drop s.start s.bytes)) };
+
+    ghost invariant = { λ s. (s.start + s.len ≤ N)
+        × ∥ IsUtf8 (take s.len (drop s.start s.bytes)) ∥₁ };
+}
+
+impl<const N: usize> InlineStringN<N> {
+    /// The empty text.
+    pub fn new() -> Self
+        ensures { result ≡ [] }
+    {
+        InlineStringN {
+            len: 0,
+            start: 0,
+            bytes: [0; N],
+        }
+    }
+
+    /// The text of `string`, which must have at most `N` bytes.
+    pub fn from(string: &str) -> Self
+        requires { length string.now ≤ N }
+        ensures { result ≡ chars string.now }
+    {
+        let mut text = Self::new();
+        let _ = text.push_str(string);
+        text
+    }
+
+    /// Adds a text at the end. It is refused exactly where the text would have more than `N` bytes.
+    pub fn push_str(&mut self, string: &str) -> Result<(), NotEnoughSpaceError>
+        ensures fits { MatchResult result
+            (λ _. size self.old + length string.now ≤ N)
+            (λ _. N < size self.old + length string.now) }
+        ensures ok { OnOk result (self.new ≡ self.old ++ chars string.now) }
+        ensures err { OnErr result (self.new ≡ self.old) }
+    {
+        let len = self.len;
+        if N - len < string.len() {
+            return Err(NotEnoughSpaceError);
+        }
+        let end = self.start + len;
+        let new_len = len + string.len();
+        // The usual case by itself: there is room behind the text, and nothing moves.
+        if string.len() <= N - end {
+            write_at(&mut self.bytes[..], end, string.as_bytes());
+            self.len = new_len;
+            return Ok(());
+        }
+        let start = put_in(&mut self.bytes[..], self.start, len, len, string.as_bytes());
+        self.start = start;
+        self.len = new_len;
+        Ok(())
+    }
+
+    /// Keeps the text before `new_len`, a byte offset, which must be a place of the text.
+    pub fn truncate(&mut self, new_len: usize)
+        requires { IsPlace self.old new_len }
+        ensures { (rest : List ℕ) × IsCut self.old new_len self.new rest }
+    {
+        self.len = new_len;
+    }
+
+    /// Takes off the last character; `None` where the text is empty.
+    pub fn pop(&mut self) -> Option<char>
+        ensures { MatchOption result
+            ((self.old ≡ []) × (self.new ≡ []))
+            (λ c. self.old ≡ self.new ++ c ∷ []) }
+    {
+        let mut rest = self.as_str().chars();
+        let last = rest.next_back()?;
+        let rest_len = rest.as_str().len();
+        self.len = rest_len;
+        Some(last)
+    }
+
+    /// How many bytes the text has.
+    pub fn len(&self) -> usize
+        ensures value { result ≡ size self.now }
+        ensures within { size self.now ≤ N }
+    {
+        self.len
+    }
+
+    /// Whether the text has no character.
+    pub fn is_empty(&self) -> bool
+        ensures { IsTrue result ↔ (self.now ≡ []) }
+    {
+        self.len() == 0
+    }
+
+    /// The UTF-8 bytes of the text.
+    pub fn as_bytes(&self) -> &[u8]
+        ensures value { result.now ≡ bytes_of self.now }
+        ensures within { length result.now ≤ N }
+    {
+        self.as_str().as_bytes()
+    }
+
+    /// The text. Its `is_char_boundary` tells the places.
+    pub fn as_str(&self) -> &str
+        ensures value { result.now ≡ bytes_of self.now }
+        ensures within { length result.now ≤ N }
+    {
+        let cells = &self.bytes[..];
+        unsafe { str::from_utf8_unchecked(&cells[self.start..self.start + self.len]) }
+    }
+}
+
+impl<const N: usize> Default for InlineStringN<N> {
+    ghost is_default = { λ text. text ≡ [] };
+
+    fn default() -> Self {
+        Self::new()
+    }
+}

@@ -1,0 +1,121 @@
+//! Readers and writers that hand over little, fail, or never end.
+
+use std::io;
+use std::io::{ErrorKind, Read, Write};
+
+/// Hands out its bytes one at a time, and fails at the read of that number, counted from 1.
+#[derive(Drop)]
+pub struct OneByOne<'a> {
+    rest: &'a [u8],
+    failing_read: Option<usize>,
+    /// How many reads were asked for.
+    pub reads: usize,
+}
+
+impl<'a> OneByOne<'a> {
+    pub fn new(bytes: &'a [u8]) -> OneByOne<'a> {
+        OneByOne {
+            rest: bytes,
+            failing_read: None,
+            reads: 0,
+        }
+    }
+
+    pub fn failing_at(bytes: &'a [u8], read: usize) -> OneByOne<'a> {
+        OneByOne {
+            rest: bytes,
+            failing_read: Some(read),
+            reads: 0,
+        }
+    }
+}
+
+impl Read for OneByOne<'_> {
+    fn read(&mut self, buf: &mut [u8]) -> io::Result<usize> {
+        self.reads = self.reads.saturating_add(1);
+        if self.failing_read == Some(self.reads) {
+            return Err(io::Error::from(ErrorKind::Interrupted));
+        }
+        let (Some((first, rest)), Some(cell)) = (self.rest.split_first(), buf.first_mut()) else {
+            return Ok(0);
+        };
+        *cell = *first;
+        self.rest = rest;
+        Ok(1)
+    }
+}
+
+/// Hands out empty lines for ever.
+#[derive(Drop)]
+pub struct Endless {
+    /// How many bytes were handed out.
+    pub given: usize,
+}
+
+impl Read for Endless {
+    fn read(&mut self, buf: &mut [u8]) -> io::Result<usize> {
+        buf.fill(b'\n');
+        self.given = self.given.saturating_add(buf.len());
+        Ok(buf.len())
+    }
+}
+
+/// How a write goes wrong.
+#[derive(Clone, Copy, Debug)]
+pub enum Failure {
+    /// It answers this error.
+    Error(ErrorKind),
+    /// It takes no byte.
+    NoByte,
+}
+
+/// Takes at most three bytes a write, and fails at the write of that number, counted from 1.
+#[derive(Drop)]
+pub struct Narrow<'a> {
+    cells: &'a mut [u8],
+    failing_write: usize,
+    failure: Failure,
+    writes: usize,
+    /// How many bytes were taken.
+    pub taken: usize,
+}
+
+impl<'a> Narrow<'a> {
+    pub fn failing_at(cells: &'a mut [u8], write: usize, failure: Failure) -> Narrow<'a> {
+        Narrow {
+            cells,
+            failing_write: write,
+            failure,
+            writes: 0,
+            taken: 0,
+        }
+    }
+
+    /// Whether the failing write was asked for.
+    pub fn has_failed(&self) -> bool {
+        self.writes >= self.failing_write
+    }
+}
+
+impl Write for Narrow<'_> {
+    fn write(&mut self, buf: &[u8]) -> io::Result<usize> {
+        self.writes = self.writes.saturating_add(1);
+        if self.writes == self.failing_write {
+            return match self.failure {
+                Failure::Error(kind) => Err(io::Error::from(kind)),
+                Failure::NoByte => Ok(0),
+            };
+        }
+        let Some(room) = self.cells.get_mut(self.taken..) else {
+            return Ok(0);
+        };
+        let count = buf.len().min(room.len()).min(3);
+        room[..count].copy_from_slice(&buf[..count]);
+        self.taken = self.taken.saturating_add(count);
+        Ok(count)
+    }
+
+    fn flush(&mut self) -> io::Result<()> {
+        Ok(())
+    }
+}
