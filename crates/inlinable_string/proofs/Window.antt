@@ -1,11 +1,13 @@
 -- A text t that lies in l bytes w.
-use Rattle.std.proofs.Common.{◌≡◌, ℕ, ◌+◌, ◌≤◌, List, [], ◌∷◌, ◌++◌, length, take, drop, refl, sym, ap, ◌∙◌, arith, length-append, length-take-le, take-take, take_at, append-nil, length-drop}
-use Rattle.std.specs.Char.{encode_utf8}
-use Rattle.std.specs.List.{insert_slice}
+use Rattle.std.proofs.Common.{◌≡◌, ℕ, ◌+◌, ◌-◌, ◌<◌, ◌≤◌, List, [], ◌∷◌, ◌++◌, length, take, drop, refl, sym, ap, ◌∙◌, arith, length-append, length-take-le, take-take, take_at, append-nil, length-drop}
+use Rattle.std.specs.Char.{encode_utf8, IsScalar}
+use Rattle.std.specs.List.{insert_slice, remove_range}
 use Rattle.std.specs.Str.{chars, IsUtf8, IsCharBoundary}
-use Rattle.std.proofs.lemmas.List.{drop-append-le, drop-take, take_all, drop_all}
-use Rattle.std.proofs.lemmas.Str.{IsUtf8-had, IsUtf8-append, IsUtf8-take, chars-append, encodes-chars}
-use Rattle.inlinable_string.specs.Text.{bytes_of, size, IsCut, IsPlace}
+use Rattle.std.proofs.Math.ListN.{set}
+use Rattle.std.proofs.lemmas.List.{drop-append-le, drop-take, drop_at, take_all, drop_all, drop-set-add, take_more_set}
+use Rattle.std.proofs.CharBoundary.{drop_past_prefix}
+use Rattle.std.proofs.lemmas.Str.{IsUtf8-had, IsUtf8-append, IsUtf8-take, IsUtf8-drop, chars-append, encodes-chars, IsUtf8-past_char, chars_past_char, chars_from_encodes, encode_ascii, IsUtf8-encode}
+use Rattle.inlinable_string.specs.Text.{bytes_of, size, IsCut, IsPlace, IsSplice, IsRemoval}
 use Rattle.inlinable_string.proofs.Text.{size-chars, boundary_at_cut, cut_at_boundary, popped-chars}
 
 pub record Holds (t w : List ℕ) (l : ℕ) : Type 0 where
@@ -40,6 +42,65 @@ truncated t w v l p h at e =
 pub popped : (t w v : List ℕ) (l c : ℕ) → Holds t w l → IsUtf8 v → w ≡ v ++ encode_utf8 c → t ≡ chars v ++ c ∷ []
 popped t w v l c h u e = sym h.shown ∙ popped-chars w v c h.utf8 u e
 
+-- a text put in at p
+pub inserted : (t w v s : List ℕ) (l p : ℕ) → Holds t w l → IsUtf8 s → IsPlace t p → v ≡ insert_slice w p s → IsUtf8 v × IsSplice t p (chars s) (chars v)
+inserted t w v s l p h u at e =
+    let b = edge t w l p h at in
+    let a : IsUtf8 (take p w) = IsUtf8-take w p h.utf8 b in
+    let d : IsUtf8 (drop p w) = IsUtf8-drop w p h.utf8 b in (
+      rw e (IsUtf8-append _ _ (IsUtf8-append _ _ a u) d),
+      record {
+        front = chars (take p w);
+        back = chars (drop p w);
+        cut = rw (← h.shown) (cut_at_boundary w p h.utf8 b);
+        joined = ap chars e ∙ chars-append (take p w ++ s) (drop p w) (IsUtf8-append _ _ a u) ∙ ap (λ x. x ++ chars (drop p w)) (chars-append (take p w) s a);
+      },
+    )
+
+-- the bytes of the character at p taken out
+pub removed : (t w v rest : List ℕ) (l p q c : ℕ) → Holds t w l → IsPlace t p → drop p w ≡ encode_utf8 c ++ rest → drop q w ≡ rest → v ≡ remove_range w p q → IsUtf8 v × IsRemoval t p c (chars v)
+removed t w v rest l p q c h at e d r =
+    let b = edge t w l p h at in
+    let a : IsUtf8 (take p w) = IsUtf8-take w p h.utf8 b in
+    let m : IsUtf8 (drop p w) = IsUtf8-drop w p h.utf8 b in
+    let u : IsUtf8 rest = IsUtf8-past_char (drop p w) rest c m e in
+    let joined : v ≡ take p w ++ rest = r ∙ ap (λ x. take p w ++ x) d in
+    let cut : IsCut t p (chars (take p w)) (chars (drop p w)) = rw (← h.shown) (cut_at_boundary w p h.utf8 b) in (
+      rw joined (IsUtf8-append _ _ a u),
+      record {
+        front = chars (take p w);
+        back = chars rest;
+        cut = rw (chars_past_char (drop p w) rest c m e) at cut;
+        joined = ap chars joined ∙ chars-append (take p w) rest a;
+      },
+    )
+
+pub rest_of : (t w rest : List ℕ) (l p c : ℕ) → Holds t w l → IsPlace t p → drop p w ≡ encode_utf8 c ++ rest
+    → (length rest ≤ l) × (p ≤ l - length rest) × (drop (l - length rest) w ≡ rest)
+rest_of t w rest l p c h at e =
+    let edges : p ≤ l = within t w l p h at in
+    let sizes : length w - p ≡ length (encode_utf8 c) + length rest = sym (length-drop p w) ∙ ap length e ∙ length-append (encode_utf8 c) rest in (
+      omega (arith, sizes, h.long),
+      omega (arith, sizes, h.long, edges),
+      ap (λ k. drop k w) (omega (arith, sizes, h.long, edges)) ∙ drop_past_prefix w (encode_utf8 c) rest p e,
+    )
+
+-- one character
+pub size_one : (c : ℕ) → length (encode_utf8 c) ≡ size (c ∷ [])
+size_one c = ap length (sym (append-nil (encode_utf8 c)))
+
+pub chars_one : (c : ℕ) (bs : List ℕ) → IsUtf8 bs → bs ≡ encode_utf8 c → chars bs ≡ c ∷ []
+chars_one c bs u e = sym (chars_from_encodes (c ∷ []) bs u (append-nil (encode_utf8 c) ∙ sym e))
+
+pub ascii_utf8 : (c : ℕ) → IsScalar c → c < 128 → IsUtf8 (c ∷ [])
+ascii_utf8 c s h = rw (encode_ascii c h) at (IsUtf8-encode c s)
+
+pub ascii_chars : (c : ℕ) → IsScalar c → c < 128 → chars (c ∷ []) ≡ c ∷ []
+ascii_chars c s h = chars_one c (c ∷ []) (ascii_utf8 c s h) (sym (encode_ascii c h))
+
+pub ascii_size : (c : ℕ) → c < 128 → size (c ∷ []) ≡ 1
+ascii_size c h = sym (size_one c) ∙ ap length (encode_ascii c h)
+
 -- the l bytes from s on of the n bytes bs
 pub window_holds : (t bs : List ℕ) (s l n : ℕ) → chars (take l (drop s bs)) ≡ t → length bs ≡ n → s + l ≤ n → ∥ IsUtf8 (take l (drop s bs)) ∥₁ → Holds t (take l (drop s bs)) l
 window_holds t bs s l n e r h u = record { shown = e; utf8 = IsUtf8-had _ u; long = length-take-le l (drop s bs) (omega (arith, r, h, length-drop s bs)) }
@@ -47,6 +108,10 @@ window_holds t bs s l n e r h u = record { shown = e; utf8 = IsUtf8-had _ u; lon
 -- put in at the end
 pub inserted_last : (w s : List ℕ) (l : ℕ) → length w ≡ l → insert_slice w l s ≡ w ++ s
 inserted_last w s l e = ap (λ x. (x ++ s) ++ drop l w) (take_all l w (omega (arith, e))) ∙ ap (λ x. (w ++ s) ++ x) (drop_all l w (omega (arith, e))) ∙ append-nil (w ++ s)
+
+-- one byte written behind the window
+pub written_behind : (bs : List ℕ) (s l c : ℕ) → s + l < length bs → take (l + 1) (drop s (set bs (s + l) c)) ≡ take l (drop s bs) ++ c ∷ []
+written_behind bs s l c h = ap (take (l + 1)) (drop-set-add s bs l c) ∙ take_more_set (drop s bs) l c (omega (arith, h, length-drop s bs))
 
 pub window_truncated : (t bs : List ℕ) (s l n p : ℕ) → s + l ≤ n → Holds t (take l (drop s bs)) l → IsPlace t p → (s + p ≤ n) × IsUtf8 (take p (drop s bs)) × ((rest : List ℕ) × IsCut t p (chars (take p (drop s bs))) rest)
 window_truncated t bs s l n p m h at =
@@ -61,6 +126,10 @@ window_popped t bs front s l n c m h u e =
     let short : length front ≤ l = omega (arith, ap length whole, length-append front (encode_utf8 c), h.long) in
     let same : take (length front) ws ≡ front = sym (take-take (length front) l ws short) ∙ ap (take (length front)) whole ∙ take_at front (encode_utf8 c) (length front) refl in
     (omega (arith, short, m), rw same u, rw same (popped t (take l ws) front l c h u whole))
+
+-- bytes written from s on
+pub written_from : (old new u : List ℕ) (s k : ℕ) → s ≤ length old → length u ≡ k → take (s + k) new ≡ take s old ++ u → take k (drop s new) ≡ u
+written_from old new u s k h l e = sym (drop-take s k new) ∙ ap (drop s) e ∙ drop_at (take s old) u s (length-take-le s old h)
 
 -- bytes written behind the window
 pub extended : (old new u : List ℕ) (s l : ℕ) → s + l ≤ length old → take (s + l + length u) new ≡ take (s + l) old ++ u → take (l + length u) (drop s new) ≡ take l (drop s old) ++ u

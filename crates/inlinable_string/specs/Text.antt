@@ -22,6 +22,20 @@ pub record IsCut (t : List ℕ) (p : ℕ) (a b : List ℕ) : Type 0 where
 abbrev pub IsPlace : List ℕ → ℕ → Type 0
 IsPlace t p = (a : List ℕ) × (b : List ℕ) × IsCut t p a b
 
+-- v is the text t with u put in at the place p
+pub record IsSplice (t : List ℕ) (p : ℕ) (u v : List ℕ) : Type 0 where
+  pub front : List ℕ
+  pub back : List ℕ
+  pub cut : IsCut t p front back
+  pub joined : v ≡ front ++ u ++ back
+
+-- v is the text t without the character c, which begins at the place p
+pub record IsRemoval (t : List ℕ) (p c : ℕ) (v : List ℕ) : Type 0 where
+  pub front : List ℕ
+  pub back : List ℕ
+  pub cut : IsCut t p front (c ∷ back)
+  pub joined : v ≡ front ++ back
+
 -- the parts of a text, with the character c before the first
 abbrev pub with_first : ℕ → Option (List ℕ × List ℕ) → Option (List ℕ × List ℕ)
 with_first c None = None

@@ -1,9 +1,9 @@
 //! Moves of bytes inside a slice.
 //!
 //! A window is the `len` bytes from `start` on. Room is free on both of its sides.
-ghost use Rattle.std.specs.Prelude.{◌≡◌, ◌+◌, ◌-◌, ◌≤◌, ◌++◌, length, take, drop};
-ghost use Rattle.std.specs.List.{insert_slice};
-ghost use Rattle.inlinable_string.specs.Cells.{start_with_more};
+ghost use Rattle.std.specs.Prelude.{◌≡◌, ◌+◌, ◌-◌, ◌≤◌, ◌<◌, ◌++◌, [], ◌∷◌, length, take, drop};
+ghost use Rattle.std.specs.List.{insert_slice, remove_range};
+ghost use Rattle.inlinable_string.specs.Cells.{start_with_less, start_with_more};
 
 /// Writes bytes over those from `at` on.
 #[inline]
@@ -13,6 +13,15 @@ pub(crate) fn write_at(cells: &mut [u8], at: usize, added: &[u8])
 {
     let end = at + added.len();
     cells[at..end].copy_from_slice(added);
+}
+
+/// Writes bytes over the first ones.
+#[inline]
+pub(crate) fn write_front(cells: &mut [u8], added: &[u8])
+    requires { length added.now ≤ length cells.old }
+    ensures { cells.new ≡ added.now ++ drop (length added.now) cells.old }
+{
+    cells[..added.len()].copy_from_slice(added);
 }
 
 /// Puts bytes in at `at`, in the first `len` bytes; those that follow move up.
@@ -41,6 +50,29 @@ pub(crate) fn insert_down(cells: &mut [u8], len: usize, at: usize, added: &[u8])
     let end = at + count;
     cells.copy_within(count..end, 0);
     cells[at..end].copy_from_slice(added);
+}
+
+/// Takes the bytes from `from` to `to` out of the first `len`; those that follow move down.
+#[inline]
+pub(crate) fn remove_down(cells: &mut [u8], len: usize, from: usize, to: usize)
+    requires order { from ≤ to }
+    requires place { to ≤ len }
+    requires room { len ≤ length cells.old }
+    ensures { take (len - (to - from)) cells.new ≡ remove_range (take len cells.old) from to }
+{
+    cells.copy_within(to..len, from);
+}
+
+/// Takes the bytes from `from` to `to` out of the first `len`; those before them move up.
+#[inline]
+pub(crate) fn remove_up(cells: &mut [u8], len: usize, from: usize, to: usize)
+    requires order { from ≤ to }
+    requires place { to ≤ len }
+    requires room { len ≤ length cells.old }
+    ensures { take (len - (to - from)) (drop (to - from) cells.new)
+        ≡ remove_range (take len cells.old) from to }
+{
+    cells.copy_within(0..from, to - from);
 }
 
 /// Moves the window to the front.
@@ -79,5 +111,51 @@ pub(crate) fn put_in(cells: &mut [u8], start: usize, len: usize, at: usize, adde
         slide(cells, start, len);
         insert_up(cells, len, at, added);
         0
+    }
+}
+
+/// `put_in` of one byte, whose moves are by a constant.
+#[inline]
+pub(crate) fn put_byte(cells: &mut [u8], start: usize, len: usize, at: usize, byte: u8) -> usize
+    requires place { at ≤ len }
+    requires inside { start + len ≤ length cells.old }
+    requires room { len < length cells.old }
+    ensures start { result ≡ start_with_more start (length cells.old - len - start) len at 1 }
+    ensures inside { result + (len + 1) ≤ length cells.old }
+    ensures text { take (len + 1) (drop result cells.new)
+        ≡ insert_slice (take len (drop start cells.old)) at (byte ∷ []) }
+{
+    let added = [byte];
+    if start == 0 {
+        insert_up(cells, len, at, &added[..]);
+        return 0;
+    }
+    let behind = cells.len() - len - start;
+    if 0 < behind && len - at <= at {
+        insert_up(&mut cells[start..], len, at, &added[..]);
+        return start;
+    }
+    let earlier = start - 1;
+    insert_down(&mut cells[earlier..], len, at, &added[..]);
+    earlier
+}
+
+/// Takes the bytes from `from` to `to` out of the window, and tells where it starts then. The
+/// shorter part moves.
+pub(crate) fn take_out(cells: &mut [u8], start: usize, len: usize, from: usize, to: usize) -> usize
+    requires order { from ≤ to }
+    requires place { to ≤ len }
+    requires inside { start + len ≤ length cells.old }
+    ensures start { result ≡ start_with_less start len from (to - from) }
+    ensures inside { result + (len - (to - from)) ≤ length cells.old }
+    ensures text { take (len - (to - from)) (drop result cells.new)
+        ≡ remove_range (take len (drop start cells.old)) from to }
+{
+    if from < len - to {
+        remove_up(&mut cells[start..], len, from, to);
+        start + (to - from)
+    } else {
+        remove_down(&mut cells[start..], len, from, to);
+        start
     }
 }

@@ -2,11 +2,11 @@
 //!
 //! Use [`InlineStringN`] where no text is longer than the limit, or where a longer one is to be
 //! refused; where a longer one is to be kept, use [`crate::InlinableStringN`].
-ghost use Rattle.std.specs.Prelude.{◌≡◌, ℕ, ◌+◌, ◌≤◌, ◌<◌, ◌↔◌, List, ◌++◌, [], ◌∷◌, length, IsTrue, OnOk, OnErr, MatchOption, MatchResult};
+ghost use Rattle.std.specs.Prelude.{◌≡◌, ℕ, ◌+◌, ◌-◌, ◌≤◌, ◌<◌, ◌↔◌, List, ◌++◌, [], ◌∷◌, length, replicate, IsTrue, OnOk, OnErr, Err, MatchOption, MatchResult, IsUtf8};
 ghost use Rattle.std.specs.Str.{chars};
-ghost use Rattle.inlinable_string.specs.Text.{bytes_of, size, IsCut, IsPlace};
+ghost use Rattle.inlinable_string.specs.Text.{bytes_of, size, IsCut, IsPlace, IsSplice, IsRemoval};
 
-use crate::cells::{put_in, write_at};
+use crate::cells::{put_byte, put_in, take_out, write_at, write_front};
 use std::error::Error;
 use std::marker::Model;
 use std::{fmt, str};
@@ -29,6 +29,26 @@ impl Error for NotEnoughSpaceError {}
 impl fmt::Display for NotEnoughSpaceError {
     fn fmt<W: fmt::Write>(&self, f: &mut fmt::Formatter<W>) -> fmt::Result {
         f.write_str("the text does not fit")
+    }
+}
+
+/// Why bytes did not take the place of a text's. It was left as it was.
+#[derive(Clone, Copy, Debug, PartialEq, Eq)]
+pub enum ReplaceError {
+    /// They are not as many as those of the text.
+    WrongLength,
+    /// They are not UTF-8.
+    NotUtf8,
+}
+
+impl Error for ReplaceError {}
+
+impl fmt::Display for ReplaceError {
+    fn fmt<W: fmt::Write>(&self, f: &mut fmt::Formatter<W>) -> fmt::Result {
+        match self {
+            ReplaceError::WrongLength => f.write_str("the bytes are not as many as the text's"),
+            ReplaceError::NotUtf8 => f.write_str("the bytes are not UTF-8"),
+        }
     }
 }
 
@@ -76,6 +96,27 @@ impl<const N: usize> InlineStringN<N> {
         text
     }
 
+    /// Adds a character at the end. It is refused exactly where the text would have more than `N`
+    /// bytes.
+    pub fn push(&mut self, ch: char) -> Result<(), NotEnoughSpaceError>
+        ensures fits { MatchResult result
+            (λ _. size self.old + size (ch ∷ []) ≤ N)
+            (λ _. N < size self.old + size (ch ∷ [])) }
+        ensures ok { OnOk result (self.new ≡ self.old ++ ch ∷ []) }
+        ensures err { OnErr result (self.new ≡ self.old) }
+    {
+        if ch.is_ascii() {
+            let end = self.start + self.len;
+            if end < N {
+                self.bytes[end] = ch as u8;
+                self.len += 1;
+                return Ok(());
+            }
+        }
+        let mut buffer = [0; 4];
+        self.push_str(ch.encode_utf8(&mut buffer))
+    }
+
     /// Adds a text at the end. It is refused exactly where the text would have more than `N` bytes.
     pub fn push_str(&mut self, string: &str) -> Result<(), NotEnoughSpaceError>
         ensures fits { MatchResult result
@@ -102,6 +143,57 @@ impl<const N: usize> InlineStringN<N> {
         Ok(())
     }
 
+    /// Puts a character in at `idx`, a byte offset, which must be a place of the text. It is refused
+    /// exactly where the text would have more than `N` bytes.
+    pub fn insert(&mut self, idx: usize, ch: char) -> Result<(), NotEnoughSpaceError>
+        requires { IsPlace self.old idx }
+        ensures fits { MatchResult result
+            (λ _. size self.old + size (ch ∷ []) ≤ N)
+            (λ _. N < size self.old + size (ch ∷ [])) }
+        ensures ok { OnOk result (IsSplice self.old idx (ch ∷ []) self.new) }
+        ensures err { OnErr result (self.new ≡ self.old) }
+    {
+        if ch.is_ascii() {
+            let len = self.len;
+            if len == N {
+                return Err(NotEnoughSpaceError);
+            }
+            let start = put_byte(&mut self.bytes[..], self.start, len, idx, ch as u8);
+            self.start = start;
+            self.len = len + 1;
+            return Ok(());
+        }
+        let mut buffer = [0; 4];
+        self.insert_str(idx, ch.encode_utf8(&mut buffer))
+    }
+
+    /// Puts a text in at `idx`, a byte offset, which must be a place of the text. It is refused
+    /// exactly where the text would have more than `N` bytes.
+    pub fn insert_str(&mut self, idx: usize, string: &str) -> Result<(), NotEnoughSpaceError>
+        requires place { IsPlace self.old idx }
+        ensures fits { MatchResult result
+            (λ _. size self.old + length string.now ≤ N)
+            (λ _. N < size self.old + length string.now) }
+        ensures ok { OnOk result (IsSplice self.old idx (chars string.now) self.new) }
+        ensures err { OnErr result (self.new ≡ self.old) }
+    {
+        let old_len = self.len;
+        if N - old_len < string.len() {
+            return Err(NotEnoughSpaceError);
+        }
+        let new_len = old_len + string.len();
+        let start = put_in(
+            &mut self.bytes[..],
+            self.start,
+            old_len,
+            idx,
+            string.as_bytes(),
+        );
+        self.start = start;
+        self.len = new_len;
+        Ok(())
+    }
+
     /// Keeps the text before `new_len`, a byte offset, which must be a place of the text.
     pub fn truncate(&mut self, new_len: usize)
         requires { IsPlace self.old new_len }
@@ -121,6 +213,56 @@ impl<const N: usize> InlineStringN<N> {
         let rest_len = rest.as_str().len();
         self.len = rest_len;
         Some(last)
+    }
+
+    /// Takes out the character that begins at `idx`, a byte offset, which must be a place of the text
+    /// before its end.
+    pub fn remove(&mut self, idx: usize) -> char
+        requires place { IsPlace self.old idx }
+        requires below { idx < size self.old }
+        ensures { IsRemoval self.old idx result self.new }
+    {
+        let mut rest = self.as_str()[idx..].chars();
+        let Some(ch) = rest.next() else {
+            unreachable!();
+        };
+        let len = self.len;
+        let next = len - rest.as_str().len();
+        let start = take_out(&mut self.bytes[..], self.start, len, idx, next);
+        self.start = start;
+        self.len = len - (next - idx);
+        ch
+    }
+
+    /// Leaves the empty text.
+    pub fn clear(&mut self)
+        ensures { self.new ≡ [] }
+    {
+        self.len = 0;
+    }
+
+    /// Puts bytes in the place of those of the text, as many as it has. The number is tested first,
+    /// then whether the bytes are UTF-8.
+    pub fn replace_bytes(&mut self, bytes: &[u8]) -> Result<(), ReplaceError>
+        ensures ok { OnOk result (bytes_of self.new ≡ bytes.now) }
+        ensures err { OnErr result (self.new ≡ self.old) }
+
+        // When each answer comes.
+        ensures same_length { OnOk result (length bytes.now ≡ size self.old) }
+        ensures well_formed { OnOk result (IsUtf8 bytes.now) }
+        ensures wrong_length { result ≡ Err ReplaceError.WrongLength
+            → ¬ (length bytes.now ≡ size self.old) }
+        ensures not_utf8 { result ≡ Err ReplaceError.NotUtf8
+            → (length bytes.now ≡ size self.old) × ¬ (IsUtf8 bytes.now) }
+    {
+        if bytes.len() != self.len {
+            return Err(ReplaceError::WrongLength);
+        }
+        let Ok(string) = str::from_utf8(bytes) else {
+            return Err(ReplaceError::NotUtf8);
+        };
+        write_at(&mut self.bytes[..], self.start, string.as_bytes());
+        Ok(())
     }
 
     /// How many bytes the text has.
@@ -144,6 +286,15 @@ impl<const N: usize> InlineStringN<N> {
         ensures within { length result.now ≤ N }
     {
         self.as_str().as_bytes()
+    }
+
+    /// The bytes of the text, and zeros after them.
+    pub fn into_bytes(self) -> [u8; N]
+        ensures { result ≡ bytes_of self.entry ++ replicate (N - size self.entry) 0 }
+    {
+        let mut bytes = [0; N];
+        write_front(&mut bytes[..], self.as_str().as_bytes());
+        bytes
     }
 
     /// The text. Its `is_char_boundary` tells the places.

@@ -5,6 +5,8 @@
 #[cfg(test)]
 mod beside;
 #[cfg(test)]
+mod inline;
+#[cfg(test)]
 mod memory;
 pub mod plain;
 #[cfg(test)]
