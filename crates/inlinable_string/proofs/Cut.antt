@@ -1,5 +1,5 @@
 -- The cut of a text, and its last character.
-use Rattle.std.proofs.Common.{◌≡◌, ℕ, ◌+◌, ◌-◌, ◌<◌, ◌≤◌, true, false, cond, nat_eq, nat_lt, List, [], ◌∷◌, ◌++◌, length, refl, sym, ap, ◌∙◌, arith, length-append, Option, Some, None}
+use Rattle.std.proofs.Common.{◌≡◌, ℕ, ◌+◌, ◌-◌, ◌<◌, ◌≤◌, true, false, cond, nat_eq, nat_lt, List, [], ◌∷◌, ◌++◌, length, refl, sym, ap, ◌∙◌, arith, length-append, Option, Some, None, Bool, IsTrue, ◌↔◌}
 use Rattle.std.proofs.lemmas.Bool.Decides.{nat_tests}
 use Rattle.std.specs.Char.{encode_utf8}
 use Rattle.std.specs.Str.{IsUtf8, IsCharBoundary}
@@ -94,3 +94,10 @@ place_at_boundary t bs p u e at = rw (chars_from_encodes t bs u (sym e)) (_, _, 
 
 pub boundary_at_place : (t bs : List ℕ) (p : ℕ) → IsUtf8 bs → bs ≡ bytes_of t → IsPlace t p → IsCharBoundary bs p
 boundary_at_place t bs p u e at = boundary_at_cut bs p at.0 at.1 u (rw (← chars_from_encodes t bs u (sym e)) at.2)
+
+-- what the test for a place tells, from the bytes of the text
+pub place_if_tested : (t bs : List ℕ) (p : ℕ) (b : Bool) → IsUtf8 bs → bs ≡ bytes_of t → (IsTrue b ↔ IsCharBoundary bs p) → b ≡ true → IsPlace t p
+place_if_tested t bs p b u e test passed = place_at_boundary t bs p u e (test.0 passed)
+
+pub no_place_if_tested : (t bs : List ℕ) (p : ℕ) (b : Bool) → IsUtf8 bs → bs ≡ bytes_of t → (IsTrue b ↔ IsCharBoundary bs p) → b ≡ false → ¬ (IsPlace t p)
+no_place_if_tested t bs p b u e test failed at = let passed : b ≡ true = test.1 (boundary_at_place t bs p u e at) in cc

@@ -1,19 +1,15 @@
 -- Texts and their bytes.
-use Rattle.std.proofs.Common.{◌≡◌, ℕ, ◌+◌, ◌≤◌, true, false, Bool, ◌&&◌, List, [], ◌∷◌, ◌++◌, length, take, drop, refl, sym, ap, ◌∙◌, arith, subst, length-append, take-append-drop, length-take-le, append-nil, Result, Ok, Err, is_ok, if◌then◌else◌, OnOk, Option, Some, None, MatchOption, IfSome, IfNone, IsTrue, ◌↔◌, nat_eq}
+use Rattle.std.proofs.Common.{◌≡◌, ℕ, ◌+◌, ◌≤◌, true, false, Bool, ◌&&◌, List, [], ◌∷◌, ◌++◌, length, take, drop, refl, sym, ap, ◌∙◌, arith, subst, length-append, take-append-drop, length-take-le, append-nil, Result, Ok, Err, is_ok, if◌then◌else◌, OnOk, OnErr, IsOk, Option, Some, None, MatchOption, IfSome, IfNone, IsTrue, ◌↔◌, nat_eq}
 use Rattle.std.proofs.lemmas.Bool.Decides.{nat_tests}
 use lib.Utf8.{scalar}
 use Rattle.std.specs.declared.string.String.{String}
-use Rattle.std.specs.String.{string_bytes, string_len, string_capacity}
+use Rattle.std.specs.String.{string_bytes, string_len}
 use Rattle.std.proofs.lemmas.Str.{IsUtf8-string_bytes, length-le-encodes}
 use Rattle.std.specs.Char.{encode_utf8}
 use Rattle.std.specs.Str.{chars, all_scalars, IsUtf8, IsCharBoundary}
 use Rattle.std.specs.String.Boundary.{IsSplitPoint}
 use Rattle.std.proofs.lemmas.Str.{chars-nil, encodes-chars, scalars-chars, chars-append, chars_from_encodes, encodes-append, IsUtf8-take, IsCharBoundary-at_seam}
-use Rattle.inlinable_string.specs.Text.{bytes_of, size, IsCut, IsPlace}
-
--- the bytes of the characters of UTF-8
-pub bytes_of-chars : (bs : List ℕ) → IsUtf8 bs → bytes_of (chars bs) ≡ bs
-bytes_of-chars bs u = encodes-chars bs u
+use Rattle.inlinable_string.specs.Text.{bytes_of, size, IsCut, IsPlace, IsSplice}
 
 pub size-chars : (bs : List ℕ) → IsUtf8 bs → size (chars bs) ≡ length bs
 size-chars bs u = ap length (encodes-chars bs u)
@@ -86,10 +82,27 @@ nil_from_size t h = empty t (omega (arith, h, length-le-encodes t))
 pub empty_at_size : (t : List ℕ) → IsTrue (nat_eq (size t) 0) ↔ (t ≡ [])
 empty_at_size t = (λ h. nil_from_size t (grind (arith, nat_tests, h)), λ e. rw e refl)
 
--- a pushed text has room where the result has
-pub room_pushed : {Z : Type 0} (t bs : List ℕ) (s : String Z) → IsUtf8 bs → chars (string_bytes s) ≡ t ++ chars bs → size t + length bs ≤ string_capacity s
-room_pushed t bs s u e = omega (arith, ap size e, size-append t (chars bs), size-chars bs u, size-string s, s.bytes.ok.1)
+-- nothing stands before the place 0
+pub nil_before_start : (t v rest : List ℕ) → IsCut t 0 v rest → v ≡ []
+nil_before_start t v rest at = nil_from_size v at.before
 
--- the characters of the bytes of a text with more behind them
-pub chars_joined : (t front back whole : List ℕ) → IsUtf8 front → front ≡ bytes_of t → whole ≡ front ++ back → chars whole ≡ t ++ chars back
-chars_joined t front back whole u e j = ap chars j ∙ chars-append front back u ∙ ap (λ x. x ++ chars back) (sym (chars_from_encodes t front u (sym e)))
+-- what is put in at the end is pushed
+pub splice_at_end : (t u v : List ℕ) (p : ℕ) → p ≡ size t → IsSplice t p u v → v ≡ t ++ u
+splice_at_end t u v p end s =
+    let none : s.back ≡ [] = nil_from_size s.back (omega (arith, ap size s.cut.joined, size-append s.front s.back, s.cut.before, end)) in
+    let whole : s.front ≡ t = sym (s.cut.joined ∙ ap (λ x. s.front ++ x) none ∙ append-nil s.front) in
+    s.joined ∙ ap (λ x. (s.front ++ u) ++ x) none ∙ append-nil (s.front ++ u) ∙ ap (λ x. x ++ u) whole
+
+-- nothing put in changes nothing
+splice_of_nothing : (t u v : List ℕ) (p : ℕ) → u ≡ [] → IsSplice t p u v → v ≡ t
+splice_of_nothing t u v p none s = s.joined ∙ ap (λ x. (s.front ++ x) ++ s.back) none ∙ ap (λ x. x ++ s.back) (append-nil s.front) ∙ sym s.cut.joined
+
+-- the text stays where nothing is put in, and where a refusal leaves it
+pub kept : {T E : Type 0} (r : Result T E) (t v : List ℕ) (p : ℕ) → OnOk r (IsSplice t p (chars []) v) → OnErr r (v ≡ t) → v ≡ t
+kept (Ok x) t v p ok err = splice_of_nothing t (chars []) v p chars-nil ok
+kept (Err x) t v p ok err = err
+
+-- bytes written in the place of all others
+pub replaced : {T E : Type 0} (r : Result T E) (s new : List ℕ) → IsUtf8 s → new ≡ (if is_ok r then [] ++ s else []) → IsOk r → bytes_of (chars new) ≡ s
+replaced (Ok x) s new u e h = rw e (encodes-chars s u)
+replaced (Err x) s new u e h = absurd (clash h)

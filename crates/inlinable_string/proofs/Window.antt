@@ -1,11 +1,10 @@
 -- A text t that lies in l bytes w.
-use Rattle.std.proofs.Common.{◌≡◌, ℕ, ◌+◌, ◌-◌, ◌<◌, ◌≤◌, List, [], ◌∷◌, ◌++◌, length, take, drop, refl, sym, ap, ◌∙◌, arith, length-append, length-take-le, take-take, take_at, append-nil, length-drop}
+use Rattle.std.proofs.Common.{◌≡◌, ℕ, ◌+◌, ◌<◌, ◌≤◌, List, [], ◌∷◌, ◌++◌, length, take, drop, refl, sym, ap, ◌∙◌, arith, subst, length-append, length-take-le, take-take, take_at, append-nil, length-drop}
 use Rattle.std.specs.Char.{encode_utf8, IsScalar}
 use Rattle.std.specs.List.{insert_slice, remove_range}
 use Rattle.std.specs.Str.{chars, IsUtf8, IsCharBoundary}
 use Rattle.std.proofs.Math.ListN.{set}
 use Rattle.std.proofs.lemmas.List.{drop-append-le, drop-take, drop_at, take_all, drop_all, drop-set-add, take_more_set}
-use Rattle.std.proofs.CharBoundary.{drop_past_prefix}
 use Rattle.std.proofs.lemmas.Str.{IsUtf8-had, IsUtf8-append, IsUtf8-take, IsUtf8-drop, chars-append, encodes-chars, IsUtf8-past_char, chars_past_char, chars_from_encodes, encode_ascii, IsUtf8-encode}
 use Rattle.inlinable_string.specs.Text.{bytes_of, size, IsCut, IsPlace, IsSplice, IsRemoval}
 use Rattle.inlinable_string.proofs.Text.{size-chars, boundary_at_cut, cut_at_boundary, popped-chars}
@@ -58,13 +57,12 @@ inserted t w v s l p h u at e =
     )
 
 -- the bytes of the character at p taken out
-pub removed : (t w v rest : List ℕ) (l p q c : ℕ) → Holds t w l → IsPlace t p → drop p w ≡ encode_utf8 c ++ rest → drop q w ≡ rest → v ≡ remove_range w p q → IsUtf8 v × IsRemoval t p c (chars v)
-removed t w v rest l p q c h at e d r =
+pub removed_at : (t w v rest : List ℕ) (l p c : ℕ) → Holds t w l → IsPlace t p → drop p w ≡ encode_utf8 c ++ rest → v ≡ take p w ++ rest → IsUtf8 v × IsRemoval t p c (chars v)
+removed_at t w v rest l p c h at e joined =
     let b = edge t w l p h at in
     let a : IsUtf8 (take p w) = IsUtf8-take w p h.utf8 b in
     let m : IsUtf8 (drop p w) = IsUtf8-drop w p h.utf8 b in
     let u : IsUtf8 rest = IsUtf8-past_char (drop p w) rest c m e in
-    let joined : v ≡ take p w ++ rest = r ∙ ap (λ x. take p w ++ x) d in
     let cut : IsCut t p (chars (take p w)) (chars (drop p w)) = rw (← h.shown) (cut_at_boundary w p h.utf8 b) in (
       rw joined (IsUtf8-append _ _ a u),
       record {
@@ -75,15 +73,9 @@ removed t w v rest l p q c h at e d r =
       },
     )
 
-pub rest_of : (t w rest : List ℕ) (l p c : ℕ) → Holds t w l → IsPlace t p → drop p w ≡ encode_utf8 c ++ rest
-    → (length rest ≤ l) × (p ≤ l - length rest) × (drop (l - length rest) w ≡ rest)
-rest_of t w rest l p c h at e =
-    let edges : p ≤ l = within t w l p h at in
-    let sizes : length w - p ≡ length (encode_utf8 c) + length rest = sym (length-drop p w) ∙ ap length e ∙ length-append (encode_utf8 c) rest in (
-      omega (arith, sizes, h.long),
-      omega (arith, sizes, h.long, edges),
-      ap (λ k. drop k w) (omega (arith, sizes, h.long, edges)) ∙ drop_past_prefix w (encode_utf8 c) rest p e,
-    )
+-- the same where they end at q
+pub removed : (t w v rest : List ℕ) (l p q c : ℕ) → Holds t w l → IsPlace t p → drop p w ≡ encode_utf8 c ++ rest → drop q w ≡ rest → v ≡ remove_range w p q → IsUtf8 v × IsRemoval t p c (chars v)
+removed t w v rest l p q c h at e d r = removed_at t w v rest l p c h at e (r ∙ ap (λ x. take p w ++ x) d)
 
 -- one character
 pub size_one : (c : ℕ) → length (encode_utf8 c) ≡ size (c ∷ [])
@@ -137,3 +129,21 @@ extended old new u s l h e =
     let regrouped : s + (l + length u) ≡ s + l + length u = omega arith in
     let short : s ≤ length (take (s + l) old) = omega (arith, length-take-le (s + l) old h) in
     sym (drop-take s (l + length u) new) ∙ ap (λ k. drop s (take k new)) regrouped ∙ ap (drop s) e ∙ drop-append-le s (take (s + l) old) u short ∙ ap (λ x. x ++ u) (drop-take s l old)
+
+-- bytes are a text's
+pub holds : (t bs : List ℕ) → IsUtf8 bs → bs ≡ bytes_of t → Holds t bs (length bs)
+holds t bs u e = record { shown = sym (chars_from_encodes t bs u (sym e)); utf8 = u; long = refl }
+
+-- the bytes of a text show it
+pub holds_chars : (bs : List ℕ) → IsUtf8 bs → Holds (chars bs) bs (length bs)
+holds_chars bs u = record { shown = refl; utf8 = u; long = refl }
+
+-- a text put into the bytes is put into the characters
+pub spliced : (t bs s whole : List ℕ) (p : ℕ) → Holds t bs (length bs) → IsUtf8 s → IsPlace t p → whole ≡ insert_slice bs p s → IsSplice t p (chars s) (chars whole)
+spliced t bs s whole p h u at e = (inserted t bs whole s (length bs) p h u at e).1
+
+-- a character put into the bytes is put into the characters
+pub spliced_char : (t bs whole : List ℕ) (p c : ℕ) → IsScalar c → Holds t bs (length bs) → IsPlace t p → whole ≡ insert_slice bs p (encode_utf8 c) → IsSplice t p (c ∷ []) (chars whole)
+spliced_char t bs whole p c scalar h at e =
+    let u : IsUtf8 (encode_utf8 c) = IsUtf8-encode c scalar in
+    subst (λ x. IsSplice t p x (chars whole)) (chars_one c (encode_utf8 c) u refl) (spliced t bs (encode_utf8 c) whole p h u at e)

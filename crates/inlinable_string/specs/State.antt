@@ -1,5 +1,5 @@
 -- What a contract sees of a value that holds a text, and where such a text lies.
-use Rattle.std.specs.Prelude.{◌≡◌, ℕ, ◌+◌, ◌≤◌, ◌<◌, ◌^◌, List, Bool, true, false, ◌&&◌, if◌then◌else◌, nat_le}
+use Rattle.std.specs.Prelude.{◌≡◌, ℕ, ◌+◌, ◌≤◌, ◌<◌, ◌^◌, List, Bool, true, false, ◌&&◌, ◌||◌, if◌then◌else◌, nat_le}
 use Rattle.inlinable_string.specs.declared.string_ext.Storage.{Storage}
 use Rattle.inlinable_string.specs.declared.string_ext.Storage.TheVariants.{Inline, Heap}
 use Rattle.inlinable_string.specs.Text.{size}
@@ -45,6 +45,12 @@ is_inline Heap = false
 abbrev pub storage_with_room : TextState → ℕ → Storage
 storage_with_room s n =
     if is_inline s.storage && nat_le (size s.text + n) s.policy.limit then Inline else Heap
+
+-- where the text lies once it was asked to take no more room than it needs
+abbrev pub storage_when_shrunk : TextState → Storage
+storage_when_shrunk s =
+    if is_inline s.storage || (s.policy.demotes && nat_le (size s.text) s.policy.limit)
+    then Inline else Heap
 
 -- where a text lies that was made with room for n bytes
 abbrev pub storage_when_made : Policy → ℕ → Storage

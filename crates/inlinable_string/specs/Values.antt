@@ -3,6 +3,8 @@ use Rattle.std.specs.Prelude.{ℕ, true, false}
 use Rattle.std.specs.Str.{chars}
 use Rattle.std.specs.String.{string_bytes, string_capacity}
 use Rattle.std.specs.declared.string.String.{String}
+use Rattle.inlinable_string.specs.declared.inline_string.TheConstants.{INLINE_STRING_CAPACITY}
+use Rattle.inlinable_string.specs.declared.boxable_string.BoxableString.{BoxableString}
 use Rattle.inlinable_string.specs.declared.inlinable_string.InlinableStringN.{InlinableStringN}
 use Rattle.inlinable_string.specs.declared.inlinable_string.InlinableStringN.TheVariants as variant
 use Rattle.inlinable_string.specs.declared.string_ext.Storage.TheVariants.{Inline, Heap}
@@ -34,3 +36,7 @@ abbrev pub inlinable_state : (N : ℕ) → InlinableStringN N → TextState
 inlinable_state N (variant.Inline t a) =
     record { text = t; storage = Inline; capacity = N; policy = inlinable_policy N }
 inlinable_state N (variant.Heap s a) = heap_state (inlinable_policy N) s
+
+-- a text in a type without a parameter
+abbrev pub boxable_state : BoxableString → TextState
+boxable_state s = inlinable_state INLINE_STRING_CAPACITY s.0

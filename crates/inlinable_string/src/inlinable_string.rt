@@ -1,12 +1,13 @@
 //! Text that lies inline while it has at most `N` bytes, and goes to the heap when it outgrows them.
-ghost use Rattle.std.specs.Prelude.{◌≡◌, ◌+◌, ◌≤◌, ◌++◌, length, IfOk, OnOk, OnErr};
-ghost use Rattle.std.specs.Str.{chars};
-ghost use Rattle.std.specs.String.{string_bytes};
-ghost use Rattle.inlinable_string.specs.Text.{size};
+ghost use Rattle.std.specs.Prelude.{◌≡◌, ◌+◌, ◌≤◌, length, IfOk, OnOk, OnErr};
+ghost use Rattle.std.specs.List.{insert_slice};
+ghost use Rattle.std.specs.Str.{chars, IsCharBoundary};
+ghost use Rattle.std.specs.String.{string_bytes, string_capacity};
+ghost use Rattle.inlinable_string.specs.Text.{size, IsPlace, IsSplice};
 ghost use Rattle.inlinable_string.specs.State.{IsSameText};
 ghost use Rattle.inlinable_string.specs.Values.{inlinable_policy, inlinable_state};
 
-use crate::inline_string::{INLINE_STRING_CAPACITY, InlineStringN};
+use crate::inline_string::{INLINE_STRING_CAPACITY, InlineStringN, ReplaceError};
 use crate::string_ext::{Storage, StringExt, StringMake};
 use std::alloc::{AllocError, Global};
 
@@ -26,59 +27,154 @@ pub enum InlinableStringN<const N: usize> {
 }
 
 impl<const N: usize> InlinableStringN<N> {
-    /// Adds a text at the end of one on the heap, where an inline one is moved first.
+    /// Moves an inline text to the heap, with `added` put in at `idx`, into room for as much and for
+    /// `spare` bytes more.
     ///
-    /// To move it, memory is asked for once, for the size of the result, before anything is
-    /// changed. This stands by itself, so that a push that stays inline pays nothing for it.
+    /// Memory is asked for once, for the exact size, before anything is changed. This stands by
+    /// itself, so that a growth that stays inline pays nothing for it.
     #[cold]
     #[inline(never)]
-    fn push_str_on_heap(&mut self, string: &str) -> Result<(), AllocError>
-        ensures text { OnOk result ((inlinable_state N self.new).text
-            ≡ (inlinable_state N self.old).text ++ chars string.now) }
+    fn promote(&mut self, idx: usize, added: &str, spare: usize) -> Result<(), AllocError>
+        requires inline { (inlinable_state N self.old).storage ≡ Storage.Inline }
+        requires place { IsPlace (inlinable_state N self.old).text idx }
+        ensures text { OnOk result (IsSplice (inlinable_state N self.old).text idx
+            (chars added.now) (inlinable_state N self.new).text) }
         ensures storage { OnOk result ((inlinable_state N self.new).storage ≡ Storage.Heap) }
-        ensures room { OnOk result (size (inlinable_state N self.old).text + length string.now
+        ensures room { OnOk result
+            (size (inlinable_state N self.old).text + length added.now + spare
             ≤ (inlinable_state N self.new).capacity) }
         ensures err { OnErr result
             (IsSameText (inlinable_state N self.old) (inlinable_state N self.new)) }
     {
-        match self {
-            InlinableStringN::Heap(text, _) => {
-                StringExt::push_str(text, string)?;
-                Ok(())
-            }
-            InlinableStringN::Inline(text, alloc) => {
-                let alloc = *alloc;
-                let heap = joined(alloc, text.as_str(), string)?;
-                *self = InlinableStringN::Heap(heap, alloc);
-                Ok(())
-            }
-        }
+        let InlinableStringN::Inline(text, alloc) = self else {
+            unreachable!();
+        };
+        let alloc = *alloc;
+        let heap = spliced(alloc, text.as_str(), idx, added, spare)?;
+        *self = InlinableStringN::Heap(heap, alloc);
+        Ok(())
     }
 }
 
-/// The two texts joined, on the heap. Memory is asked for once, for the size of both.
-fn joined(alloc: Global, front: &str, back: &str) -> Result<String, AllocError>
-    ensures { IfOk result (λ made. string_bytes made ≡ front.now ++ back.now) }
+/// The text with `added` put in at `idx`, on the heap, into room for as much and for `spare` bytes
+/// more. Memory is asked for once, for that size; a size past `usize::MAX` is want of memory.
+fn spliced(
+    alloc: Global,
+    text: &str,
+    idx: usize,
+    added: &str,
+    spare: usize,
+) -> Result<String, AllocError>
+    requires { IsCharBoundary text.now idx }
+    ensures bytes { IfOk result
+        (λ made. string_bytes made ≡ insert_slice text.now idx added.now) }
+    ensures room { IfOk result
+        (λ made. length text.now + length added.now + spare ≤ string_capacity made) }
 {
-    let Some(size) = front.len().checked_add(back.len()) else {
+    let Some(size) = text.len().checked_add(added.len()) else {
         return Err(AllocError);
     };
-    let mut made = String::with_capacity(alloc, size)?;
-    made.push_str(front)?;
-    made.push_str(back)?;
+    let Some(capacity) = size.checked_add(spare) else {
+        return Err(AllocError);
+    };
+    let mut made = String::with_capacity(alloc, capacity)?;
+    made.push_str(&text[..idx])?;
+    made.push_str(added)?;
+    made.push_str(&text[idx..])?;
     Ok(made)
 }
 
 impl<const N: usize> StringExt for InlinableStringN<N> {
     ghost state = { inlinable_state N };
 
+    fn push(&mut self, ch: char) -> Result<(), AllocError> {
+        match self {
+            InlinableStringN::Heap(text, _) => StringExt::push(text, ch),
+            InlinableStringN::Inline(text, _) => match text.push(ch) {
+                Ok(()) => Ok(()),
+                Err(_) => {
+                    let end = text.len();
+                    let mut buffer = [0; 4];
+                    self.promote(end, ch.encode_utf8(&mut buffer), 0)
+                }
+            },
+        }
+    }
+
     fn push_str(&mut self, string: &str) -> Result<(), AllocError> {
         match self {
             InlinableStringN::Heap(text, _) => StringExt::push_str(text, string),
             InlinableStringN::Inline(text, _) => match text.push_str(string) {
                 Ok(()) => Ok(()),
-                Err(_) => self.push_str_on_heap(string),
+                Err(_) => {
+                    let end = text.len();
+                    self.promote(end, string, 0)
+                }
             },
+        }
+    }
+
+    fn insert(&mut self, idx: usize, ch: char) -> Result<(), AllocError> {
+        match self {
+            InlinableStringN::Heap(text, _) => StringExt::insert(text, idx, ch),
+            InlinableStringN::Inline(text, _) => match text.insert(idx, ch) {
+                Ok(()) => Ok(()),
+                Err(_) => {
+                    let mut buffer = [0; 4];
+                    self.promote(idx, ch.encode_utf8(&mut buffer), 0)
+                }
+            },
+        }
+    }
+
+    fn insert_str(&mut self, idx: usize, string: &str) -> Result<(), AllocError> {
+        match self {
+            InlinableStringN::Heap(text, _) => StringExt::insert_str(text, idx, string),
+            InlinableStringN::Inline(text, _) => match text.insert_str(idx, string) {
+                Ok(()) => Ok(()),
+                Err(_) => self.promote(idx, string, 0),
+            },
+        }
+    }
+
+    fn reserve(&mut self, additional: usize) -> Result<(), AllocError> {
+        match self {
+            InlinableStringN::Heap(text, _) => StringExt::reserve(text, additional),
+            InlinableStringN::Inline(text, _) => {
+                let len = text.len();
+                if additional <= N - len {
+                    return Ok(());
+                }
+                self.promote(len, "", additional)
+            }
+        }
+    }
+
+    fn reserve_exact(&mut self, additional: usize) -> Result<(), AllocError> {
+        match self {
+            InlinableStringN::Heap(text, _) => StringExt::reserve_exact(text, additional),
+            InlinableStringN::Inline(text, _) => {
+                let len = text.len();
+                if additional <= N - len {
+                    return Ok(());
+                }
+                self.promote(len, "", additional)
+            }
+        }
+    }
+
+    fn shrink_to_fit(&mut self) -> Result<(), AllocError> {
+        match self {
+            InlinableStringN::Heap(text, alloc) => {
+                if N < StringExt::len(text) {
+                    return StringExt::shrink_to_fit(text);
+                }
+                let alloc = *alloc;
+                let inline = InlineStringN::from(text.as_str());
+                *self = InlinableStringN::Inline(inline, alloc);
+                Ok(())
+            }
+            InlinableStringN::Inline(_, _) => Ok(()),
         }
     }
 
@@ -93,6 +189,20 @@ impl<const N: usize> StringExt for InlinableStringN<N> {
         match self {
             InlinableStringN::Heap(text, _) => StringExt::pop(text),
             InlinableStringN::Inline(text, _) => text.pop(),
+        }
+    }
+
+    fn remove(&mut self, idx: usize) -> char {
+        match self {
+            InlinableStringN::Heap(text, _) => StringExt::remove(text, idx),
+            InlinableStringN::Inline(text, _) => text.remove(idx),
+        }
+    }
+
+    fn replace_bytes(&mut self, bytes: &[u8]) -> Result<(), ReplaceError> {
+        match self {
+            InlinableStringN::Heap(text, _) => StringExt::replace_bytes(text, bytes),
+            InlinableStringN::Inline(text, _) => text.replace_bytes(bytes),
         }
     }
 
@@ -139,5 +249,13 @@ impl<const N: usize> StringMake for InlinableStringN<N> {
 
     fn new(alloc: Global) -> Self {
         InlinableStringN::Inline(InlineStringN::new(), alloc)
+    }
+
+    fn with_capacity(alloc: Global, capacity: usize) -> Result<Self, AllocError> {
+        if capacity <= N {
+            return Ok(Self::new(alloc));
+        }
+        let heap = String::with_capacity(alloc, capacity)?;
+        Ok(InlinableStringN::Heap(heap, alloc))
     }
 }

@@ -2,8 +2,8 @@
 //!
 //! Use [`InlineStringN`] where no text is longer than the limit, or where a longer one is to be
 //! refused; where a longer one is to be kept, use [`crate::InlinableStringN`].
-ghost use Rattle.std.specs.Prelude.{◌≡◌, ℕ, ◌+◌, ◌-◌, ◌≤◌, ◌<◌, ◌↔◌, List, ◌++◌, [], ◌∷◌, length, replicate, IsTrue, OnOk, OnErr, Err, MatchOption, MatchResult, IsUtf8};
-ghost use Rattle.std.specs.Str.{chars};
+ghost use Rattle.std.specs.Prelude.{◌≡◌, ℕ, ◌+◌, ◌-◌, ◌≤◌, ◌<◌, ◌↔◌, List, ◌++◌, [], ◌∷◌, length, drop, replicate, encode_utf8, IsTrue, OnOk, OnErr, Err, MatchOption, MatchResult, IsUtf8};
+ghost use Rattle.std.specs.Str.{chars, IsCharBoundary};
 ghost use Rattle.inlinable_string.specs.Text.{bytes_of, size, IsCut, IsPlace, IsSplice, IsRemoval};
 
 use crate::cells::{put_byte, put_in, take_out, write_at, write_front};
@@ -222,12 +222,8 @@ impl<const N: usize> InlineStringN<N> {
         requires below { idx < size self.old }
         ensures { IsRemoval self.old idx result self.new }
     {
-        let mut rest = self.as_str()[idx..].chars();
-        let Some(ch) = rest.next() else {
-            unreachable!();
-        };
+        let (ch, next) = char_at(self.as_str(), idx);
         let len = self.len;
-        let next = len - rest.as_str().len();
         let start = take_out(&mut self.bytes[..], self.start, len, idx, next);
         self.start = start;
         self.len = len - (next - idx);
@@ -305,6 +301,21 @@ impl<const N: usize> InlineStringN<N> {
         let cells = &self.bytes[..];
         unsafe { str::from_utf8_unchecked(&cells[self.start..self.start + self.len]) }
     }
+}
+
+/// The character that begins at `idx`, and where it ends.
+fn char_at(text: &str, idx: usize) -> (char, usize)
+    requires place { IsCharBoundary text.now idx }
+    requires below { idx < length text.now }
+    ensures order { idx ≤ result.1 }
+    ensures within { result.1 ≤ length text.now }
+    ensures bytes { drop idx text.now ≡ encode_utf8 result.0 ++ drop result.1 text.now }
+{
+    let mut rest = text[idx..].chars();
+    let Some(ch) = rest.next() else {
+        unreachable!();
+    };
+    (ch, text.len() - rest.as_str().len())
 }
 
 impl<const N: usize> Default for InlineStringN<N> {

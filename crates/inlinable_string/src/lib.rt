@@ -8,12 +8,14 @@
 //! - [`run`] gives lists of commands to any text.
 #![tactic(auto)]
 
+mod boxable_string;
 mod cells;
 mod inlinable_string;
 pub mod inline_string;
 pub mod run;
 pub mod string_ext;
 
+pub use boxable_string::BoxableString;
 pub use inlinable_string::{InlinableString, InlinableStringN};
 pub use inline_string::{INLINE_STRING_CAPACITY, InlineString, InlineStringN};
 pub use string_ext::{Storage, StringExt, StringMake};

@@ -1,10 +1,11 @@
 //! The traits of a text that can be edited: code over them is written once for `String`, for
 //! [`crate::InlinableStringN`] and for a type of one's own.
-ghost use Rattle.std.specs.Prelude.{◌≡◌, ℕ, ◌≤◌, ◌↔◌, List, ◌++◌, [], ◌∷◌, length, IsTrue, OnOk, OnErr, IsOk, MatchOption};
+ghost use Rattle.std.specs.Prelude.{◌≡◌, ℕ, ◌≤◌, ◌<◌, ◌↔◌, List, ◌++◌, [], ◌∷◌, length, IsTrue, OnOk, OnErr, IfOk, IsOk, Err, MatchOption, IsUtf8};
 ghost use Rattle.std.specs.Str.{chars};
-ghost use Rattle.inlinable_string.specs.Text.{bytes_of, size, IsCut, IsPlace};
-ghost use Rattle.inlinable_string.specs.State.{TextState, Policy, IsLawful, IsSameText, HasRoom, HasInlineRoom, storage_with_room, storage_when_made};
+ghost use Rattle.inlinable_string.specs.Text.{bytes_of, size, IsCut, IsPlace, IsSplice, IsRemoval};
+ghost use Rattle.inlinable_string.specs.State.{TextState, Policy, IsLawful, IsSameText, HasRoom, HasInlineRoom, storage_with_room, storage_when_shrunk, storage_when_made};
 
+use crate::inline_string::ReplaceError;
 use std::alloc::{AllocError, Global};
 
 mod std_string;
@@ -26,6 +27,22 @@ pub trait StringExt {
     /// What a contract sees of the value.
     ghost state: { Self → TextState };
 
+    /// Adds a character at the end.
+    ///
+    /// It is not refused where the text has room for it, be it on the heap or inline.
+    fn push(&mut self, ch: char) -> Result<(), AllocError>
+        ensures text { OnOk result
+            ((state self.new).text ≡ (state self.old).text ++ ch ∷ []) }
+        ensures storage { OnOk result
+            ((state self.new).storage ≡ storage_with_room (state self.old) (size (ch ∷ []))) }
+        ensures err { OnErr result (IsSameText (state self.old) (state self.new)) }
+
+        // What fits is not refused, and no room is lost.
+        ensures granted { HasRoom (state self.old) (size (ch ∷ [])) → IsOk result }
+        ensures inline_granted { HasInlineRoom (state self.old) (size (ch ∷ [])) → IsOk result }
+        ensures room { OnOk result ((state self.old).capacity ≤ (state self.new).capacity) }
+        ensures policy { (state self.new).policy ≡ (state self.old).policy };
+
     /// Adds a text at the end.
     ///
     /// It is not refused where the text has room for it, be it on the heap or inline.
@@ -42,6 +59,67 @@ pub trait StringExt {
         ensures room { OnOk result ((state self.old).capacity ≤ (state self.new).capacity) }
         ensures policy { (state self.new).policy ≡ (state self.old).policy };
 
+    /// Puts a character in at `idx`, which must be a place of the text.
+    ///
+    /// It is not refused where the text lies inline and the result has room there.
+    fn insert(&mut self, idx: usize, ch: char) -> Result<(), AllocError>
+        requires { IsPlace (state self.old).text idx }
+        ensures text { OnOk result
+            (IsSplice (state self.old).text idx (ch ∷ []) (state self.new).text) }
+        ensures storage { OnOk result
+            ((state self.new).storage ≡ storage_with_room (state self.old) (size (ch ∷ []))) }
+        ensures err { OnErr result (IsSameText (state self.old) (state self.new)) }
+        ensures inline_granted { HasInlineRoom (state self.old) (size (ch ∷ [])) → IsOk result }
+        ensures policy { (state self.new).policy ≡ (state self.old).policy };
+
+    /// Puts a text in at `idx`, which must be a place of the text.
+    ///
+    /// It is not refused where the text lies inline and the result has room there.
+    fn insert_str(&mut self, idx: usize, string: &str) -> Result<(), AllocError>
+        requires { IsPlace (state self.old).text idx }
+        ensures text { OnOk result
+            (IsSplice (state self.old).text idx (chars string.now) (state self.new).text) }
+        ensures storage { OnOk result
+            ((state self.new).storage ≡ storage_with_room (state self.old) (length string.now)) }
+        ensures err { OnErr result (IsSameText (state self.old) (state self.new)) }
+        ensures inline_granted { HasInlineRoom (state self.old) (length string.now) → IsOk result }
+        ensures policy { (state self.new).policy ≡ (state self.old).policy };
+
+    /// Makes room for `additional` bytes more than the text has, and perhaps for others.
+    ///
+    /// Pushes directly after it that add at most as many together are not refused. A text that would
+    /// not fit inline with them goes to the heap. A sum past `usize::MAX` is want of memory.
+    fn reserve(&mut self, additional: usize) -> Result<(), AllocError>
+        ensures text { (state self.new).text ≡ (state self.old).text }
+        ensures storage { OnOk result
+            ((state self.new).storage ≡ storage_with_room (state self.old) additional) }
+        ensures room { OnOk result (HasRoom (state self.new) additional) }
+        ensures err { OnErr result (IsSameText (state self.old) (state self.new)) }
+        ensures inline_granted { HasInlineRoom (state self.old) additional → IsOk result }
+        ensures policy { (state self.new).policy ≡ (state self.old).policy };
+
+    /// Makes room for `additional` bytes more than the text has, as [`StringExt::reserve`] does, and
+    /// for no others where that can be helped.
+    fn reserve_exact(&mut self, additional: usize) -> Result<(), AllocError>
+        ensures text { (state self.new).text ≡ (state self.old).text }
+        ensures storage { OnOk result
+            ((state self.new).storage ≡ storage_with_room (state self.old) additional) }
+        ensures room { OnOk result (HasRoom (state self.new) additional) }
+        ensures err { OnErr result (IsSameText (state self.old) (state self.new)) }
+        ensures inline_granted { HasInlineRoom (state self.old) additional → IsOk result }
+        ensures policy { (state self.new).policy ≡ (state self.old).policy };
+
+    /// Gives back room that the text does not need. A text of at most the limit that lies on the heap
+    /// comes back inline, if its type does that, and is not refused.
+    fn shrink_to_fit(&mut self) -> Result<(), AllocError>
+        ensures text { (state self.new).text ≡ (state self.old).text }
+        ensures storage { OnOk result
+            ((state self.new).storage ≡ storage_when_shrunk (state self.old)) }
+        ensures err { OnErr result (IsSameText (state self.old) (state self.new)) }
+        ensures granted { IsTrue (state self.old).policy.demotes
+            → size (state self.old).text ≤ (state self.old).policy.limit → IsOk result }
+        ensures policy { (state self.new).policy ≡ (state self.old).policy };
+
     /// Keeps the text before `new_len`, which must be a place of the text:
     /// `as_str().is_char_boundary(new_len)` tells. It stays where it lies.
     fn truncate(&mut self, new_len: usize)
@@ -56,6 +134,40 @@ pub trait StringExt {
         ensures text { MatchOption result
             (((state self.old).text ≡ []) × ((state self.new).text ≡ []))
             (λ c. (state self.old).text ≡ (state self.new).text ++ c ∷ []) }
+        ensures storage { (state self.new).storage ≡ (state self.old).storage }
+        ensures policy { (state self.new).policy ≡ (state self.old).policy };
+
+    /// Takes out the character that begins at `idx`, which must be a place of the text before its
+    /// end. It stays where it lies.
+    fn remove(&mut self, idx: usize) -> char
+        requires place { IsPlace (state self.old).text idx }
+        requires below { idx < size (state self.old).text }
+        ensures text { IsRemoval (state self.old).text idx result (state self.new).text }
+        ensures storage { (state self.new).storage ≡ (state self.old).storage }
+        ensures policy { (state self.new).policy ≡ (state self.old).policy };
+
+    /// Leaves the empty text, where it lies.
+    fn clear(&mut self)
+        ensures text { (state self.new).text ≡ [] }
+        ensures storage { (state self.new).storage ≡ (state self.old).storage }
+        ensures policy { (state self.new).policy ≡ (state self.old).policy }
+    {
+        self.truncate(0);
+    }
+
+    /// Puts bytes in the place of those of the text, as many as it has. The number is tested first,
+    /// then whether the bytes are UTF-8. It takes no memory, and stays where it lies.
+    fn replace_bytes(&mut self, bytes: &[u8]) -> Result<(), ReplaceError>
+        ensures text { OnOk result (bytes_of (state self.new).text ≡ bytes.now) }
+        ensures err { OnErr result (IsSameText (state self.old) (state self.new)) }
+
+        // When each answer comes.
+        ensures same_length { OnOk result (length bytes.now ≡ size (state self.old).text) }
+        ensures well_formed { OnOk result (IsUtf8 bytes.now) }
+        ensures wrong_length { result ≡ Err ReplaceError.WrongLength
+            → ¬ (length bytes.now ≡ size (state self.old).text) }
+        ensures not_utf8 { result ≡ Err ReplaceError.NotUtf8
+            → (length bytes.now ≡ size (state self.old).text) × ¬ (IsUtf8 bytes.now) }
         ensures storage { (state self.new).storage ≡ (state self.old).storage }
         ensures policy { (state self.new).policy ≡ (state self.old).policy };
 
@@ -100,4 +212,14 @@ pub trait StringMake: StringExt {
         ensures text { (Self.state result).text ≡ [] }
         ensures storage { (Self.state result).storage ≡ storage_when_made policy 0 }
         ensures policy { (Self.state result).policy ≡ policy };
+
+    /// The empty text, with room for `capacity` bytes. Where these would lie inline it takes no memory
+    /// and is not refused.
+    fn with_capacity(alloc: Global, capacity: usize) -> Result<Self, AllocError>
+        ensures text { IfOk result (λ made. (Self.state made).text ≡ []) }
+        ensures room { IfOk result (λ made. capacity ≤ (Self.state made).capacity) }
+        ensures storage { IfOk result
+            (λ made. (Self.state made).storage ≡ storage_when_made policy capacity) }
+        ensures granted { IsTrue policy.demotes → capacity ≤ policy.limit → IsOk result }
+        ensures policy { IfOk result (λ made. (Self.state made).policy ≡ policy) };
 }

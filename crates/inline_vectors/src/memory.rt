@@ -1,94 +1,312 @@
-//! Rows with every request for memory refused: a test holds all the memory that can be had while
-//! its calls run.
-//!
-//! `rt try` has too much memory to be held, so these tests run in the gate alone.
-use inlinable_string::run::{Command, Reply, run};
-use inlinable_string::{InlinableString, InlinableStringN, Storage, StringExt, StringMake};
+//! Calls while every request for memory is refused: a test holds all memory that can be had, makes
+//! its calls, gives the memory back, and then asserts. One gives a block back before its calls, so
+//! that one request of that size is granted and the next one is refused.
+use crate::hoard::Hoard;
+use crate::texts::{
+    HEAP_ROOM, assert_text, insert_at, insert_str_at, letters, remove_at, text_of, truncate_at,
+};
+use inlinable_string::inline_string::ReplaceError;
+use inlinable_string::{
+    BoxableString, InlinableString, InlinableStringN, Storage, StringExt, StringMake,
+};
 use std::alloc::Global;
 use std::process::Abort;
 use std::test::Fail;
 
-/// The most blocks that are held, and the most of one size.
-const MOST_BLOCKS: usize = 200_000;
-
-/// All the memory that can be had. While it is held, each request is refused.
-#[derive(Drop)]
-struct Hoard {
-    blocks: Vec<Vec<u8>>,
-}
-
-impl Hoard {
-    /// Takes blocks of each size, from the greatest down to one byte, until none is left.
-    fn take(rt: &impl Abort, alloc: Global) -> Hoard {
-        let list: Result<Vec<Vec<u8>>, _> = Vec::with_capacity(alloc, MOST_BLOCKS);
-        let mut blocks = list.expect(rt, "memory for the list of blocks");
-        for shift in 0..47u32 {
-            let size = 1usize << (46 - shift);
-            for _ in 0..MOST_BLOCKS {
-                let Ok(block) = Vec::with_capacity(alloc, size) else {
-                    break;
-                };
-                if blocks.push(block).is_err() {
-                    break;
-                }
-            }
-        }
-        assert!(rt; blocks.len() < MOST_BLOCKS, "memory cannot be used up here");
-        let refused: Result<Vec<u8>, _> = Vec::with_capacity(alloc, 1);
-        assert!(rt; refused.is_err(), "memory is not used up");
-        Hoard { blocks }
-    }
-}
+const FULL: &str = "aaaaaaaaaaaaaaaaaaaaaaaaaaaaaa";
 
 #[test]
-fn a_run_goes_on_after_a_refusal(rt: HostRuntime) -> Result<(), Fail> {
-    let commands = [
-        Command::PushStr("aaaaaaaaaaaaaaaaaaaaaaaaaaa"),
-        Command::PushStr("€"),
-        Command::PushStr("b"),
-        Command::Truncate(28),
-        Command::Truncate(27),
-        Command::Pop,
-    ];
-    let mut replies = [Reply::NoChar; 6];
+fn a_character_up_to_30_bytes_takes_no_memory(rt: HostRuntime) -> Result<(), Fail> {
     let alloc = rt.alloc();
-    let hoard = Hoard::take(&rt, alloc);
-    let mut text = InlinableString::new(alloc);
-    run(&mut text, &commands, &mut replies);
-    drop(hoard);
-    let wanted = [
-        Reply::Done,
-        Reply::Done,
-        Reply::NoMemory,
-        Reply::BadPlace,
-        Reply::Done,
-        Reply::Char('a'),
-    ];
-    assert_eq!(rt; replies, wanted);
-    assert_eq!(rt; text.as_str(), "aaaaaaaaaaaaaaaaaaaaaaaaaa");
-    assert_eq!(rt; text.storage(), Storage::Inline);
+    for (count, ch) in [(29, 'a'), (28, 'é'), (27, '€'), (26, '𝄞')] {
+        let hoard = Hoard::take(&rt, alloc);
+        let mut pushed: InlinableString = letters(&rt, alloc, 0, count);
+        let pushes = pushed.push(ch).is_ok();
+        let mut inserted: InlinableString = letters(&rt, alloc, 0, count);
+        let inserts = insert_at(&mut inserted, 0, ch);
+        drop(hoard);
+        assert!(rt; pushes, "at {ch}");
+        assert_eq!(rt; inserts, Some(Ok(())), "at {ch}");
+        let rest = "a".repeat(alloc, count)?;
+        let wanted = format!(in alloc; "{rest}{ch}")?;
+        assert_text(&rt, &pushed, wanted.as_str(), Storage::Inline);
+        let wanted = format!(in alloc; "{ch}{rest}")?;
+        assert_text(&rt, &inserted, wanted.as_str(), Storage::Inline);
+    }
     Ok(())
 }
 
 #[test]
-fn pushes_within_the_limit_ask_for_no_memory(rt: HostRuntime) -> Result<(), Fail> {
+fn a_character_past_30_bytes_is_refused_and_changes_nothing(rt: HostRuntime) -> Result<(), Fail> {
+    let alloc = rt.alloc();
+    for (count, ch) in [(30, 'a'), (29, 'é'), (28, '€'), (27, '𝄞'), (29, '€')] {
+        let mut text: InlinableString = letters(&rt, alloc, 0, count);
+        let hoard = Hoard::take(&rt, alloc);
+        let pushed = text.push(ch).is_err();
+        let at_the_front = insert_at(&mut text, 0, ch);
+        let at_the_end = insert_at(&mut text, count, ch);
+        drop(hoard);
+        assert!(rt; pushed, "at {ch}");
+        assert!(rt; matches!(at_the_front, Some(Err(_))), "at {ch}");
+        assert!(rt; matches!(at_the_end, Some(Err(_))), "at {ch}");
+        let wanted = "a".repeat(alloc, count)?;
+        assert_text(&rt, &text, wanted.as_str(), Storage::Inline);
+        assert_eq!(rt; text.capacity(), 30);
+        // Memory is back, and the text is one to go on with.
+        assert_eq!(rt; text.pop(), Some('a'));
+        assert!(rt; text.push_str("a").is_ok());
+        assert!(rt; text.push(ch).is_ok());
+        assert_eq!(rt; text.pop(), Some(ch));
+        assert_text(&rt, &text, wanted.as_str(), Storage::Heap);
+    }
+    Ok(())
+}
+
+/// Each growth and reservation past the room at hand.
+fn assert_all_refused<S: StringExt>(
+    rt: &impl Abort,
+    alloc: Global,
+    text: &mut S,
+    content: &str,
+    storage: Storage,
+) {
+    let capacity = text.capacity();
+    let hoard = Hoard::take(rt, alloc);
+    let answers = [
+        text.push('𝄞').is_err(),
+        text.push_str("0123").is_err(),
+        matches!(insert_at(text, 1, '𝄞'), Some(Err(_))),
+        matches!(insert_str_at(text, 1, "0123"), Some(Err(_))),
+        text.reserve(31).is_err(),
+        text.reserve_exact(31).is_err(),
+        text.reserve(usize::MAX).is_err(),
+        text.reserve_exact(usize::MAX).is_err(),
+    ];
+    let place_first = insert_at(text, 40, 'a').is_none();
+    drop(hoard);
+    assert_eq!(rt; answers, [true; 8]);
+    assert!(rt; place_first);
+    assert_text(rt, text, content, storage);
+    assert_eq!(rt; text.capacity(), capacity);
+}
+
+#[test]
+fn what_outgrows_the_room_at_hand_is_refused_and_changes_nothing(rt: HostRuntime) {
+    let alloc = rt.alloc();
+    let over = "aaaaaaaaaaaaaaaaaaaaaaaaaaaaaaa";
+    for content in [FULL, "aaaaaaaaaaaaaaaaaaaaaaaaaaa"] {
+        let mut text: InlinableString = text_of(&rt, alloc, 0, content);
+        assert_all_refused(&rt, alloc, &mut text, content, Storage::Inline);
+        let mut text = BoxableString(text_of(&rt, alloc, 0, content));
+        assert_all_refused(&rt, alloc, &mut text, content, Storage::Inline);
+    }
+    let mut text: InlinableString = text_of(&rt, alloc, HEAP_ROOM, over);
+    assert_all_refused(&rt, alloc, &mut text, over, Storage::Heap);
+    let mut text: String = text_of(&rt, alloc, HEAP_ROOM, over);
+    assert_all_refused(&rt, alloc, &mut text, over, Storage::Heap);
+}
+
+#[test]
+fn an_inline_text_is_reserved_and_edited_without_memory(rt: HostRuntime) {
     let alloc = rt.alloc();
     let hoard = Hoard::take(&rt, alloc);
-    let mut text = InlinableStringN::<300>::new(alloc);
-    let mut done = true;
-    for _ in 0..300u16 {
-        done &= text.push_str("a").is_ok();
-    }
-    let nothing = text.push_str("").is_ok();
-    let refused = text.push_str("a").is_err();
+    let mut full: InlinableString = letters(&rt, alloc, 0, 30);
+    let nothing_pushed = full.push_str("").is_ok();
+    let nothing_inserted = insert_str_at(&mut full, 30, "");
+    let mut foo: InlinableString = text_of(&rt, alloc, 0, "foo");
+    let reserved = foo.reserve(27).is_ok();
+    let reserved_exactly = foo.reserve_exact(27).is_ok();
+    let one_more = foo.reserve(28).is_err();
+    let mut text = InlinableString::new(alloc);
+    let all_reserved = text.reserve(30).is_ok();
+    let inserted_str = insert_str_at(&mut text, 0, "abc");
+    let removed = remove_at(&mut text, 1);
+    let inserted = insert_at(&mut text, 2, 'é');
+    let shrunk = text.shrink_to_fit().is_ok();
+    let is_edited = text.as_str() == "acé";
+    text.clear();
     drop(hoard);
-    assert!(rt; done);
-    assert!(rt; nothing);
-    assert!(rt; refused);
-    assert_eq!(rt; text.len(), 300);
-    assert_eq!(rt; text.storage(), Storage::Inline);
-    text.push_str("a")?;
+    assert!(rt; nothing_pushed);
+    assert_eq!(rt; nothing_inserted, Some(Ok(())));
+    assert_text(&rt, &full, FULL, Storage::Inline);
+    assert!(rt; reserved && reserved_exactly && one_more);
+    assert_text(&rt, &foo, "foo", Storage::Inline);
+    assert!(rt; all_reserved);
+    assert_eq!(rt; inserted_str, Some(Ok(())));
+    assert_eq!(rt; removed, Some('b'));
+    assert_eq!(rt; inserted, Some(Ok(())));
+    assert!(rt; shrunk && is_edited);
+    assert_text(&rt, &text, "", Storage::Inline);
+}
+
+/// Fills the room that a text was made with, or that was reserved.
+fn assert_filled<S: StringMake + Drop>(
+    rt: &impl Abort,
+    alloc: Global,
+    room: usize,
+    (count, additional): (usize, usize),
+    added: &[&str],
+) {
+    let mut text: S = letters(rt, alloc, room, count);
+    let mut exact: S = letters(rt, alloc, room, count);
+    assert!(rt; additional == 0 || text.reserve(additional).is_ok());
+    assert!(rt; additional == 0 || exact.reserve_exact(additional).is_ok());
+    let hoard = Hoard::take(rt, alloc);
+    let mut all_fit = true;
+    let mut wanted = count;
+    for string in added {
+        all_fit &= text.push_str(string).is_ok();
+        all_fit &= exact.push_str(string).is_ok();
+        wanted = wanted.saturating_add(string.len());
+    }
+    drop(hoard);
+    assert!(rt; all_fit, "{count} and {additional}");
+    for text in [&text, &exact] {
+        assert_eq!(rt; text.len(), wanted);
+        assert_eq!(rt; text.storage(), Storage::Heap);
+        assert!(rt;
+            added
+                .last()
+                .is_some_and(|last| text.as_str().ends_with(last))
+        );
+    }
+}
+
+#[test]
+fn reserved_room_is_filled_without_memory(rt: HostRuntime) {
+    let alloc = rt.alloc();
+    let ten = "0123456789";
+    for (room, reserved, added) in [
+        (0, (3, 100), [ten; 10].as_slice()),
+        (0, (3, 50), [ten; 5].as_slice()),
+        (0, (28, 4), ["𝄞"].as_slice()),
+        (40, (0, 0), [ten; 4].as_slice()),
+        (HEAP_ROOM, (0, 10), ["012345", "6789"].as_slice()),
+    ] {
+        assert_filled::<InlinableString>(&rt, alloc, room, reserved, added);
+        assert_filled::<String>(&rt, alloc, room, reserved, added);
+    }
+}
+
+#[test]
+fn a_cut_takes_no_memory_and_neither_does_a_bad_place(rt: HostRuntime) {
+    let alloc = rt.alloc();
+    let mut text = String::new(alloc);
+    assert!(rt; StringExt::reserve(&mut text, 10).is_ok());
+    let hoard = Hoard::take(&rt, alloc);
+    let cut = truncate_at(&mut text, 5);
+    let pushed = StringExt::push_str(&mut text, "0123456789").is_ok();
+    let last = StringExt::pop(&mut text);
+    let first = remove_at(&mut text, 0);
+    drop(hoard);
+    assert!(rt; !cut);
+    assert!(rt; pushed);
+    assert_eq!(rt; last, Some('9'));
+    assert_eq!(rt; first, Some('0'));
+    assert_text(&rt, &text, "12345678", Storage::Heap);
+}
+
+fn assert_replaced<S: StringMake + Drop>(rt: &impl Abort, alloc: Global, room: usize) {
+    let mut text: S = text_of(rt, alloc, room, "hello");
+    let hoard = Hoard::take(rt, alloc);
+    let replaced = text.replace_bytes(b"olleh");
+    let is_reversed = text.as_str() == "olleh";
+    let long = text.replace_bytes(b"olleho");
+    let bad = text.replace_bytes(b"olle\xFF");
+    let accented = text.replace_bytes("hél\u{7F}".as_bytes());
+    drop(hoard);
+    assert_eq!(rt; replaced, Ok(()));
+    assert!(rt; is_reversed);
+    assert_eq!(rt; long, Err(ReplaceError::WrongLength));
+    assert_eq!(rt; bad, Err(ReplaceError::NotUtf8));
+    assert_eq!(rt; accented, Ok(()));
+    assert_text(rt, &text, "hél\u{7F}", Storage::Heap);
+}
+
+#[test]
+fn bytes_on_the_heap_are_replaced_without_memory(rt: HostRuntime) {
+    let alloc = rt.alloc();
+    assert_replaced::<String>(&rt, alloc, 0);
+    assert_replaced::<InlinableString>(&rt, alloc, HEAP_ROOM);
+}
+
+#[test]
+fn a_text_comes_back_inline_without_memory(rt: HostRuntime) {
+    let alloc = rt.alloc();
+    let mut text: InlinableString = letters(&rt, alloc, 0, 31);
+    let hoard = Hoard::take(&rt, alloc);
+    let last = text.pop();
+    let shrunk = text.shrink_to_fit().is_ok();
+    drop(hoard);
+    assert_eq!(rt; last, Some('a'));
+    assert!(rt; shrunk);
+    assert_text(&rt, &text, FULL, Storage::Inline);
+}
+
+#[test]
+fn a_text_is_made_without_memory_where_its_room_is_inline(rt: HostRuntime) {
+    let alloc = rt.alloc();
+    for (capacity, is_granted) in [(0, true), (1, true), (30, true), (31, false), (40, false)] {
+        let hoard = Hoard::take(&rt, alloc);
+        let made = InlinableString::with_capacity(alloc, capacity);
+        drop(hoard);
+        assert_eq!(rt; made.is_ok(), is_granted, "at {capacity}");
+        if let Ok(text) = made {
+            assert_text(&rt, &text, "", Storage::Inline);
+        }
+    }
+    let hoard = Hoard::take(&rt, alloc);
+    let zero = InlinableStringN::<0>::with_capacity(alloc, 1).is_err();
+    let string = <String as StringMake>::with_capacity(alloc, 1).is_err();
+    let new: String = text_of(&rt, alloc, 0, "");
+    drop(hoard);
+    assert!(rt; zero && string);
+    assert_text(&rt, &new, "", Storage::Heap);
+}
+
+#[test]
+fn at_300_the_first_300_bytes_take_no_memory(rt: HostRuntime) -> Result<(), Fail> {
+    let alloc = rt.alloc();
+    let hoard = Hoard::take(&rt, alloc);
+    let mut text: InlinableStringN<300> = letters(&rt, alloc, 0, 300);
+    let one_more = text.push('a').is_err();
+    drop(hoard);
+    assert!(rt; one_more);
+    let wanted = "a".repeat(alloc, 300)?;
+    assert_text(&rt, &text, wanted.as_str(), Storage::Inline);
+    assert!(rt; text.push('a').is_ok());
     assert_eq!(rt; text.len(), 301);
     assert_eq!(rt; text.storage(), Storage::Heap);
     Ok(())
+}
+
+/// Promotes texts to 40 bytes while one block of `size` bytes can be had, and tells which went
+/// through: by `push`, by `insert_str` and by `reserve`.
+fn promoted_with_one_block(rt: &impl Abort, alloc: Global, size: usize) -> [bool; 3] {
+    let mut pushed: InlinableStringN<39> = letters(rt, alloc, 0, 39);
+    let mut inserted: InlinableString = letters(rt, alloc, 0, 30);
+    let mut reserved: InlinableString = letters(rt, alloc, 0, 30);
+    let mut answers = [false; 3];
+    for (i, answer) in answers.iter_mut().enumerate() {
+        let block: Result<Vec<u8>, _> = Vec::with_capacity(alloc, size);
+        let block = block.expect(rt, "memory");
+        let hoard = Hoard::take(rt, alloc);
+        drop(block);
+        *answer = match i {
+            0 => pushed.push('b').is_ok(),
+            1 => insert_str_at(&mut inserted, 30, "0123456789") == Some(Ok(())),
+            _ => reserved.reserve(10).is_ok(),
+        };
+        drop(hoard);
+    }
+    answers
+}
+
+// The C library has blocks of 24 bytes, of 40, of 56 and so on, so a request of 41 bytes would not
+// be granted.
+#[test]
+fn a_promotion_asks_once_and_for_no_more_than_its_size(rt: HostRuntime) {
+    let alloc = rt.alloc();
+    assert_eq!(rt; promoted_with_one_block(&rt, alloc, 40), [true; 3]);
+    assert_eq!(rt; promoted_with_one_block(&rt, alloc, 24), [false; 3]);
 }

@@ -1,19 +1,21 @@
-//! Each request for memory refused in turn: these tests pass whichever request of theirs is
-//! refused, and say `refused` where they met the refusal. At most one request of a test is
-//! refused, and `.ci/refusals` says which.
-use inlinable_string::{InlinableString, Storage, StringExt, StringMake};
+//! Each request for memory refused in turn, by `rt try --test --fail-alloc N`, which refuses the
+//! Nth of each test. These tests pass whichever of theirs is refused, and say `refused` where one
+//! was.
+use crate::texts::{HEAP_ROOM, insert_at, insert_str_at};
+use inlinable_string::{InlinableString, InlinableStringN, Storage, StringExt, StringMake};
+use std::alloc::{AllocError, Global};
 use std::process::Abort;
 use std::test::Fail;
 
-/// Counts the refusals that a test meets: a second one is an answer for want of memory where no
-/// request was refused.
+/// Counts the refusals that a test meets. One request is refused at most, so a second refusal is
+/// an answer for want of memory where there was none.
 #[derive(Drop)]
 struct Refusals {
     met: u8,
 }
 
 impl Refusals {
-    fn new() -> Refusals {
+    fn none() -> Refusals {
         Refusals { met: 0 }
     }
 
@@ -23,21 +25,97 @@ impl Refusals {
     }
 }
 
-#[test]
-fn of_a_promotion(rt: HostRuntime) -> Result<(), Fail> {
-    let alloc = rt.alloc();
-    let mut refusals = Refusals::new();
-    let mut text = InlinableString::new(alloc);
-    text.push_str("aaaaaaaaaaaaaaaaaaaaaaaaaaaaaa")?;
-    if text.push_str("bc").is_err() {
-        refusals.meet(&rt);
-        assert_eq!(rt; text.as_str(), "aaaaaaaaaaaaaaaaaaaaaaaaaaaaaa");
-        assert_eq!(rt; text.storage(), Storage::Inline);
-        assert_eq!(rt; text.capacity(), 30);
-        text.push_str("bc")?;
+/// A call that may ask for memory, with what it adds.
+#[derive(Clone, Copy)]
+enum Growth {
+    Push(char),
+    PushStr(&'static str),
+    InsertFirst(char),
+    InsertStrFirst(&'static str),
+    Reserve(usize),
+    ReserveExact(usize),
+}
+
+fn grow<S: StringExt>(text: &mut S, growth: Growth) -> Option<Result<(), AllocError>> {
+    match growth {
+        Growth::Push(ch) => Some(text.push(ch)),
+        Growth::PushStr(string) => Some(text.push_str(string)),
+        Growth::InsertFirst(ch) => insert_at(text, 0, ch),
+        Growth::InsertStrFirst(string) => insert_str_at(text, 0, string),
+        Growth::Reserve(additional) => Some(text.reserve(additional)),
+        Growth::ReserveExact(additional) => Some(text.reserve_exact(additional)),
     }
-    assert_eq!(rt; text.as_str(), "aaaaaaaaaaaaaaaaaaaaaaaaaaaaaabc");
+}
+
+/// An empty text with this room, made again if it is refused.
+fn made<S: StringMake + Drop>(
+    rt: &impl Abort,
+    alloc: Global,
+    refusals: &mut Refusals,
+    room: usize,
+) -> S {
+    match S::with_capacity(alloc, room) {
+        Ok(text) => text,
+        Err(AllocError) => {
+            refusals.meet(rt);
+            S::with_capacity(alloc, room).expect(rt, "one request is refused at most")
+        }
+    }
+}
+
+/// Grows a text that fills its room, again if it is refused; after a refusal it is as before.
+fn assert_grown<S: StringMake + Drop>(
+    rt: &impl Abort,
+    alloc: Global,
+    refusals: &mut Refusals,
+    (room, content, storage): (usize, &str, Storage),
+    (growth, front, back): (Growth, &str, &str),
+) {
+    let mut text: S = made(rt, alloc, refusals, room);
+    text.push_str(content).expect(rt, "the room was asked for");
+    let capacity = text.capacity();
+    let mut answer = grow(&mut text, growth);
+    if answer != Some(Ok(())) {
+        refusals.meet(rt);
+        assert_eq!(rt; text.as_str(), content);
+        assert_eq!(rt; text.storage(), storage);
+        assert_eq!(rt; text.capacity(), capacity);
+        answer = grow(&mut text, growth);
+    }
+    assert_eq!(rt; answer, Some(Ok(())));
+    let grown = text.as_str().strip_prefix(front);
+    let middle = grown.and_then(|rest| rest.strip_suffix(back));
+    assert_eq!(rt; middle, Some(content));
     assert_eq!(rt; text.storage(), Storage::Heap);
+}
+
+const FULL: &str = "aaaaaaaaaaaaaaaaaaaaaaaaaaaaaa";
+
+const OVER: &str = "aaaaaaaaaaaaaaaaaaaaaaaaaaaaaaa";
+
+/// Each growth, and what it puts before the text and after it.
+const GROWTHS: [(Growth, &str, &str); 4] = [
+    (Growth::Push('é'), "", "é"),
+    (Growth::PushStr("bc"), "", "bc"),
+    (Growth::InsertFirst('é'), "é", ""),
+    (Growth::InsertStrFirst("bc"), "bc", ""),
+];
+
+const RESERVATIONS: [(Growth, &str, &str); 2] = [
+    (Growth::Reserve(100), "", ""),
+    (Growth::ReserveExact(100), "", ""),
+];
+
+#[test]
+fn a_refused_promotion_leaves_the_text_inline(rt: HostRuntime) -> Result<(), Fail> {
+    let alloc = rt.alloc();
+    let mut refusals = Refusals::none();
+    let inline = (0, FULL, Storage::Inline);
+    for growth in GROWTHS.into_iter().chain(RESERVATIONS) {
+        assert_grown::<InlinableString>(&rt, alloc, &mut refusals, inline, growth);
+    }
+    let none = (0, "", Storage::Inline);
+    assert_grown::<InlinableStringN<0>>(&rt, alloc, &mut refusals, none, GROWTHS[0]);
     if refusals.met > 0 {
         println!(rt; "refused")?;
     }
@@ -45,16 +123,60 @@ fn of_a_promotion(rt: HostRuntime) -> Result<(), Fail> {
 }
 
 #[test]
-fn of_a_push_to_a_string(rt: HostRuntime) -> Result<(), Fail> {
+fn a_refused_growth_on_the_heap_leaves_the_text(rt: HostRuntime) -> Result<(), Fail> {
     let alloc = rt.alloc();
-    let mut refusals = Refusals::new();
-    let mut text = <String as StringMake>::new(alloc);
-    if StringExt::push_str(&mut text, "hello").is_err() {
-        refusals.meet(&rt);
-        assert!(rt; StringExt::is_empty(&text));
-        StringExt::push_str(&mut text, "hello")?;
+    let mut refusals = Refusals::none();
+    let heap = (HEAP_ROOM, OVER, Storage::Heap);
+    for growth in GROWTHS {
+        assert_grown::<InlinableString>(&rt, alloc, &mut refusals, heap, growth);
     }
-    assert_eq!(rt; text.as_str(), "hello");
+    if refusals.met > 0 {
+        println!(rt; "refused")?;
+    }
+    Ok(())
+}
+
+#[test]
+fn a_refused_growth_of_a_string_leaves_the_text(rt: HostRuntime) -> Result<(), Fail> {
+    let alloc = rt.alloc();
+    let mut refusals = Refusals::none();
+    let heap = (HEAP_ROOM, OVER, Storage::Heap);
+    for growth in GROWTHS {
+        assert_grown::<String>(&rt, alloc, &mut refusals, heap, growth);
+    }
+    if refusals.met > 0 {
+        println!(rt; "refused")?;
+    }
+    Ok(())
+}
+
+#[test]
+fn a_refused_reservation_on_the_heap_leaves_the_text(rt: HostRuntime) -> Result<(), Fail> {
+    let alloc = rt.alloc();
+    let mut refusals = Refusals::none();
+    let heap = (HEAP_ROOM, OVER, Storage::Heap);
+    for growth in RESERVATIONS {
+        assert_grown::<InlinableString>(&rt, alloc, &mut refusals, heap, growth);
+        assert_grown::<String>(&rt, alloc, &mut refusals, heap, growth);
+    }
+    if refusals.met > 0 {
+        println!(rt; "refused")?;
+    }
+    Ok(())
+}
+
+#[test]
+fn a_text_is_made_on_the_heap_once_memory_is_there(rt: HostRuntime) -> Result<(), Fail> {
+    let alloc = rt.alloc();
+    let mut refusals = Refusals::none();
+    let inlinable: InlinableString = made(&rt, alloc, &mut refusals, HEAP_ROOM);
+    assert_eq!(rt; inlinable.storage(), Storage::Heap);
+    assert!(rt; inlinable.is_empty());
+    let string: String = made(&rt, alloc, &mut refusals, HEAP_ROOM);
+    assert!(rt; StringExt::capacity(&string) >= HEAP_ROOM);
+    let mut inline: InlinableString = made(&rt, alloc, &mut refusals, 30);
+    assert!(rt; inline.push_str(FULL).is_ok());
+    assert_eq!(rt; inline.storage(), Storage::Inline);
     if refusals.met > 0 {
         println!(rt; "refused")?;
     }

@@ -2,13 +2,40 @@
 ghost use Rattle.inlinable_string.specs.Values.{heap_policy, string_state};
 
 use super::{Storage, StringExt, StringMake};
+use crate::inline_string::ReplaceError;
 use std::alloc::{AllocError, Global};
+use std::str;
 
 impl StringExt for String {
     ghost state = { string_state };
 
+    fn push(&mut self, ch: char) -> Result<(), AllocError> {
+        self.push(ch)
+    }
+
     fn push_str(&mut self, string: &str) -> Result<(), AllocError> {
         self.push_str(string)
+    }
+
+    fn insert(&mut self, idx: usize, ch: char) -> Result<(), AllocError> {
+        self.insert(idx, ch)
+    }
+
+    fn insert_str(&mut self, idx: usize, string: &str) -> Result<(), AllocError> {
+        self.insert_str(idx, string)
+    }
+
+    fn reserve(&mut self, additional: usize) -> Result<(), AllocError> {
+        self.reserve(additional)
+    }
+
+    fn reserve_exact(&mut self, additional: usize) -> Result<(), AllocError> {
+        self.reserve_exact(additional)
+    }
+
+    fn shrink_to_fit(&mut self) -> Result<(), AllocError> {
+        self.shrink_to_fit();
+        Ok(())
     }
 
     fn truncate(&mut self, new_len: usize) {
@@ -17,6 +44,23 @@ impl StringExt for String {
 
     fn pop(&mut self) -> Option<char> {
         self.pop()
+    }
+
+    fn remove(&mut self, idx: usize) -> char {
+        self.remove(idx)
+    }
+
+    // The room of the old bytes is kept, and is that of the new ones.
+    fn replace_bytes(&mut self, bytes: &[u8]) -> Result<(), ReplaceError> {
+        if bytes.len() != self.len() {
+            return Err(ReplaceError::WrongLength);
+        }
+        let Ok(string) = str::from_utf8(bytes) else {
+            return Err(ReplaceError::NotUtf8);
+        };
+        self.clear();
+        let _ = self.push_str(string);
+        Ok(())
     }
 
     fn capacity(&self) -> usize {
@@ -45,5 +89,9 @@ impl StringMake for String {
 
     fn new(alloc: Global) -> Self {
         String::new(alloc)
+    }
+
+    fn with_capacity(alloc: Global, capacity: usize) -> Result<Self, AllocError> {
+        String::with_capacity(alloc, capacity)
     }
 }

@@ -1,0 +1,12 @@
+use Rattle.std.proofs.Common.{arith}
+use Rattle.std.proofs.lemmas.Result.{on_ok_weaker, on_err_weaker}
+use Rattle.inlinable_string.proofs.Text.{kept}
+use Rattle.inlinable_string.proofs.inlinable_string.InlinableStringNStringExt.reserve_exact.Goals as goal
+
+pub returns-else-additional-len-clause-text : goal.returns-else-additional-len-clause-text
+returns-else-additional-len-clause-text g c = rw c.in-Inline.is (kept c.promote.result _ _ _ c.promote.ensures.text (on_err_weaker c.promote.result (λ same. same.text) c.promote.ensures.err))
+
+pub returns-else-additional-len-clause-room : goal.returns-else-additional-len-clause-room
+returns-else-additional-len-clause-room g c =
+    let same = kept c.promote.result _ _ _ c.promote.ensures.text (on_err_weaker c.promote.result (λ same. same.text) c.promote.ensures.err) in
+    on_ok_weaker c.promote.result (λ room. rw same (omega (arith, room))) c.promote.ensures.room

@@ -1,0 +1,15 @@
+use Rattle.std.proofs.Common.{◌≡◌, ◌++◌, refl, subst, OnOk}
+use Rattle.std.specs.Str.{chars}
+use Rattle.std.specs.String.{string_bytes}
+use Rattle.std.proofs.lemmas.Str.{IsUtf8-string_bytes, IsUtf8-encode}
+use Rattle.inlinable_string.proofs.Text.{pushed-chars, size-string}
+use Rattle.inlinable_string.proofs.Window.{chars_one, size_one}
+use Rattle.inlinable_string.proofs.string_ext.std_string.StringStringExt.push.Goals as goal
+
+pub returns-clause-text : goal.returns-clause-text
+returns-clause-text c =
+    subst (λ x. OnOk c.push.result (chars (string_bytes c.push.new.self) ≡ chars (string_bytes c.args.self.now) ++ x)) (chars_one c.args.ch _ (IsUtf8-encode c.args.ch c.ranges.ch.0) refl)
+    (pushed-chars _ _ _ _ (IsUtf8-string_bytes c.args.self.now) c.push.ensures.bytes)
+
+pub returns-clause-granted : goal.returns-clause-granted
+returns-clause-granted c h = c.push.ensures.succeeds (rw (size-string, ← size_one) at h)

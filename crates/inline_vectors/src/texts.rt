@@ -1,0 +1,95 @@
+//! What the tests share: texts with a given content, what is seen of a text, and the calls at a
+//! place, which here may be none.
+use inlinable_string::{Storage, StringExt, StringMake};
+use std::alloc::{AllocError, Global};
+use std::process::Abort;
+
+/// Room that no text has inline: a text that is made with so much lies on the heap.
+pub const HEAP_ROOM: usize = 31;
+
+/// 53 and 54 bytes with one byte 0x0A and 24 spaces between them, as in the tests of the crate.
+pub const LONG: &str = "this is a really long string that is much larger than
+                        INLINE_STRING_CAPACITY and so cannot be stored inline.";
+
+/// The text with this content, made with room for `room` bytes, or new where that is 0.
+pub fn text_of<S: StringMake + Drop>(
+    rt: &impl Abort,
+    alloc: Global,
+    room: usize,
+    content: &str,
+) -> S {
+    let mut text = S::new(alloc);
+    if room > 0 {
+        text = S::with_capacity(alloc, room).expect(rt, "memory");
+    }
+    text.push_str(content).expect(rt, "memory");
+    text
+}
+
+/// The text of so many letters 'a', made as by `text_of`.
+pub fn letters<S: StringMake + Drop>(
+    rt: &impl Abort,
+    alloc: Global,
+    room: usize,
+    count: usize,
+) -> S {
+    let mut text: S = text_of(rt, alloc, room, "");
+    for _ in 0..count {
+        text.push('a').expect(rt, "memory");
+    }
+    text
+}
+
+/// Asserts what the text is and where it lies, by all calls that look at it.
+pub fn assert_text<S: StringExt>(rt: &impl Abort, text: &S, content: &str, storage: Storage) {
+    assert_eq!(rt; text.as_str(), content);
+    assert_eq!(rt; text.as_bytes(), content.as_bytes());
+    assert_eq!(rt; text.len(), content.len());
+    assert_eq!(rt; text.is_empty(), content.is_empty());
+    assert_eq!(rt; text.storage(), storage, "at {content}");
+    assert!(rt; text.capacity() >= content.len());
+}
+
+/// Puts a character in; `None` where `idx` is no place of the text.
+pub fn insert_at<S: StringExt>(
+    text: &mut S,
+    idx: usize,
+    ch: char,
+) -> Option<Result<(), AllocError>> {
+    if text.as_str().is_char_boundary(idx) {
+        Some(text.insert(idx, ch))
+    } else {
+        None
+    }
+}
+
+/// Puts a text in; `None` where `idx` is no place of the text.
+pub fn insert_str_at<S: StringExt>(
+    text: &mut S,
+    idx: usize,
+    string: &str,
+) -> Option<Result<(), AllocError>> {
+    if text.as_str().is_char_boundary(idx) {
+        Some(text.insert_str(idx, string))
+    } else {
+        None
+    }
+}
+
+/// Cuts the text; `false` where `new_len` is no place of it.
+pub fn truncate_at<S: StringExt>(text: &mut S, new_len: usize) -> bool {
+    let is_place = text.as_str().is_char_boundary(new_len);
+    if is_place {
+        text.truncate(new_len);
+    }
+    is_place
+}
+
+/// Takes the character out that begins at `idx`; `None` where none does.
+pub fn remove_at<S: StringExt>(text: &mut S, idx: usize) -> Option<char> {
+    if text.as_str().is_char_boundary(idx) && idx < text.len() {
+        Some(text.remove(idx))
+    } else {
+        None
+    }
+}
