@@ -1,7 +1,15 @@
 pub mod Text
 pub mod Cut
+pub mod Edits
 pub mod Shift
 pub mod Window
 pub mod Lawful
 pub mod Steps
 pub mod Runs
+pub mod Each
+pub mod Joined
+pub mod Turns
+pub mod Determined
+pub mod Free
+pub mod Followed
+pub mod Places

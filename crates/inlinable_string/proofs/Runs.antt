@@ -4,7 +4,7 @@ use Rattle.std.proofs.lemmas.List.{take_more, take_more_set, length-take-le, tak
 use Rattle.inlinable_string.specs.Text.{size}
 use Rattle.inlinable_string.specs.State.{TextState, IsLawful}
 use Rattle.inlinable_string.specs.Edit.{text_after}
-use Rattle.inlinable_string.specs.Run.{state_after, state_after_step, storage_after, credit_after, IsLegal, LegalReplies}
+use Rattle.inlinable_string.specs.Run.{state_after, state_after_step, IsLegal, LegalReplies, IsRun}
 use Rattle.inlinable_string.specs.Step.{Covers, IsStep}
 use Rattle.inlinable_string.specs.declared.run.Command.{Command}
 use Rattle.inlinable_string.specs.declared.run.Reply.{Reply}
@@ -29,12 +29,12 @@ legal_more s (x ∷ cs) [] c r h a = absurd h
 legal_more s (x ∷ cs) (y ∷ rs) c r h a = (h.0, legal_more (state_after_step s x y) cs rs c r h.1 a)
 
 -- the state follows the text and keeps the policy
-text_of : (s : TextState) (cs : List Command) (rs : List Reply) → (state_after s cs rs).text ≡ text_after s.text cs rs
+pub text_of : (s : TextState) (cs : List Command) (rs : List Reply) → (state_after s cs rs).text ≡ text_after s.text cs rs
 text_of s [] rs = refl
 text_of s (x ∷ cs) [] = refl
 text_of s (x ∷ cs) (y ∷ rs) = text_of (state_after_step s x y) cs rs
 
-policy_of : (s : TextState) (cs : List Command) (rs : List Reply) → (state_after s cs rs).policy ≡ s.policy
+pub policy_of : (s : TextState) (cs : List Command) (rs : List Reply) → (state_after s cs rs).policy ≡ s.policy
 policy_of s [] rs = refl
 policy_of s (x ∷ cs) [] = refl
 policy_of s (x ∷ cs) (y ∷ rs) = policy_of (state_after_step s x y) cs rs
@@ -70,14 +70,6 @@ ran_more old mid new cs rs i d r long lt laws ran step =
       legal = legal_more old (take i cs) (take i rs) c r ran.legal legal;
       next = rw (state_more old (take i cs) (take i rs) c r same) next;
     })
-
--- a run of a value
-pub record IsRun (old : TextState) (commands : List Command) (replies : List Reply) (new : TextState) : Type 0 where
-  pub text : new.text ≡ text_after old.text commands replies
-  pub storage : new.storage ≡ storage_after old commands replies
-  pub legal : LegalReplies old commands replies
-  pub credit : size new.text + credit_after old commands replies ≤ new.capacity
-  pub policy : new.policy ≡ old.policy
 
 -- the end of a run
 pub run_whole : (old new : TextState) (cs : List Command) (rs : List Reply) (i : ℕ) → length rs ≡ length cs → length cs ≤ i → IsLawful old

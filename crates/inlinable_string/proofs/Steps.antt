@@ -1,75 +1,183 @@
 -- One step of a value, by its command and its reply.
-use Rattle.std.proofs.Common.{◌≡◌, ℕ, ◌+◌, ◌≤◌, inl, inr, true, false, List, [], ◌∷◌, ◌++◌, length, refl, sym, ap, ◌∙◌, arith, Bor, Some, None}
+use Rattle.std.proofs.Common.{◌≡◌, ℕ, ◌+◌, ◌-◌, ◌≤◌, inl, inr, true, false, List, [], ◌∷◌, ◌++◌, length, refl, sym, ap, ◌∙◌, arith, Bor, Some}
+use Rattle.std.proofs.lemmas.Str.{chars_from_encodes}
 use Rattle.std.specs.Str.{chars, IsUtf8}
-use Rattle.inlinable_string.specs.Text.{size, IsCut, IsPlace, cut}
-use Rattle.inlinable_string.specs.State.{TextState, IsLawful, IsSameText, HasRoom, HasInlineRoom, storage_with_room}
-use Rattle.inlinable_string.specs.Edit.{truncated, last_off, popped}
+use Rattle.inlinable_string.specs.Text.{bytes_of, size, IsCut, IsPlace, IsSplice, IsRemoval, cut}
+use Rattle.inlinable_string.specs.State.{TextState, IsLawful, IsSameText, HasInlineRoom, storage_with_room}
+use Rattle.inlinable_string.specs.Edit.{edit, text_after_step, spliced, truncated, removed}
+use Rattle.inlinable_string.specs.Run.{need_of, storage_after_step, credit_after_step, AsksMemory, IsMet, IsCounted}
 use Rattle.inlinable_string.specs.Step.{IsStep}
-use Rattle.inlinable_string.specs.declared.run.Command.TheVariants.{PushStr, Truncate, Pop}
-use Rattle.inlinable_string.specs.declared.run.Reply.TheVariants.{Done, Char, BadPlace, NoMemory}
-use Rattle.inlinable_string.proofs.Text.{size-append, size-chars}
-use Rattle.inlinable_string.proofs.Cut.{cut_is, no_cut, last_off-append}
+use Rattle.inlinable_string.specs.declared.run.Command.{Command}
+use Rattle.inlinable_string.specs.declared.run.Command.TheVariants.{Push, PushStr, Insert, InsertStr, Truncate, Pop, Remove, ReplaceBytes}
+use Rattle.inlinable_string.specs.declared.run.Reply.{Reply}
+use Rattle.inlinable_string.specs.declared.run.Reply.TheVariants.{Done, Char, BadPlace, NotUtf8, NoMemory}
+use Rattle.inlinable_string.proofs.Text.{size-append, size-chars, nil_from_size}
+use Rattle.inlinable_string.proofs.Cut.{cut_is, no_cut}
+use Rattle.inlinable_string.proofs.Edits.{spliced_is, popped_is, removed_is, replaced_is, not_utf8}
 
 clash : false ≡ true → ⊥
 clash e = cc
 
-size-pushed : (t bs : List ℕ) → IsUtf8 bs → size (t ++ chars bs) ≡ size t + length bs
-size-pushed t bs u = size-append t (chars bs) ∙ ap (λ n. size t + n) (size-chars bs u)
+-- a command that was answered as `edit` says, after which no credit is certain
+answered : (old new : TextState) (command : Command) (reply : Reply) → IsLawful new
+    → reply ≡ (edit old.text command).0 → new.text ≡ text_after_step old.text command reply
+    → ((n : ℕ) → new.storage ≡ storage_after_step (record old { capacity = n }) command reply)
+    → ((n : ℕ) → IsCounted (record old { capacity = n }) (need_of command) reply)
+    → ((k : ℕ) → credit_after_step k command reply ≡ 0) → new.policy ≡ old.policy → IsStep old command reply new
+answered old new command reply laws answer text storage counted none policy = record {
+  legal = λ n fits most. record { answer = inl answer; counted = counted n };
+  next = λ n fits most. record {
+    text = text;
+    storage = storage n;
+    room = omega (arith, ap size text, laws.within, none (n - size old.text));
+    policy = policy;
+  };
+}
 
-pub push_done : (old new : TextState) (string : Bor (List ℕ)) → IsUtf8 string.now → IsLawful new
-    → new.text ≡ old.text ++ chars string.now → new.storage ≡ storage_with_room old (length string.now)
-    → old.capacity ≤ new.capacity → new.policy ≡ old.policy → IsStep old (PushStr string) Done new
-push_done old new string u laws text at more policy =
-    let long : size (old.text ++ chars string.now) ≡ size old.text + length string.now = size-pushed old.text string.now u in
-    let within : size (old.text ++ chars string.now) ≤ new.capacity = rw text at laws.within in
-    record {
-      legal = λ n fits most. record { answer = inl refl };
-      next = λ n fits most. record { text = text; storage = at; room = omega (arith, long, within, more, fits, most); policy = policy };
-    }
+-- a command that memory was refused to
+refused : (old new : TextState) (command : Command) → IsLawful new → IsSameText old new → AsksMemory old.text command
+    → ((n : ℕ) → size old.text ≤ n → n ≤ old.capacity → ¬ (IsMet (record old { capacity = n }) (need_of command)))
+    → ((n : ℕ) → IsCounted (record old { capacity = n }) (need_of command) NoMemory) → new.policy ≡ old.policy
+    → IsStep old command NoMemory new
+refused old new command laws same asks unmet counted policy = record {
+  legal = λ n fits most. record {
+    answer = inr (refl, λ free. elim free [ inl none ↦ none asks | inr met ↦ unmet n fits most met ]);
+    counted = counted n;
+  };
+  next = λ n fits most. record {
+    text = same.text;
+    storage = same.storage;
+    room = omega (arith, ap size same.text, laws.within);
+    policy = policy;
+  };
+}
 
-pub push_refused : (old new : TextState) (string : Bor (List ℕ)) → IsLawful new → IsSameText old new
-    → (HasRoom old (length string.now) → false ≡ true) → (HasInlineRoom old (length string.now) → false ≡ true)
-    → new.policy ≡ old.policy → IsStep old (PushStr string) NoMemory new
-push_refused old new string laws same full out policy =
-    let within : size old.text ≤ new.capacity = rw same.text at laws.within in
-    record {
-      legal = λ n fits most. record {
-        answer = inr (
-          refl,
-          λ free. elim free [
-            | inl none ↦ none ((λ e. cc), refl)
-            | inr room ↦ elim room [ inl inside ↦ clash (out inside) | inr short ↦ clash (full (omega (arith, short, fits, most))) ]
-          ],
-        );
+-- a command at a bad place
+misplaced : (old : TextState) (command : Command) → edit old.text command ≡ (BadPlace, old.text)
+    → ((n : ℕ) → IsCounted (record old { capacity = n }) (need_of command) BadPlace) → IsStep old command BadPlace old
+misplaced old command is counted =
+    let kept : (edit old.text command).1 ≡ old.text = ap (λ e. e.1) is in record {
+      legal = λ n fits most. record { answer = inl (sym (ap (λ e. e.0) is)); counted = counted n };
+      next = λ n fits most. record {
+        text = sym kept;
+        storage = refl;
+        room = omega (arith, ap size kept, fits, most);
+        policy = refl;
       };
-      next = λ n fits most. record { text = same.text; storage = same.storage; room = omega (arith, within); policy = policy };
     }
+
+-- what pushes have left of a credit
+left : (t u : List ℕ) (a n old new : ℕ) → size u ≡ a → size (t ++ u) ≤ new → n ≤ old → old ≤ new → size (t ++ u) + (n - size t - a) ≤ new
+left t u a n old new width within most more = omega (arith, size-append t u, width, within, most, more)
+
+pushed : (old new : TextState) (command : Command) (u : List ℕ) (a : ℕ) → IsLawful new → size u ≡ a → edit old.text command ≡ (Done, old.text ++ u)
+    → ((k : ℕ) → credit_after_step k command Done ≡ k - a)
+    → ((n : ℕ) → IsCounted (record old { capacity = n }) (need_of command) Done)
+    → new.text ≡ old.text ++ u → ((n : ℕ) → new.storage ≡ storage_after_step (record old { capacity = n }) command Done)
+    → old.capacity ≤ new.capacity → new.policy ≡ old.policy → IsStep old command Done new
+pushed old new command u a laws width is credit counted text storage more policy =
+    let kept : (edit old.text command).1 ≡ old.text ++ u = ap (λ e. e.1) is in
+    let within : size (old.text ++ u) ≤ new.capacity = rw text at laws.within in record {
+      legal = λ n fits most. record { answer = inl (sym (ap (λ e. e.0) is)); counted = counted n };
+      next = λ n fits most. record {
+        text = text ∙ sym kept;
+        storage = storage n;
+        room = omega (arith, ap size kept, credit (n - size old.text), left old.text u a n old.capacity new.capacity width within most more);
+        policy = policy;
+      };
+    }
+
+pub push_done : (old new : TextState) (c : ℕ) → IsLawful new → new.text ≡ old.text ++ c ∷ [] → new.storage ≡ storage_with_room old (size (c ∷ []))
+    → old.capacity ≤ new.capacity → new.policy ≡ old.policy → IsStep old (Push c) Done new
+push_done old new c laws text storage more policy =
+    pushed old new (Push c) (c ∷ []) (size (c ∷ [])) laws refl refl (λ k. refl) (λ n. tt) text (λ n. storage) more policy
+
+pub push_str_done : (old new : TextState) (string : Bor (List ℕ)) → IsUtf8 string.now → IsLawful new → new.text ≡ old.text ++ chars string.now
+    → new.storage ≡ storage_with_room old (length string.now) → old.capacity ≤ new.capacity → new.policy ≡ old.policy → IsStep old (PushStr string) Done new
+push_str_done old new string u laws text storage more policy =
+    pushed old new (PushStr string) (chars string.now) (length string.now) laws (size-chars string.now u) refl (λ k. refl) (λ n. tt) text (λ n. storage) more policy
+
+-- insertions
+
+-- a place has its parts, so an insertion there is carried out
+spliced_done : (t u : List ℕ) (p : ℕ) → IsPlace t p → (spliced t u (cut t p)).0 ≡ Done
+spliced_done t u p at = ap (λ o. (spliced t u o).0) (cut_is t p at.0 at.1 at.2)
+
+no_splice : (t u : List ℕ) (p : ℕ) → (IsPlace t p → ⊥) → spliced t u (cut t p) ≡ (BadPlace, t)
+no_splice t u p none = ap (spliced t u) (no_cut t p none)
+
+pub insert_done : (old new : TextState) (p c : ℕ) → IsLawful new → IsSplice old.text p (c ∷ []) new.text
+    → new.storage ≡ storage_with_room old (size (c ∷ [])) → new.policy ≡ old.policy → IsStep old (Insert p c) Done new
+insert_done old new p c laws s storage policy =
+    let is = spliced_is old.text (c ∷ []) new.text p s in
+    answered old new (Insert p c) Done laws (sym (ap (λ e. e.0) is)) (sym (ap (λ e. e.1) is)) (λ n. storage) (λ n. tt) (λ k. refl) policy
+
+pub insert_refused : (old new : TextState) (p c : ℕ) → IsLawful new → IsPlace old.text p → IsSameText old new
+    → (HasInlineRoom old (size (c ∷ [])) → false ≡ true) → new.policy ≡ old.policy → IsStep old (Insert p c) NoMemory new
+insert_refused old new p c laws at same out policy =
+    refused old new (Insert p c) laws same ((λ e. cc), spliced_done old.text (c ∷ []) p at) (λ n fits most met. clash (out met)) (λ n. tt) policy
+
+pub insert_misplaced : (old : TextState) (p c : ℕ) → (IsPlace old.text p → ⊥) → IsStep old (Insert p c) BadPlace old
+insert_misplaced old p c none = misplaced old (Insert p c) (no_splice old.text (c ∷ []) p none) (λ n. tt)
+
+pub insert_str_done : (old new : TextState) (p : ℕ) (string : Bor (List ℕ)) → IsLawful new → IsSplice old.text p (chars string.now) new.text
+    → new.storage ≡ storage_with_room old (length string.now) → new.policy ≡ old.policy → IsStep old (InsertStr p string) Done new
+insert_str_done old new p string laws s storage policy =
+    let is = spliced_is old.text (chars string.now) new.text p s in
+    answered old new (InsertStr p string) Done laws (sym (ap (λ e. e.0) is)) (sym (ap (λ e. e.1) is)) (λ n. storage) (λ n. tt) (λ k. refl) policy
+
+pub insert_str_refused : (old new : TextState) (p : ℕ) (string : Bor (List ℕ)) → IsLawful new → IsPlace old.text p → IsSameText old new
+    → (HasInlineRoom old (length string.now) → false ≡ true) → new.policy ≡ old.policy → IsStep old (InsertStr p string) NoMemory new
+insert_str_refused old new p string laws at same out policy =
+    refused old new (InsertStr p string) laws same ((λ e. cc), spliced_done old.text (chars string.now) p at) (λ n fits most met. clash (out met)) (λ n. tt) policy
+
+pub insert_str_misplaced : (old : TextState) (p : ℕ) (string : Bor (List ℕ)) → (IsPlace old.text p → ⊥) → IsStep old (InsertStr p string) BadPlace old
+insert_str_misplaced old p string none = misplaced old (InsertStr p string) (no_splice old.text (chars string.now) p none) (λ n. tt)
+
+-- cuts
 
 pub truncate_done : (old new : TextState) (rest : List ℕ) (p : ℕ) → IsLawful new → IsCut old.text p new.text rest
     → new.storage ≡ old.storage → new.policy ≡ old.policy → IsStep old (Truncate p) Done new
 truncate_done old new rest p laws at storage policy =
-    let is : cut old.text p ≡ Some (new.text, rest) = cut_is old.text p new.text rest at in
-    let kept : (truncated old.text (cut old.text p)).1 ≡ new.text = ap (λ o. (truncated old.text o).1) is in
-    record {
-      legal = λ n fits most. record { answer = inl (sym (ap (λ o. (truncated old.text o).0) is)) };
-      next = λ n fits most. record { text = sym kept; storage = storage; room = omega (arith, ap size kept, laws.within); policy = policy };
-    }
+    let is : truncated old.text (cut old.text p) ≡ (Done, new.text) = ap (truncated old.text) (cut_is old.text p new.text rest at) in
+    answered old new (Truncate p) Done laws (sym (ap (λ e. e.0) is)) (sym (ap (λ e. e.1) is)) (λ n. storage) (λ n. tt) (λ k. refl) policy
 
-pub bad_place : (old : TextState) (p : ℕ) → (IsPlace old.text p → ⊥) → IsStep old (Truncate p) BadPlace old
-bad_place old p none =
-    let is : cut old.text p ≡ None = no_cut old.text p none in
-    let kept : (truncated old.text (cut old.text p)).1 ≡ old.text = ap (λ o. (truncated old.text o).1) is in
-    record {
-      legal = λ n fits most. record { answer = inl (sym (ap (λ o. (truncated old.text o).0) is)) };
-      next = λ n fits most. record { text = sym kept; storage = refl; room = omega (arith, ap size kept, fits, most); policy = refl };
-    }
+pub truncate_misplaced : (old : TextState) (p : ℕ) → (IsPlace old.text p → ⊥) → IsStep old (Truncate p) BadPlace old
+truncate_misplaced old p none = misplaced old (Truncate p) (ap (truncated old.text) (no_cut old.text p none)) (λ n. tt)
 
 pub pop_char : (old new : TextState) (c : ℕ) → IsLawful new → old.text ≡ new.text ++ c ∷ []
     → new.storage ≡ old.storage → new.policy ≡ old.policy → IsStep old Pop (Char c) new
 pop_char old new c laws text storage policy =
-    let is : last_off old.text ≡ Some (new.text, c) = ap last_off text ∙ last_off-append new.text c in
-    let kept : (popped old.text (last_off old.text)).1 ≡ new.text = ap (λ o. (popped old.text o).1) is in
-    record {
-      legal = λ n fits most. record { answer = inl (sym (ap (λ o. (popped old.text o).0) is)) };
-      next = λ n fits most. record { text = sym kept; storage = storage; room = omega (arith, ap size kept, laws.within); policy = policy };
-    }
+    let is = popped_is old.text new.text c text in
+    answered old new Pop (Char c) laws (sym (ap (λ e. e.0) is)) (sym (ap (λ e. e.1) is)) (λ n. storage) (λ n. tt) (λ k. refl) policy
+
+pub remove_char : (old new : TextState) (p c : ℕ) → IsLawful new → IsRemoval old.text p c new.text
+    → new.storage ≡ old.storage → new.policy ≡ old.policy → IsStep old (Remove p) (Char c) new
+remove_char old new p c laws r storage policy =
+    let is = removed_is old.text new.text p c r in
+    answered old new (Remove p) (Char c) laws (sym (ap (λ e. e.0) is)) (sym (ap (λ e. e.1) is)) (λ n. storage) (λ n. tt) (λ k. refl) policy
+
+pub remove_misplaced : (old : TextState) (p : ℕ) → (IsPlace old.text p → ⊥) → IsStep old (Remove p) BadPlace old
+remove_misplaced old p none = misplaced old (Remove p) (ap (removed old.text) (no_cut old.text p none)) (λ n. tt)
+
+-- no character begins at the end
+pub remove_at_end : (old : TextState) (p : ℕ) → IsPlace old.text p → size old.text ≤ p → IsStep old (Remove p) BadPlace old
+remove_at_end old p at past =
+    let none : at.1 ≡ [] = nil_from_size at.1 (omega (arith, ap size at.2.joined, size-append at.0 at.1, at.2.before, past)) in
+    let is : cut old.text p ≡ Some (at.0, []) = cut_is old.text p at.0 at.1 at.2 ∙ ap (λ b. Some (at.0, b)) none in
+    misplaced old (Remove p) (ap (removed old.text) is) (λ n. tt)
+
+-- replacements
+
+pub replace_done : (old new : TextState) (bytes : Bor (List ℕ)) → IsLawful new → bytes_of new.text ≡ bytes.now → length bytes.now ≡ size old.text → IsUtf8 bytes.now
+    → new.storage ≡ old.storage → new.policy ≡ old.policy → IsStep old (ReplaceBytes bytes) Done new
+replace_done old new bytes laws text same u storage policy =
+    let is = replaced_is old.text bytes.now same u in
+    let now : new.text ≡ chars bytes.now = chars_from_encodes new.text bytes.now u text in
+    answered old new (ReplaceBytes bytes) Done laws (sym (ap (λ e. e.0) is)) (now ∙ sym (ap (λ e. e.1) is)) (λ n. storage) (λ n. tt) (λ k. refl) policy
+
+pub replace_not_utf8 : (old new : TextState) (bytes : Bor (List ℕ)) → IsLawful new → IsSameText old new → length bytes.now ≡ size old.text → ¬ (IsUtf8 bytes.now)
+    → new.policy ≡ old.policy → IsStep old (ReplaceBytes bytes) NotUtf8 new
+replace_not_utf8 old new bytes laws same as_many not policy =
+    let is = not_utf8 old.text bytes.now as_many not in
+    answered old new (ReplaceBytes bytes) NotUtf8 laws (sym (ap (λ e. e.0) is)) (same.text ∙ sym (ap (λ e. e.1) is)) (λ n. same.storage) (λ n. tt) (λ k. refl) policy

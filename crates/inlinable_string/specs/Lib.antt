@@ -5,3 +5,4 @@ pub mod Values
 pub mod Edit
 pub mod Run
 pub mod Step
+pub mod Laws

@@ -1,11 +1,11 @@
 -- What a list of commands does to a value, and which replies are legal, whatever memory answers.
-use Rattle.std.specs.Prelude.{◌≡◌, ℕ, ◌+◌, ◌-◌, ◌≤◌, ◌⊎◌, List, [], ◌∷◌, length}
+use Rattle.std.specs.Prelude.{◌≡◌, ℕ, ◌+◌, ◌-◌, ◌≤◌, ◌<◌, ◌^◌, ◌⊎◌, List, [], ◌∷◌, length, take, drop, IsTrue}
 use Rattle.inlinable_string.specs.Text.{size}
-use Rattle.inlinable_string.specs.State.{TextState, HasInlineRoom, storage_with_room}
-use Rattle.inlinable_string.specs.Edit.{edit, text_after_step}
+use Rattle.inlinable_string.specs.State.{TextState, HasInlineRoom, storage_with_room, storage_when_shrunk}
+use Rattle.inlinable_string.specs.Edit.{edit, text_after_step, text_after}
 use Rattle.inlinable_string.specs.declared.string_ext.Storage.{Storage}
 use Rattle.inlinable_string.specs.declared.run.Command.{Command}
-use Rattle.inlinable_string.specs.declared.run.Command.TheVariants.{PushStr, Truncate, Pop}
+use Rattle.inlinable_string.specs.declared.run.Command.TheVariants.{Push, PushStr, Insert, InsertStr, Truncate, Pop, Remove, Clear, ReplaceBytes, Reserve, ReserveExact, ShrinkToFit}
 use Rattle.inlinable_string.specs.declared.run.Reply.{Reply}
 use Rattle.inlinable_string.specs.declared.run.Reply.TheVariants.{Done, BadPlace, NoMemory}
 
@@ -13,16 +13,34 @@ use Rattle.inlinable_string.specs.declared.run.Reply.TheVariants.{Done, BadPlace
 pub data Need : Type 0 where
   -- so many bytes more at the end
   pushes : ℕ → Need
+  -- so many bytes more at any place
+  inserts : ℕ → Need
+  -- room for so many bytes more
+  reserves : ℕ → Need
+  -- no more room than the text has bytes
+  shrinks : Need
   nothing : Need
 
 abbrev pub need_of : Command → Need
+need_of (Push c) = pushes (size (c ∷ []))
 need_of (PushStr u) = pushes (length u.now)
+need_of (Insert p c) = inserts (size (c ∷ []))
+need_of (InsertStr p u) = inserts (length u.now)
 need_of (Truncate p) = nothing
 need_of Pop = nothing
+need_of (Remove p) = nothing
+need_of Clear = nothing
+need_of (ReplaceBytes b) = nothing
+need_of (Reserve n) = reserves n
+need_of (ReserveExact n) = reserves n
+need_of ShrinkToFit = shrinks
 
 -- where the text lies once a need is met
 abbrev pub storage_when_met : TextState → Need → Storage
 storage_when_met s (pushes n) = storage_with_room s n
+storage_when_met s (inserts n) = storage_with_room s n
+storage_when_met s (reserves n) = storage_with_room s n
+storage_when_met s shrinks = storage_when_shrunk s
 storage_when_met s nothing = s.storage
 
 -- where the text lies after a command with its reply
@@ -37,7 +55,8 @@ credit s = s.capacity - size s.text
 -- the same once a need is met, where it was k
 abbrev pub credit_when_met : ℕ → Need → ℕ
 credit_when_met k (pushes n) = k - n
-credit_when_met k nothing = 0
+credit_when_met k (reserves n) = n
+credit_when_met k need = 0
 
 -- the same after a command with its reply
 abbrev pub credit_after_step : ℕ → Command → Reply → ℕ
@@ -75,15 +94,24 @@ AsksMemory t command = ¬ (need_of command ≡ nothing) × ((edit t command).0 �
 -- what is needed is there without any memory
 abbrev pub IsMet : TextState → Need → Type 0
 IsMet s (pushes n) = HasInlineRoom s n ⊎ (n ≤ credit s)
+IsMet s (inserts n) = HasInlineRoom s n
+IsMet s (reserves n) = HasInlineRoom s n
+IsMet s shrinks = IsTrue s.policy.demotes × (size s.text ≤ s.policy.limit)
 IsMet s nothing = Unit {0}
 
 -- the command may not be refused for want of memory
 abbrev pub IsFree : TextState → Command → Type 0
 IsFree s command = ¬ (AsksMemory s.text command) ⊎ IsMet s (need_of command)
 
+-- no room is said to be reserved that a `usize` can't count
+abbrev pub IsCounted : TextState → Need → Reply → Type 0
+IsCounted s (reserves n) Done = size s.text + n < 2 ^ 64
+IsCounted s need reply = Unit {0}
+
 -- the reply is that of `edit`, or want of memory to a command that is not free of it
 pub record IsLegal (s : TextState) (command : Command) (reply : Reply) : Type 0 where
   pub answer : (reply ≡ (edit s.text command).0) ⊎ ((reply ≡ NoMemory) × ¬ (IsFree s command))
+  pub counted : IsCounted s (need_of command) reply
 
 -- there are as many replies as commands, and each is legal in its turn
 abbrev pub LegalReplies : TextState → List Command → List Reply → Type 0
@@ -92,3 +120,23 @@ LegalReplies s (command ∷ commands) (reply ∷ replies) =
     IsLegal s command reply × LegalReplies (state_after_step s command reply) commands replies
 LegalReplies s [] (reply ∷ replies) = ⊥
 LegalReplies s (command ∷ commands) [] = ⊥
+
+-- what a run does to a value: the parts of the contract of `run`
+pub record IsRun
+    (old : TextState) (commands : List Command) (replies : List Reply) (new : TextState)
+    : Type 0 where
+  pub text : new.text ≡ text_after old.text commands replies
+  pub storage : new.storage ≡ storage_after old commands replies
+  pub legal : LegalReplies old commands replies
+  pub credit : size new.text + credit_after old commands replies ≤ new.capacity
+  pub policy : new.policy ≡ old.policy
+
+-- each value has its own run; its replies are as many as the commands, and stand before those of
+-- the next value
+abbrev pub EachRun : List TextState → List Command → List Reply → List TextState → Type 0
+EachRun [] commands replies [] = Unit {0}
+EachRun (old ∷ olds) commands replies (new ∷ news) =
+    IsRun old commands (take (length commands) replies) new
+    × EachRun olds commands (drop (length commands) replies) news
+EachRun [] commands replies (new ∷ news) = ⊥
+EachRun (old ∷ olds) commands replies [] = ⊥

@@ -9,17 +9,51 @@ ghost use Rattle.inlinable_string.specs.Edit.{text_after};
 ghost use Rattle.inlinable_string.specs.Run.{LegalReplies, storage_after, credit_after};
 ghost use Rattle.inlinable_string.specs.Step.{IsStep};
 
+use crate::inline_string::ReplaceError;
 use crate::string_ext::StringExt;
 
-/// What can be asked of a text. A place is a byte offset.
+mod each;
+mod laws;
+mod over_dyn;
+
+pub use each::run_each;
+pub use laws::{
+    a_second_run_goes_on, bad_places_are_no_places, cut_decides_places,
+    each_reply_is_legal_in_its_turn, each_text_has_its_own_run, growths_add_their_bytes,
+    insertions_are_splices, pop_takes_off_the_last_character, refusals_change_nothing,
+    refusals_determine_the_run, remove_is_a_removal, remove_undoes_insert,
+    replacement_has_the_bytes, reserved_pushes_never_fail, runs_join, short_runs_never_ask,
+    truncations_are_cuts,
+};
+pub use over_dyn::run_dyn;
+
+/// What can be asked of a text. A place is a byte offset: of a character's first byte, or the end.
 #[derive(Clone, Copy)]
 pub enum Command<'a> {
+    /// Adds a character at the end.
+    Push(char),
     /// Adds a text at the end.
     PushStr(&'a str),
+    /// Puts a character in at a place.
+    Insert(usize, char),
+    /// Puts a text in at a place.
+    InsertStr(usize, &'a str),
     /// Keeps the text before a place.
     Truncate(usize),
     /// Takes off the last character.
     Pop,
+    /// Takes out the character that begins at a place.
+    Remove(usize),
+    /// Leaves the empty text.
+    Clear,
+    /// Puts bytes in the place of those of the text, as many as it has.
+    ReplaceBytes(&'a [u8]),
+    /// Makes room for so many bytes more.
+    Reserve(usize),
+    /// Makes room for so many bytes more, and for no others where that can be helped.
+    ReserveExact(usize),
+    /// Gives back room that the text does not need.
+    ShrinkToFit,
 }
 
 /// What is answered to a command. Every reply but `Done` and `Char` leaves the text and its
@@ -28,15 +62,88 @@ pub enum Command<'a> {
 pub enum Reply {
     /// The command was carried out.
     Done,
-    /// This character was taken off.
+    /// This character was taken off or out.
     Char(char),
     /// The text was empty, so no character was taken off.
     NoChar,
-    /// The place is inside a character or past the end.
+    /// The place is inside a character or past the end, or no character begins there.
     BadPlace,
+    /// The bytes are as many as those of the text, but are not UTF-8.
+    NotUtf8,
+    /// The bytes are not as many as those of the text.
+    WrongLength,
     /// Memory was refused.
     NoMemory,
 }
+
+/// What a command does to a text, of a type of its own or behind a `dyn`. A place is tested before
+/// anything that can ask for memory.
+macro_rules! obeyed {
+    ($text:ident, $command:ident, $push_str:ident, $insert_str:ident) => {
+        match $command {
+            Command::Push(ch) => match $text.push(ch) {
+                Ok(()) => Reply::Done,
+                Err(_) => Reply::NoMemory,
+            },
+            Command::PushStr(string) => $push_str($text, string),
+            Command::Insert(idx, ch) => {
+                if $text.as_str().is_char_boundary(idx) {
+                    match $text.insert(idx, ch) {
+                        Ok(()) => Reply::Done,
+                        Err(_) => Reply::NoMemory,
+                    }
+                } else {
+                    Reply::BadPlace
+                }
+            }
+            Command::InsertStr(idx, string) => $insert_str($text, idx, string),
+            Command::Truncate(new_len) => {
+                if $text.as_str().is_char_boundary(new_len) {
+                    $text.truncate(new_len);
+                    Reply::Done
+                } else {
+                    Reply::BadPlace
+                }
+            }
+            Command::Pop => match $text.pop() {
+                Some(last) => Reply::Char(last),
+                None => Reply::NoChar,
+            },
+            Command::Remove(idx) => {
+                if !$text.as_str().is_char_boundary(idx) {
+                    Reply::BadPlace
+                } else if idx < $text.len() {
+                    Reply::Char($text.remove(idx))
+                } else {
+                    Reply::BadPlace
+                }
+            }
+            Command::Clear => {
+                $text.clear();
+                Reply::Done
+            }
+            Command::ReplaceBytes(bytes) => match $text.replace_bytes(bytes) {
+                Ok(()) => Reply::Done,
+                Err(ReplaceError::WrongLength) => Reply::WrongLength,
+                Err(ReplaceError::NotUtf8) => Reply::NotUtf8,
+            },
+            Command::Reserve(additional) => match $text.reserve(additional) {
+                Ok(()) => Reply::Done,
+                Err(_) => Reply::NoMemory,
+            },
+            Command::ReserveExact(additional) => match $text.reserve_exact(additional) {
+                Ok(()) => Reply::Done,
+                Err(_) => Reply::NoMemory,
+            },
+            Command::ShrinkToFit => match $text.shrink_to_fit() {
+                Ok(()) => Reply::Done,
+                Err(_) => Reply::NoMemory,
+            },
+        }
+    };
+}
+
+pub(crate) use obeyed;
 
 /// Gives each command in turn to the text, and writes the reply to each, in the same order.
 ///
@@ -81,21 +188,7 @@ fn obey<S: StringExt>(text: &mut S, command: Command) -> Reply
     ensures { IsLawful (S.state text.new)
         → IsStep (S.state text.old) command.entry result (S.state text.new) }
 {
-    match command {
-        Command::PushStr(string) => push_str(text, string),
-        Command::Truncate(new_len) => {
-            if text.as_str().is_char_boundary(new_len) {
-                text.truncate(new_len);
-                Reply::Done
-            } else {
-                Reply::BadPlace
-            }
-        }
-        Command::Pop => match text.pop() {
-            Some(last) => Reply::Char(last),
-            None => Reply::NoChar,
-        },
-    }
+    obeyed!(text, command, push_str, insert_str)
 }
 
 fn push_str<S: StringExt>(text: &mut S, string: &str) -> Reply
@@ -105,5 +198,20 @@ fn push_str<S: StringExt>(text: &mut S, string: &str) -> Reply
     match text.push_str(string) {
         Ok(()) => Reply::Done,
         Err(_) => Reply::NoMemory,
+    }
+}
+
+fn insert_str<S: StringExt>(text: &mut S, idx: usize, string: &str) -> Reply
+    ensures { IsLawful (S.state text.new)
+        → IsStep (S.state text.old) (Command.InsertStr idx string.entry) result
+        (S.state text.new) }
+{
+    if text.as_str().is_char_boundary(idx) {
+        match text.insert_str(idx, string) {
+            Ok(()) => Reply::Done,
+            Err(_) => Reply::NoMemory,
+        }
+    } else {
+        Reply::BadPlace
     }
 }

@@ -17,3 +17,4 @@ IsLine line (PushStr text) = line ≡ codes "push_str " ++ text.now
 IsLine line (Truncate place) =
     (digits : List ℕ) × (line ≡ codes "truncate " ++ digits) × IsPlaceText digits place
 IsLine line Pop = line ≡ codes "pop"
+IsLine line command = ⊥

@@ -4,7 +4,7 @@ use Rattle.std.specs.List.{flat_map}
 use Rattle.inlinable_string.specs.Text.{bytes_of, size}
 use Rattle.inlinable_string.specs.State.{TextState}
 use Rattle.inlinable_string.specs.declared.run.Reply.{Reply}
-use Rattle.inlinable_string.specs.declared.run.Reply.TheVariants.{Done, Char, NoChar, BadPlace, NoMemory}
+use Rattle.inlinable_string.specs.declared.run.Reply.TheVariants.{Done, Char, NoChar, BadPlace, NotUtf8, WrongLength, NoMemory}
 use Rattle.inlinable_string.specs.declared.string_ext.Storage.{Storage}
 use Rattle.inlinable_string.specs.declared.string_ext.Storage.TheVariants.{Inline, Heap}
 
@@ -14,6 +14,8 @@ reply_line Done = codes "done\n"
 reply_line (Char character) = codes "char " ++ encode_utf8 character ++ codes "\n"
 reply_line NoChar = codes "none\n"
 reply_line BadPlace = codes "bad place\n"
+reply_line NotUtf8 = codes "not utf-8\n"
+reply_line WrongLength = codes "wrong length\n"
 reply_line NoMemory = codes "no memory\n"
 
 abbrev pub storage_name : Storage → List ℕ

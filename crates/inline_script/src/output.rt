@@ -42,6 +42,8 @@ fn print_reply<W: Write>(out: &mut W, reply: Reply) -> Result<(), ScriptFault>
         }
         Reply::NoChar => write_whole(out, b"none\n"),
         Reply::BadPlace => write_whole(out, b"bad place\n"),
+        Reply::NotUtf8 => write_whole(out, b"not utf-8\n"),
+        Reply::WrongLength => write_whole(out, b"wrong length\n"),
         Reply::NoMemory => write_whole(out, b"no memory\n"),
     }
 }

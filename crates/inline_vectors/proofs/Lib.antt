@@ -1,4 +1,6 @@
-pub mod Cut
+pub mod Fronts
 pub mod Sizes
 pub mod Follows
-pub mod SixCommands
+pub mod LegalReplies
+pub mod WorkedRuns
+pub mod Replaced

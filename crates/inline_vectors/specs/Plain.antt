@@ -2,10 +2,10 @@
 use Rattle.std.specs.Prelude.{◌+◌}
 use Rattle.inlinable_string.specs.Text.{size}
 use Rattle.inlinable_string.specs.State.{TextState}
-use Rattle.inlinable_string.specs.Run.{Need, pushes, nothing}
+use Rattle.inlinable_string.specs.Run.{Need, pushes, inserts, reserves, shrinks, nothing}
 use Rattle.inline_vectors.specs.declared.plain.room.PlainText.{PlainText}
 use Rattle.inline_vectors.specs.declared.plain.room.Need as plain
-use Rattle.inline_vectors.specs.declared.plain.room.Need.TheVariants.{Pushes, Nothing}
+use Rattle.inline_vectors.specs.declared.plain.room.Need.TheVariants.{Pushes, Inserts, Reserves, Shrinks, Nothing}
 
 -- the state of a plain text; its capacity is the least that is certain
 abbrev pub state_of : PlainText → TextState
@@ -19,4 +19,7 @@ state_of plain = record {
 -- a need, in the words of the definitions
 abbrev pub need_in : plain.Need → Need
 need_in (Pushes n) = pushes n
+need_in (Inserts n) = inserts n
+need_in (Reserves n) = reserves n
+need_in Shrinks = shrinks
 need_in Nothing = nothing

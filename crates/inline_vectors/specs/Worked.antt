@@ -1,12 +1,12 @@
 -- The states and the commands of the worked rows.
-use Rattle.std.specs.Prelude.{ℕ, List, [], ◌∷◌, true}
+use Rattle.std.specs.Prelude.{ℕ, List, [], ◌∷◌, true, false}
 use Rattle.std.specs.Borrow.{Bor}
 use Rattle.inlinable_string.specs.State.{TextState}
 use Rattle.inlinable_string.specs.declared.string_ext.Storage.TheVariants.{Inline, Heap}
 use Rattle.inlinable_string.specs.declared.run.Command.{Command}
-use Rattle.inlinable_string.specs.declared.run.Command.TheVariants.{PushStr, Truncate, Pop}
+use Rattle.inlinable_string.specs.declared.run.Command.TheVariants.{PushStr, Insert, Truncate, Pop, Remove, Reserve}
 use Rattle.inlinable_string.specs.declared.run.Reply.{Reply}
-use Rattle.inlinable_string.specs.declared.run.Reply.TheVariants.{Done, Char, BadPlace}
+use Rattle.inlinable_string.specs.declared.run.Reply.TheVariants.{Done, Char, BadPlace, NoMemory}
 
 -- a text that lies inline, in room for so many bytes
 abbrev pub inline_text : List ℕ → ℕ → TextState
@@ -26,6 +26,15 @@ heap_text t n = record {
   policy = record { demotes = true; limit = 30 };
 }
 
+-- a text on the heap, in room for so many bytes, that is never brought back from it
+abbrev pub heap_only_text : List ℕ → ℕ → TextState
+heap_only_text t n = record {
+  text = t;
+  storage = Heap;
+  capacity = n;
+  policy = record { demotes = false; limit = 30 };
+}
+
 -- three texts put at the end, two places cut at, and the last character taken off
 abbrev pub six_commands : Bor (List ℕ) → Bor (List ℕ) → Bor (List ℕ) → List Command
 six_commands first second third =
@@ -34,3 +43,11 @@ six_commands first second third =
 -- the replies to them, of which the third is given
 abbrev pub six_replies : Reply → List Reply
 six_replies third = Done ∷ Done ∷ third ∷ BadPlace ∷ Done ∷ Char 97 ∷ []
+
+-- room asked for, € put in at 1 and taken out from two places, and room asked for again
+abbrev pub room_commands : List Command
+room_commands = Reserve 28 ∷ Insert 1 8364 ∷ Remove 2 ∷ Remove 1 ∷ Reserve 27 ∷ []
+
+-- the replies to them, where memory is refused to the first
+abbrev pub room_replies : List Reply
+room_replies = NoMemory ∷ Done ∷ BadPlace ∷ Char 8364 ∷ Done ∷ []

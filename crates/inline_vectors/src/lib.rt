@@ -30,5 +30,7 @@ mod room;
 #[cfg(test)]
 mod runs;
 #[cfg(test)]
+mod stored;
+#[cfg(test)]
 mod texts;
 pub mod worked;

@@ -14,7 +14,7 @@ use std::alloc::{AllocError, Global};
 pub mod room;
 pub mod text;
 
-use room::{PlainText, credit_after_step, is_free, storage_after_step};
+use room::{PlainText, credit_after_step, is_counted, is_free, need_of, storage_after_step};
 use text::{chars_of, edit, size_of, text_after_step};
 
 /// A string as a plain text, with where it lies and so many bytes of room there.
@@ -83,7 +83,8 @@ pub fn is_legal(
 {
     let (answer, _) = edit(alloc, &plain.text, command)?;
     let free = is_free(alloc, plain, command)?;
-    Ok(reply == answer || reply == Reply::NoMemory && !free)
+    let answered = reply == answer || reply == Reply::NoMemory && !free;
+    Ok(answered && is_counted(plain, need_of(command), reply))
 }
 
 /// The text, where it lies and its room after a command with its reply.

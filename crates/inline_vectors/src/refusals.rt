@@ -10,16 +10,16 @@ use std::test::Fail;
 /// Counts the refusals that a test meets. One request is refused at most, so a second refusal is
 /// an answer for want of memory where there was none.
 #[derive(Drop)]
-struct Refusals {
-    met: u8,
+pub struct Refusals {
+    pub met: u8,
 }
 
 impl Refusals {
-    fn none() -> Refusals {
+    pub fn none() -> Refusals {
         Refusals { met: 0 }
     }
 
-    fn meet(&mut self, rt: &impl Abort) {
+    pub fn meet(&mut self, rt: &impl Abort) {
         assert_eq!(rt; self.met, 0, "want of memory with no request refused");
         self.met = 1;
     }

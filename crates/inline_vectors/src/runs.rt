@@ -1,174 +1,254 @@
-//! Rows by `run`, with memory that is never refused, on every kind of text.
-use crate::beside::{HEAP, Policy, inlinable, run_beside};
-use inlinable_string::run::{Command, Reply};
+//! Rows by `run` and `run_dyn`, with memory that is never refused.
+ghost use Rattle.std.specs.Prelude.{◌≤◌, length};
+
+use crate::beside::{
+    HEAP, Policy, Seen, inlinable, run_beside, run_dyn_beside, seen_of, seen_of_dyn,
+};
+use inlinable_string::run::Command::{
+    self, Clear, Insert, InsertStr, Pop, Push, PushStr, Remove, ReplaceBytes, Reserve,
+    ReserveExact, ShrinkToFit, Truncate,
+};
+use inlinable_string::run::Reply::{
+    self, BadPlace, Char, Done, NoChar, NoMemory, NotUtf8, WrongLength,
+};
 use inlinable_string::{InlinableString, InlinableStringN, Storage, StringExt, StringMake};
 use std::alloc::Global;
 use std::process::Abort;
 use std::test::Fail;
 
-/// Commands on a new text, their replies, the text after them, and where an inline-or-heap text of
-/// 30 bytes lies then.
-type Row = (
-    &'static [Command<'static>],
-    &'static [Reply],
-    &'static str,
-    Storage,
-);
+mod each;
+mod generated;
+mod memory;
+mod own;
+mod refusals;
+mod rows;
 
-const A27: &str = "aaaaaaaaaaaaaaaaaaaaaaaaaaa";
+use Storage::{Heap, Inline};
+use rows::{AT_0, AT_3, AT_4, AT_30, MOST_STEPS, Row, Step};
 
-const ROWS: [Row; 8] = [
-    (&[], &[], "", Storage::Inline),
-    (
-        &[
-            Command::PushStr(A27),
-            Command::PushStr("€"),
-            Command::PushStr("b"),
-            Command::Truncate(28),
-            Command::Truncate(27),
-            Command::Pop,
-        ],
-        &[
-            Reply::Done,
-            Reply::Done,
-            Reply::Done,
-            Reply::BadPlace,
-            Reply::Done,
-            Reply::Char('a'),
-        ],
-        "aaaaaaaaaaaaaaaaaaaaaaaaaa",
-        Storage::Heap,
-    ),
-    (
-        &[
-            Command::PushStr("é"),
-            Command::Truncate(1),
-            Command::Truncate(3),
-            Command::Truncate(2),
-        ],
-        &[Reply::Done, Reply::BadPlace, Reply::BadPlace, Reply::Done],
-        "é",
-        Storage::Inline,
-    ),
-    (
-        &[
-            Command::PushStr("foo"),
-            Command::Pop,
-            Command::Pop,
-            Command::Pop,
-            Command::Pop,
-        ],
-        &[
-            Reply::Done,
-            Reply::Char('o'),
-            Reply::Char('o'),
-            Reply::Char('f'),
-            Reply::NoChar,
-        ],
-        "",
-        Storage::Inline,
-    ),
-    (
-        &[Command::PushStr("hello"), Command::PushStr(" world")],
-        &[Reply::Done, Reply::Done],
-        "hello world",
-        Storage::Inline,
-    ),
-    (
-        &[
-            Command::PushStr("aaaaaaaaaaaaaaaaaaaaaaaaaaaaaa"),
-            Command::PushStr(""),
-        ],
-        &[Reply::Done, Reply::Done],
-        "aaaaaaaaaaaaaaaaaaaaaaaaaaaaaa",
-        Storage::Inline,
-    ),
-    (
-        &[
-            Command::PushStr("aaaaaaaaaaaaaaaaaaaaaaaaaaaaaaa"),
-            Command::Pop,
-        ],
-        &[Reply::Done, Reply::Char('a')],
-        "aaaaaaaaaaaaaaaaaaaaaaaaaaaaaa",
-        Storage::Heap,
-    ),
-    (
-        &[
-            Command::PushStr("hello world"),
-            Command::Truncate(5),
-            Command::Pop,
-            Command::Truncate(9),
-            Command::PushStr("abcdefghijklmnopqrstuvwxyz0"),
-            Command::Pop,
-        ],
-        &[
-            Reply::Done,
-            Reply::Done,
-            Reply::Char('o'),
-            Reply::BadPlace,
-            Reply::Done,
-            Reply::Char('0'),
-        ],
-        "hellabcdefghijklmnopqrstuvwxyz",
-        Storage::Heap,
-    ),
-];
+/// The commands of at most so many steps, and the replies to them.
+fn parted(steps: &[Step]) -> ([Command<'static>; MOST_STEPS], [Reply; MOST_STEPS])
+    requires { length steps.now ≤ MOST_STEPS }
+{
+    let mut commands = [Clear; MOST_STEPS];
+    let mut replies = [Done; MOST_STEPS];
+    for (i, &(command, reply, _)) in steps.iter().enumerate() {
+        commands[i] = command;
+        replies[i] = reply;
+    }
+    (commands, replies)
+}
 
-/// Runs a row on a new text, and compares all that it tells but the storage, which it answers.
-fn run_row<S: StringMake + Drop>(
+fn made<S: StringMake + Drop>(rt: &impl Abort, alloc: Global, capacity: Option<usize>) -> S {
+    match capacity {
+        Some(capacity) => {
+            let made = S::with_capacity(alloc, capacity);
+            made.expect(rt, "memory for a text")
+        }
+        None => S::new(alloc),
+    }
+}
+
+/// Runs the first steps of a row on a text made for it, and then one more, and so on to the whole.
+fn check_row<S: StringMake + Drop>(
     rt: &impl Abort,
     alloc: Global,
     policy: Policy,
+    row_limit: usize,
     row: Row,
-) -> Storage {
-    let (commands, wanted, end, _) = row;
-    let mut text = S::new(alloc);
-    let mut room = [Reply::NoMemory; 8];
-    assert!(rt; commands.len() <= room.len());
-    let replies = &mut room[..commands.len()];
-    run_beside(rt, alloc, &mut text, policy, commands, replies);
-    assert!(rt; &*replies == wanted, "{replies:?}");
-    assert_eq!(rt; text.as_str(), end);
-    text.storage()
+) {
+    let (capacity, start, steps, _) = row;
+    assert!(rt; steps.len() <= MOST_STEPS);
+    let (commands, wanted) = parted(steps);
+    for count in 0..steps.len() + 1 {
+        let mut text: S = made(rt, alloc, capacity);
+        assert!(rt; text.push_str(start).is_ok());
+        let mut replies = [NoMemory; MOST_STEPS];
+        let given = &commands[..count];
+        run_beside(rt, alloc, &mut text, policy, given, &mut replies[..count]);
+        assert!(rt;
+            replies[..count] == wanted[..count],
+            "{replies:?} from {start}"
+        );
+        check_end(rt, policy, row_limit, row, count, seen_of(&text));
+    }
+}
+
+/// The same of the whole row, on a text behind a `dyn`.
+fn check_row_dyn(
+    rt: &impl Abort,
+    alloc: Global,
+    text: &mut dyn StringExt,
+    policy: Policy,
+    row_limit: usize,
+    row: Row,
+) {
+    let (_, start, steps, _) = row;
+    assert!(rt; text.push_str(start).is_ok());
+    let count = steps.len();
+    assert!(rt; count <= MOST_STEPS);
+    let (commands, wanted) = parted(steps);
+    let mut replies = [NoMemory; MOST_STEPS];
+    let given = &commands[..count];
+    run_dyn_beside(rt, alloc, text, policy, given, &mut replies[..count]);
+    assert!(rt;
+        replies[..count] == wanted[..count],
+        "{replies:?} from {start}"
+    );
+    check_end(rt, policy, row_limit, row, count, seen_of_dyn(text));
+}
+
+/// Asserts what a row tells of a text after so many of its steps.
+fn check_end(
+    rt: &impl Abort,
+    policy: Policy,
+    row_limit: usize,
+    row: Row,
+    count: usize,
+    end: Seen<'_>,
+) {
+    let (_, start, steps, last) = row;
+    assert!(rt; count <= steps.len());
+    if count == steps.len() {
+        assert_eq!(rt; end.string, last);
+    }
+    if let Some(step) = steps[..count].last() {
+        let told = policy.limit == row_limit && policy.demotes;
+        let storage = if told { step.2 } else { end.storage };
+        assert_eq!(rt; end.storage, storage, "after {count} steps from {start}");
+    }
+    if !policy.demotes {
+        assert_eq!(rt; end.storage, Heap);
+    }
+    if end.storage == Inline {
+        assert_eq!(rt; end.capacity, policy.limit);
+    }
 }
 
 #[test]
-fn rows_on_every_kind_of_text(rt: HostRuntime) -> Result<(), Fail> {
+fn each_row_on_every_kind_of_text(rt: HostRuntime) -> Result<(), Fail> {
     let alloc = rt.alloc();
-    for row in ROWS {
-        let storage = run_row::<InlinableString>(&rt, alloc, inlinable(30), row);
-        assert_eq!(rt; storage, row.3, "at {}", row.2);
-        run_row::<InlinableStringN<0>>(&rt, alloc, inlinable(0), row);
-        run_row::<InlinableStringN<8>>(&rt, alloc, inlinable(8), row);
-        let storage = run_row::<InlinableStringN<300>>(&rt, alloc, inlinable(300), row);
-        assert_eq!(rt; storage, Storage::Inline);
-        let storage = run_row::<String>(&rt, alloc, HEAP, row);
-        assert_eq!(rt; storage, Storage::Heap);
+    for row in AT_30 {
+        check_row::<InlinableString>(&rt, alloc, inlinable(30), 30, row);
+        check_row::<InlinableStringN<0>>(&rt, alloc, inlinable(0), 30, row);
+        check_row::<InlinableStringN<8>>(&rt, alloc, inlinable(8), 30, row);
+        check_row::<InlinableStringN<300>>(&rt, alloc, inlinable(300), 30, row);
+        check_row::<String>(&rt, alloc, HEAP, 30, row);
     }
     Ok(())
 }
 
-// The text has ten bytes.
 #[test]
-fn truncate_takes_each_place_and_no_other_offset(rt: HostRuntime) -> Result<(), Fail> {
+fn each_row_on_a_text_behind_a_dyn(rt: HostRuntime) -> Result<(), Fail> {
     let alloc = rt.alloc();
-    let places = [0, 1, 3, 6, 10];
-    for offset in [0, 1, 2, 3, 4, 5, 6, 7, 8, 9, 10, 11, usize::MAX] {
-        let commands = [Command::PushStr("aé€𝄞"), Command::Truncate(offset)];
-        let mut replies = [Reply::NoMemory; 2];
+    for row in AT_30 {
+        let mut text: InlinableString = made(&rt, alloc, row.0);
+        check_row_dyn(&rt, alloc, &mut text, inlinable(30), 30, row);
+        let mut text: String = made(&rt, alloc, row.0);
+        check_row_dyn(&rt, alloc, &mut text, HEAP, 30, row);
+    }
+    for row in AT_0 {
+        let mut text: InlinableStringN<0> = made(&rt, alloc, row.0);
+        check_row_dyn(&rt, alloc, &mut text, inlinable(0), 0, row);
+    }
+    Ok(())
+}
+
+#[test]
+fn small_limits_are_kept_to_the_byte(rt: HostRuntime) -> Result<(), Fail> {
+    let alloc = rt.alloc();
+    for row in AT_0 {
+        check_row::<InlinableStringN<0>>(&rt, alloc, inlinable(0), 0, row);
+    }
+    for row in AT_3 {
+        check_row::<InlinableStringN<3>>(&rt, alloc, inlinable(3), 3, row);
+    }
+    for row in AT_4 {
+        check_row::<InlinableStringN<4>>(&rt, alloc, inlinable(4), 4, row);
+    }
+    Ok(())
+}
+
+#[test]
+fn a_hundred_insertions_at_the_front(rt: HostRuntime) -> Result<(), Fail> {
+    let alloc = rt.alloc();
+    let commands = [InsertStr(0, "foo"); 100];
+    for (count, storage) in [(10, Inline), (11, Heap), (100, Heap)] {
         let mut text = InlinableString::new(alloc);
+        let mut replies = [NoMemory; 100];
+        let given = &commands[..count];
         run_beside(
             &rt,
             alloc,
             &mut text,
             inlinable(30),
-            &commands,
-            &mut replies,
+            given,
+            &mut replies[..count],
         );
-        let taken = places.contains(&offset);
-        let wanted = if taken { Reply::Done } else { Reply::BadPlace };
-        assert_eq!(rt; replies, [Reply::Done, wanted], "at {offset}");
-        assert_eq!(rt; text.len(), if taken { offset } else { 10 }, "at {offset}");
+        assert!(rt; replies[..count] == [Done; 100][..count]);
+        let mut wanted = String::new(alloc);
+        for _ in 0..count {
+            wanted.push_str("foo")?;
+        }
+        assert_eq!(rt; text.as_str(), wanted.as_str());
+        assert_eq!(rt; text.len(), 3 * count);
+        assert_eq!(rt; text.storage(), storage, "after {count} insertions");
     }
+    Ok(())
+}
+
+/// To an offset: whether it is a place of "aé€𝄞", and what begins there.
+const OFFSETS: [(usize, bool, Option<char>); 13] = [
+    (0, true, Some('a')),
+    (1, true, Some('é')),
+    (2, false, None),
+    (3, true, Some('€')),
+    (4, false, None),
+    (5, false, None),
+    (6, true, Some('𝄞')),
+    (7, false, None),
+    (8, false, None),
+    (9, false, None),
+    (10, true, None),
+    (11, false, None),
+    (18446744073709551615, false, None),
+];
+
+fn check_offsets<S: StringMake + Drop>(
+    rt: &impl Abort,
+    alloc: Global,
+    policy: Policy,
+    capacity: Option<usize>,
+) {
+    for (offset, is_place, begins) in OFFSETS {
+        let placed = if is_place { Done } else { BadPlace };
+        let taken = match begins {
+            Some(c) => Char(c),
+            None => BadPlace,
+        };
+        for (command, wanted) in [
+            (Insert(offset, 'ß'), placed),
+            (InsertStr(offset, "foo"), placed),
+            (Truncate(offset), placed),
+            (Remove(offset), taken),
+        ] {
+            let mut text: S = made(rt, alloc, capacity);
+            assert!(rt; text.push_str("aé€𝄞").is_ok());
+            let mut replies = [NoMemory];
+            run_beside(rt, alloc, &mut text, policy, &[command], &mut replies);
+            assert_eq!(rt; replies, [wanted], "at {offset}");
+            if wanted == BadPlace {
+                assert_eq!(rt; text.as_str(), "aé€𝄞", "at {offset}");
+            }
+        }
+    }
+}
+
+#[test]
+fn a_place_is_taken_and_no_other_offset(rt: HostRuntime) -> Result<(), Fail> {
+    let alloc = rt.alloc();
+    check_offsets::<InlinableString>(&rt, alloc, inlinable(30), None);
+    check_offsets::<InlinableString>(&rt, alloc, inlinable(30), Some(31));
+    check_offsets::<String>(&rt, alloc, HEAP, None);
     Ok(())
 }

@@ -1,7 +1,7 @@
 //! Where a plain text lies, and for what it has room.
 ghost use Rattle.std.specs.Prelude.{◌≡◌, ◌↔◌, IfOk, IsTrue};
-ghost use Rattle.inlinable_string.specs.State.{HasInlineRoom};
-ghost use Rattle.inlinable_string.specs.Run.{need_of, storage_when_met, storage_after_step, credit_when_met, credit_after_step, AsksMemory, IsMet, IsFree};
+ghost use Rattle.inlinable_string.specs.State.{HasInlineRoom, storage_with_room, storage_when_shrunk};
+ghost use Rattle.inlinable_string.specs.Run.{need_of, storage_when_met, storage_after_step, credit_when_met, credit_after_step, AsksMemory, IsMet, IsFree, IsCounted, shrinks};
 ghost use Rattle.inline_vectors.specs.Plain.{state_of, need_in};
 
 use crate::plain::text::{edit, size_of};
@@ -29,6 +29,12 @@ pub struct PlainText {
 pub enum Need {
     /// So many bytes more at the end.
     Pushes(usize),
+    /// So many bytes more at any place.
+    Inserts(usize),
+    /// Room for so many bytes more.
+    Reserves(usize),
+    /// No more room than the text has bytes.
+    Shrinks,
     /// No room.
     Nothing,
 }
@@ -38,9 +44,18 @@ pub fn need_of(command: Command) -> Need
     ensures { need_in result ≡ need_of command.entry }
 {
     match command {
+        Command::Push(c) => Need::Pushes(c.len_utf8()),
         Command::PushStr(string) => Need::Pushes(string.len()),
+        Command::Insert(_, c) => Need::Inserts(c.len_utf8()),
+        Command::InsertStr(_, string) => Need::Inserts(string.len()),
         Command::Truncate(_) => Need::Nothing,
         Command::Pop => Need::Nothing,
+        Command::Remove(_) => Need::Nothing,
+        Command::Clear => Need::Nothing,
+        Command::ReplaceBytes(_) => Need::Nothing,
+        Command::Reserve(bytes) => Need::Reserves(bytes),
+        Command::ReserveExact(bytes) => Need::Reserves(bytes),
+        Command::ShrinkToFit => Need::Shrinks,
     }
 }
 
@@ -54,18 +69,44 @@ pub fn has_inline_room(plain: &PlainText, bytes: usize) -> bool
     }
 }
 
+/// Where the text lies once it has got room for so many bytes more.
+pub fn storage_with_room(plain: &PlainText, bytes: usize) -> Storage
+    ensures { result ≡ storage_with_room (state_of plain.now) bytes }
+{
+    if has_inline_room(plain, bytes) {
+        Storage::Inline
+    } else {
+        Storage::Heap
+    }
+}
+
+/// Whether the text may lie inline by what decides it, wherever it lies now.
+pub fn may_shrink(plain: &PlainText) -> bool
+    ensures { IsTrue result ↔ IsMet (state_of plain.now) shrinks }
+{
+    plain.demotes && size_of(&plain.text) <= plain.limit
+}
+
+/// Where the text lies once it was asked to take no more room than it needs.
+pub fn storage_when_shrunk(plain: &PlainText) -> Storage
+    ensures { result ≡ storage_when_shrunk (state_of plain.now) }
+{
+    if plain.storage == Storage::Inline || may_shrink(plain) {
+        Storage::Inline
+    } else {
+        Storage::Heap
+    }
+}
+
 /// Where the text lies once a need is met.
 pub fn storage_when_met(plain: &PlainText, need: Need) -> Storage
     ensures { result ≡ storage_when_met (state_of plain.now) (need_in need) }
 {
     match need {
-        Need::Pushes(bytes) => {
-            if has_inline_room(plain, bytes) {
-                Storage::Inline
-            } else {
-                Storage::Heap
-            }
-        }
+        Need::Pushes(bytes) => storage_with_room(plain, bytes),
+        Need::Inserts(bytes) => storage_with_room(plain, bytes),
+        Need::Reserves(bytes) => storage_with_room(plain, bytes),
+        Need::Shrinks => storage_when_shrunk(plain),
         Need::Nothing => plain.storage,
     }
 }
@@ -86,7 +127,8 @@ pub fn credit_when_met(credit: usize, need: Need) -> usize
 {
     match need {
         Need::Pushes(bytes) => credit.saturating_sub(bytes),
-        Need::Nothing => 0,
+        Need::Reserves(bytes) => bytes,
+        Need::Inserts(_) | Need::Shrinks | Need::Nothing => 0,
     }
 }
 
@@ -107,6 +149,9 @@ pub fn is_met(plain: &PlainText, need: Need) -> bool
 {
     match need {
         Need::Pushes(bytes) => has_inline_room(plain, bytes) || bytes <= plain.credit,
+        Need::Inserts(bytes) => has_inline_room(plain, bytes),
+        Need::Reserves(bytes) => has_inline_room(plain, bytes),
+        Need::Shrinks => may_shrink(plain),
         Need::Nothing => true,
     }
 }
@@ -129,4 +174,16 @@ pub fn is_free(alloc: Global, plain: &PlainText, command: Command) -> Result<boo
 {
     let asks = asks_memory(alloc, &plain.text, command)?;
     Ok(!asks || is_met(plain, need_of(command)))
+}
+
+/// Whether the reply says of no room that it is reserved which a `usize` can't count.
+pub fn is_counted(plain: &PlainText, need: Need, reply: Reply) -> bool
+    ensures { IsTrue result ↔ IsCounted (state_of plain.now) (need_in need) reply }
+{
+    match need {
+        Need::Reserves(bytes) => {
+            reply != Reply::Done || size_of(&plain.text).checked_add(bytes).is_some()
+        }
+        _ => true,
+    }
 }

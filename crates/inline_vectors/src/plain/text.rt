@@ -3,10 +3,11 @@ ghost use Rattle.std.specs.Prelude.{◌≡◌, ◌≤◌, ◌++◌, length, take
 ghost use Rattle.std.specs.Option.{option_map};
 ghost use Rattle.std.specs.Str.{chars};
 ghost use Rattle.inlinable_string.specs.Text.{size, cut};
-ghost use Rattle.inlinable_string.specs.Edit.{edit, truncated, popped, last_off, text_after_step};
+ghost use Rattle.inlinable_string.specs.Edit.{edit, spliced, truncated, popped, last_off, removed, replaced, text_after_step};
 
 use inlinable_string::run::{Command, Reply};
 use std::alloc::{AllocError, Global};
+use std::str;
 
 /// How many bytes the characters have in UTF-8.
 pub fn size_of(text: &[char]) -> usize
@@ -51,9 +52,20 @@ pub fn edit(
     ensures text { IfOk result (λ r. r.1.items ≡ (edit text.now command.entry).1) }
 {
     match command {
-        Command::PushStr(string) => pushed(alloc, text, string),
+        Command::Push(c) => pushed(alloc, text, &[c]),
+        Command::PushStr(string) => pushed(alloc, text, &chars_of(alloc, string)?),
+        Command::Insert(place, c) => spliced(alloc, text, place, &[c]),
+        Command::InsertStr(place, string) => {
+            spliced(alloc, text, place, &chars_of(alloc, string)?)
+        }
         Command::Truncate(place) => truncated(alloc, text, place),
         Command::Pop => popped(alloc, text),
+        Command::Remove(place) => removed(alloc, text, place),
+        Command::Clear => Ok((Reply::Done, Vec::new(alloc))),
+        Command::ReplaceBytes(bytes) => replaced(alloc, text, bytes),
+        Command::Reserve(_) => left(alloc, text, Reply::Done),
+        Command::ReserveExact(_) => left(alloc, text, Reply::Done),
+        Command::ShrinkToFit => left(alloc, text, Reply::Done),
     }
 }
 
@@ -75,12 +87,45 @@ pub fn text_after_step(
     }
 }
 
-fn pushed(alloc: Global, text: &[char], string: &str) -> Result<(Reply, Vec<char>), AllocError>
-    ensures reply { IfOk result (λ r. r.0 ≡ Reply.Done) }
-    ensures text { IfOk result (λ r. r.1.items ≡ text.now ++ chars string.now) }
+// A copy of a text, after a reply.
+fn left(alloc: Global, text: &[char], reply: Reply) -> Result<(Reply, Vec<char>), AllocError>
+    ensures reply { IfOk result (λ r. r.0 ≡ reply) }
+    ensures text { IfOk result (λ r. r.1.items ≡ text.now) }
 {
-    let mut all = Vec::from_slice(alloc, text)?;
-    all.extend_from_slice(&chars_of(alloc, string)?)?;
+    Ok((reply, Vec::from_slice(alloc, text)?))
+}
+
+fn joined(alloc: Global, front: &[char], back: &[char]) -> Result<Vec<char>, AllocError>
+    ensures { IfOk result (λ all. all.items ≡ front.now ++ back.now) }
+{
+    let mut all = Vec::from_slice(alloc, front)?;
+    all.extend_from_slice(back)?;
+    Ok(all)
+}
+
+fn pushed(alloc: Global, text: &[char], more: &[char]) -> Result<(Reply, Vec<char>), AllocError>
+    ensures reply { IfOk result (λ r. r.0 ≡ Reply.Done) }
+    ensures text { IfOk result (λ r. r.1.items ≡ text.now ++ more.now) }
+{
+    Ok((Reply::Done, joined(alloc, text, more)?))
+}
+
+fn spliced(
+    alloc: Global,
+    text: &[char],
+    place: usize,
+    more: &[char],
+) -> Result<(Reply, Vec<char>), AllocError>
+    ensures reply { IfOk result (λ r. r.0
+        ≡ (spliced text.now more.now (cut text.now place)).0) }
+    ensures text { IfOk result (λ r. r.1.items
+        ≡ (spliced text.now more.now (cut text.now place)).1) }
+{
+    let Some(count) = chars_before(text, place) else {
+        return left(alloc, text, Reply::BadPlace);
+    };
+    let mut all = joined(alloc, &text[..count], more)?;
+    all.extend_from_slice(&text[count..])?;
     Ok((Reply::Done, all))
 }
 
@@ -89,8 +134,8 @@ fn truncated(alloc: Global, text: &[char], place: usize) -> Result<(Reply, Vec<c
     ensures text { IfOk result (λ r. r.1.items ≡ (truncated text.now (cut text.now place)).1) }
 {
     match chars_before(text, place) {
-        Some(count) => Ok((Reply::Done, Vec::from_slice(alloc, &text[..count])?)),
-        None => Ok((Reply::BadPlace, Vec::from_slice(alloc, text)?)),
+        Some(count) => left(alloc, &text[..count], Reply::Done),
+        None => left(alloc, text, Reply::BadPlace),
     }
 }
 
@@ -99,7 +144,35 @@ fn popped(alloc: Global, text: &[char]) -> Result<(Reply, Vec<char>), AllocError
     ensures text { IfOk result (λ r. r.1.items ≡ (popped text.now (last_off text.now)).1) }
 {
     match text.split_last() {
-        Some((last, front)) => Ok((Reply::Char(*last), Vec::from_slice(alloc, front)?)),
-        None => Ok((Reply::NoChar, Vec::from_slice(alloc, text)?)),
+        Some((last, front)) => left(alloc, front, Reply::Char(*last)),
+        None => left(alloc, text, Reply::NoChar),
+    }
+}
+
+// At the text's end no character begins, so the end is a bad place here.
+fn removed(alloc: Global, text: &[char], place: usize) -> Result<(Reply, Vec<char>), AllocError>
+    ensures reply { IfOk result (λ r. r.0 ≡ (removed text.now (cut text.now place)).0) }
+    ensures text { IfOk result (λ r. r.1.items ≡ (removed text.now (cut text.now place)).1) }
+{
+    let Some(count) = chars_before(text, place) else {
+        return left(alloc, text, Reply::BadPlace);
+    };
+    match text[count..].split_first() {
+        Some((c, back)) => Ok((Reply::Char(*c), joined(alloc, &text[..count], back)?)),
+        None => left(alloc, text, Reply::BadPlace),
+    }
+}
+
+// The number of bytes is tested first, so bytes of another number are never said not to be UTF-8.
+fn replaced(alloc: Global, text: &[char], bytes: &[u8]) -> Result<(Reply, Vec<char>), AllocError>
+    ensures reply { IfOk result (λ r. r.0 ≡ (replaced text.now bytes.now).0) }
+    ensures text { IfOk result (λ r. r.1.items ≡ (replaced text.now bytes.now).1) }
+{
+    if bytes.len() != size_of(text) {
+        return left(alloc, text, Reply::WrongLength);
+    }
+    match str::from_utf8(bytes) {
+        Ok(string) => Ok((Reply::Done, chars_of(alloc, string)?)),
+        Err(_) => left(alloc, text, Reply::NotUtf8),
     }
 }

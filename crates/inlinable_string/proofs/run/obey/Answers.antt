@@ -1,19 +1,58 @@
-use Rattle.std.proofs.Common.{◌≡◌, true}
-use Rattle.inlinable_string.proofs.Cut.{place_at_boundary, boundary_at_place}
-use Rattle.inlinable_string.proofs.Steps.{truncate_done, bad_place, pop_char}
+use Rattle.std.proofs.Common.{refl}
+use Rattle.inlinable_string.proofs.Cut.{place_if_tested, no_place_if_tested}
+use Rattle.inlinable_string.proofs.Steps.{push_done, insert_done, insert_refused, insert_misplaced, truncate_done, truncate_misplaced, pop_char, remove_char, remove_misplaced, remove_at_end, replace_done, replace_not_utf8}
 use Rattle.inlinable_string.proofs.run.obey.Goals as goal
 
-pub truncate-requires : goal.truncate-requires
-truncate-requires g c =
-    place_at_boundary _ _ _ c.as_str.utf8 c.as_str.ensures (c.is_char_boundary.ensures.test.0 c.if-is_char_boundary.true)
+pub insert-requires : goal.insert-requires
+insert-requires g c = place_if_tested _ _ _ _ c.as_str.utf8 c.as_str.ensures c.is_char_boundary.ensures.test c.if-is_char_boundary.true
 
-pub returns-then-is_char_boundary : goal.returns-then-is_char_boundary
-returns-then-is_char_boundary g c laws =
-    rw c.in-Truncate.is (truncate_done _ _ _ _ laws c.truncate.ensures.text.1 c.truncate.ensures.storage c.truncate.ensures.policy)
+pub truncate-requires : goal.truncate-requires
+truncate-requires g c = place_if_tested _ _ _ _ c.as_str-in-Truncate.utf8 c.as_str-in-Truncate.ensures c.is_char_boundary-in-Truncate.ensures.test c.if-is_char_boundary-2.true
+
+pub remove-requires-clause-place : goal.remove-requires-clause-place
+remove-requires-clause-place g c = place_if_tested _ _ _ _ c.as_str-in-Remove.utf8 c.as_str-in-Remove.ensures c.is_char_boundary-in-Remove.ensures.test c.if-not-is_char_boundary.false
+
+pub returns-in-Ok : goal.returns-in-Ok
+returns-in-Ok g c laws = let e = c.in-Ok.ensures in rw c.in-Push.is (push_done _ _ _ laws e.text e.storage e.room e.policy)
+
+pub returns-in-Ok-insert : goal.returns-in-Ok-insert
+returns-in-Ok-insert g c laws = let e = c.in-Ok-insert.ensures in rw c.in-Insert.is (insert_done _ _ _ _ laws e.text e.storage e.policy)
+
+pub returns-in-Err-insert : goal.returns-in-Err-insert
+returns-in-Err-insert g c laws =
+    let place = place_if_tested _ _ _ _ c.as_str.utf8 c.as_str.ensures c.is_char_boundary.ensures.test c.if-is_char_boundary.true in
+    let e = c.in-Err-insert.ensures in rw c.in-Insert.is (insert_refused _ _ _ _ laws place e.err e.inline_granted e.policy)
 
 pub returns-else-is_char_boundary : goal.returns-else-is_char_boundary
-returns-else-is_char_boundary g c laws = rw c.in-Truncate.is (bad_place _ _ (λ at.
-    let yes : c.is_char_boundary.result ≡ true = c.is_char_boundary.ensures.test.1 (boundary_at_place _ _ _ c.as_str.utf8 c.as_str.ensures at) in cc))
+returns-else-is_char_boundary g c laws = rw c.in-Insert.is (insert_misplaced _ _ _ (no_place_if_tested _ _ _ _ c.as_str.utf8 c.as_str.ensures c.is_char_boundary.ensures.test c.if-is_char_boundary.false))
+
+pub returns-then-is_char_boundary-2 : goal.returns-then-is_char_boundary-2
+returns-then-is_char_boundary-2 g c laws = let e = c.truncate.ensures in rw c.in-Truncate.is (truncate_done _ _ _ _ laws e.text.1 e.storage e.policy)
+
+pub returns-else-is_char_boundary-2 : goal.returns-else-is_char_boundary-2
+returns-else-is_char_boundary-2 g c laws = rw c.in-Truncate.is (truncate_misplaced _ _ (no_place_if_tested _ _ _ _ c.as_str-in-Truncate.utf8 c.as_str-in-Truncate.ensures c.is_char_boundary-in-Truncate.ensures.test c.if-is_char_boundary-2.false))
 
 pub returns-in-Some : goal.returns-in-Some
-returns-in-Some g c laws = rw c.in-Pop.is (pop_char _ _ _ laws c.in-Some.ensures.text c.in-Some.ensures.storage c.in-Some.ensures.policy)
+returns-in-Some g c laws = let e = c.in-Some.ensures in rw c.in-Pop.is (pop_char _ _ _ laws e.text e.storage e.policy)
+
+pub returns-then-not-is_char_boundary : goal.returns-then-not-is_char_boundary
+returns-then-not-is_char_boundary g c laws = rw c.in-Remove.is (remove_misplaced _ _ (no_place_if_tested _ _ _ _ c.as_str-in-Remove.utf8 c.as_str-in-Remove.ensures c.is_char_boundary-in-Remove.ensures.test c.if-not-is_char_boundary.true))
+
+pub returns-then-idx-len : goal.returns-then-idx-len
+returns-then-idx-len g c laws = let e = c.remove.ensures in rw c.in-Remove.is (remove_char _ _ _ _ laws e.text e.storage e.policy)
+
+pub returns-else-idx-len : goal.returns-else-idx-len
+returns-else-idx-len g c laws =
+    let place = place_if_tested _ _ _ _ c.as_str-in-Remove.utf8 c.as_str-in-Remove.ensures c.is_char_boundary-in-Remove.ensures.test c.if-not-is_char_boundary.false in
+    rw c.in-Remove.is (remove_at_end _ _ place (rw c.len.ensures.value at c.if-idx-len.false))
+
+pub returns-in-Ok-replace_bytes : goal.returns-in-Ok-replace_bytes
+returns-in-Ok-replace_bytes g c laws =
+    let e = c.in-Ok-replace_bytes.ensures in
+    rw c.in-ReplaceBytes.is (replace_done _ _ _ laws e.text e.same_length e.well_formed e.storage e.policy)
+
+pub returns-in-Err-NotUtf8 : goal.returns-in-Err-NotUtf8
+returns-in-Err-NotUtf8 g c laws =
+    let e = rw c.in-Err-NotUtf8.field-0-is at c.in-Err-NotUtf8.ensures in
+    let not = e.not_utf8 refl in
+    rw c.in-ReplaceBytes.is (replace_not_utf8 _ _ _ laws e.err not.0 not.1 e.policy)

@@ -1,6 +1,6 @@
 use Rattle.std.proofs.Common.{◌≡◌, take, arith, sym}
 use Rattle.inlinable_string.specs.Text.{size}
-use Rattle.inline_vectors.proofs.Cut.{cut_after, no_cut}
+use Rattle.inline_vectors.proofs.Fronts.{cut_after, cut_nowhere}
 use Rattle.inline_vectors.proofs.plain.text.chars_before.Goals as goal
 
 pub returns-then-size_of-place-clause-parts : goal.returns-then-size_of-place-clause-parts
@@ -12,4 +12,4 @@ returns-then-size_of-place-clause-parts c =
 
 pub returns-clause-parts : goal.returns-clause-parts
 returns-clause-parts c =
-    sym (no_cut _ _ (λ k short. c.loop-count.invariant k (omega arith)))
+    sym (cut_nowhere _ _ (λ k short. c.loop-count.invariant k (omega arith)))

@@ -1,0 +1,104 @@
+-- One run after another of one value. The value may have more credit than is certain.
+use Rattle.std.proofs.Common.{◌≡◌, ℕ, ◌≤◌, inl, inr, List, [], ◌∷◌, ◌++◌, length, sym, ap, ◌∙◌, arith}
+use Rattle.inlinable_string.specs.State.{TextState}
+use Rattle.inlinable_string.specs.Edit.{edit, text_after, text_after_step}
+use Rattle.inlinable_string.specs.Run.{Need, pushes, inserts, reserves, shrinks, nothing, need_of, credit, credit_when_met, credit_after_step, credit_after, IsCounted, state_after, state_after_step, IsMet, IsLegal, LegalReplies, IsRun}
+use Rattle.inlinable_string.specs.declared.run.Command.{Command}
+use Rattle.inlinable_string.specs.declared.run.Reply.{Reply}
+use Rattle.inlinable_string.specs.declared.run.Reply.TheVariants.{Done, BadPlace}
+use Rattle.inlinable_string.proofs.Runs.{text_of, policy_of}
+use Rattle.inlinable_string.proofs.Turns.{as_many_replies}
+use Rattle.inlinable_string.proofs.Joined.{text_joined, storage_joined, credit_joined, legal_joined}
+use Rattle.inlinable_string.proofs.Determined.{same_storage, same_storage_step}
+
+-- the same text in the same place, with at least the credit
+record IsRicher (s v : TextState) : Type 0 where
+  text : s.text ≡ v.text
+  storage : s.storage ≡ v.storage
+  policy : s.policy ≡ v.policy
+  credit : credit s ≤ credit v
+
+-- more credit meets the more needs
+met_richer : (s v : TextState) (need : Need) → IsRicher s v → IsMet s need → IsMet v need
+met_richer s v (pushes n) h met = elim met [
+  | inl inside ↦ inl (sym h.storage ∙ inside.0, rw (h.text, h.policy) at inside.1)
+  | inr enough ↦ inr (omega (arith, h.credit, enough))
+]
+met_richer s v (inserts n) h met = (sym h.storage ∙ met.0, rw (h.text, h.policy) at met.1)
+met_richer s v (reserves n) h met = (sym h.storage ∙ met.0, rw (h.text, h.policy) at met.1)
+met_richer s v shrinks h met = (rw h.policy at met.0, rw (h.text, h.policy) at met.1)
+met_richer s v nothing h met = tt
+
+-- and leaves no less
+credit_met : (k l : ℕ) (need : Need) → k ≤ l → credit_when_met k need ≤ credit_when_met l need
+credit_met k l (pushes n) h = omega (arith, h)
+credit_met k l (reserves n) h = omega arith
+credit_met k l need h = omega arith
+
+credit_step : (k l : ℕ) (command : Command) (reply : Reply) → k ≤ l → credit_after_step k command reply ≤ credit_after_step l command reply
+credit_step k l command Done h = credit_met k l (need_of command) h
+credit_step k l command BadPlace h = h
+credit_step k l command reply h = omega arith
+
+richer_step : (s v : TextState) (command : Command) (reply : Reply) → IsRicher s v → IsRicher (state_after_step s command reply) (state_after_step v command reply)
+richer_step s v command reply h = record {
+  text = ap (λ t. text_after_step t command reply) h.text;
+  storage = same_storage_step s v command reply h.text h.storage h.policy;
+  policy = h.policy;
+  credit = omega (arith, credit_step (credit s) (credit v) command reply h.credit);
+}
+
+credit_richer : (s v : TextState) (commands : List Command) (replies : List Reply) → IsRicher s v → credit_after s commands replies ≤ credit_after v commands replies
+credit_richer s v [] replies h = h.credit
+credit_richer s v (c ∷ commands) [] h = h.credit
+credit_richer s v (c ∷ commands) (r ∷ replies) h = credit_richer (state_after_step s c r) (state_after_step v c r) commands replies (richer_step s v c r h)
+
+counted_same : (s v : TextState) (need : Need) (reply : Reply) → s.text ≡ v.text → IsCounted v need reply → IsCounted s need reply
+counted_same s v (reserves n) Done e h = rw e h
+counted_same s v need reply e h = tt
+
+-- what is legal with more credit is legal with less
+legal_poorer : (s v : TextState) (command : Command) (reply : Reply) → IsRicher s v → IsLegal v command reply → IsLegal s command reply
+legal_poorer s v command reply h legal =
+    let again : s.text ≡ v.text = h.text in
+    record {
+      answer = elim legal.answer [
+        | inl same ↦ inl (same ∙ ap (λ t. (edit t command).0) (sym again))
+        | inr refused ↦ inr (
+          refused.0,
+          λ free. refused.1 (elim free [
+            | inl none ↦ inl (λ asks. none (asks.0, ap (λ t. (edit t command).0) again ∙ asks.1))
+            | inr met ↦ inr (met_richer s v (need_of command) h met)
+          ]),
+        )
+      ];
+      counted = counted_same s v (need_of command) reply again legal.counted;
+    }
+
+all_legal_poorer : (s v : TextState) (commands : List Command) (replies : List Reply) → IsRicher s v → LegalReplies v commands replies → LegalReplies s commands replies
+all_legal_poorer s v [] [] h legal = tt
+all_legal_poorer s v [] (r ∷ replies) h legal = absurd legal
+all_legal_poorer s v (c ∷ commands) [] h legal = absurd legal
+all_legal_poorer s v (c ∷ commands) (r ∷ replies) h legal =
+    (legal_poorer s v c r h legal.0, all_legal_poorer (state_after_step s c r) (state_after_step v c r) commands replies (richer_step s v c r h) legal.1)
+
+-- one run after another of one value is a run of both
+pub runs_follow : (old mid new : TextState) (first second : List Command) (replies others : List Reply)
+    → IsRun old first replies mid → IsRun mid second others new → IsRun old (first ++ second) (replies ++ others) new
+runs_follow old mid new first second replies others a b =
+    let s : TextState = state_after old first replies in
+    let same : length first ≡ length replies = sym (as_many_replies old first replies a.legal) in
+    let text : s.text ≡ mid.text = text_of old first replies ∙ sym a.text in
+    let richer : IsRicher s mid = record {
+      text = text;
+      storage = sym a.storage;
+      policy = policy_of old first replies ∙ sym a.policy;
+      credit = omega (arith, a.credit);
+    } in
+    record {
+      text = b.text ∙ ap (λ t. text_after t second others) a.text ∙ sym (text_joined old.text first second replies others same);
+      storage = b.storage ∙ sym (same_storage s mid second others richer.text richer.storage richer.policy) ∙ sym (storage_joined old first second replies others same);
+      legal = legal_joined old first second replies others a.legal (all_legal_poorer s mid second others richer b.legal);
+      credit = omega (arith, b.credit, credit_richer s mid second others richer, credit_joined old first second replies others same);
+      policy = b.policy ∙ a.policy;
+    }

@@ -1,0 +1,11 @@
+use Rattle.inlinable_string.proofs.Free.{pushes_after_reserve, pushes_after_reserve_exact, pushes_from_start}
+use Rattle.inlinable_string.proofs.run.laws.reserved_pushes_never_fail.Goals as goal
+
+pub returns-clause-reserve : goal.returns-clause-reserve
+returns-clause-reserve c = pushes_after_reserve
+
+pub returns-clause-reserve_exact : goal.returns-clause-reserve_exact
+returns-clause-reserve_exact c = pushes_after_reserve_exact
+
+pub returns-clause-start : goal.returns-clause-start
+returns-clause-start c = pushes_from_start

@@ -1,0 +1,14 @@
+use Rattle.inlinable_string.proofs.Joined.{text_joined, storage_joined, credit_joined, legal_joined}
+use Rattle.inlinable_string.proofs.run.laws.runs_join.Goals as goal
+
+pub returns-clause-text : goal.returns-clause-text
+returns-clause-text c = text_joined
+
+pub returns-clause-storage : goal.returns-clause-storage
+returns-clause-storage c = storage_joined
+
+pub returns-clause-credit : goal.returns-clause-credit
+returns-clause-credit c = credit_joined
+
+pub returns-clause-legal : goal.returns-clause-legal
+returns-clause-legal c = legal_joined

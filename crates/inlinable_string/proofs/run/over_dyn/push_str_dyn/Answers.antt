@@ -1,0 +1,5 @@
+use Rattle.inlinable_string.proofs.Steps.{push_str_done}
+use Rattle.inlinable_string.proofs.run.over_dyn.push_str_dyn.Goals as goal
+
+pub returns-in-Ok : goal.returns-in-Ok
+returns-in-Ok g c laws = let e = c.in-Ok.ensures in push_str_done _ _ _ c.utf8.string laws e.0 e.1.0 e.1.1.1.1.1.0 e.1.1.1.1.1.1

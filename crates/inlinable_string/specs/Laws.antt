@@ -1,0 +1,40 @@
+-- Words for laws over whole runs.
+use Rattle.std.specs.Prelude.{◌≡◌, ℕ, ◌+◌, ◌-◌, ◌≤◌, List, [], ◌∷◌, Bool, true, false}
+use Rattle.std.specs.Str.{IsUtf8}
+use Rattle.inlinable_string.specs.Text.{size}
+use Rattle.inlinable_string.specs.Edit.{edit}
+use Rattle.inlinable_string.specs.Run.{Need, pushes, reserves, need_of}
+use Rattle.inlinable_string.specs.declared.run.Command.{Command}
+use Rattle.inlinable_string.specs.declared.run.Command.TheVariants.{PushStr, InsertStr}
+use Rattle.inlinable_string.specs.declared.run.Reply.{Reply}
+use Rattle.inlinable_string.specs.declared.run.Reply.TheVariants.{NoMemory}
+
+-- a `&str` in the command is UTF-8, as each is in a program
+abbrev pub IsWellFormed : Command → Type 0
+IsWellFormed (PushStr u) = IsUtf8 u.now
+IsWellFormed (InsertStr p u) = IsUtf8 u.now
+IsWellFormed command = Unit {0}
+
+-- what is reserved, if it is, has room within n bytes beside the text t
+abbrev pub ReservesWithin : ℕ → List ℕ → Need → Type 0
+ReservesWithin n t (reserves m) = size t + m ≤ n
+ReservesWithin n t need = Unit {0}
+
+-- the texts of a run from t in which no memory is refused have at most n bytes each, and so has each
+-- with what is reserved beside it
+abbrev pub StaysWithin : ℕ → List ℕ → List Command → Type 0
+StaysWithin n t [] = Unit {0}
+StaysWithin n t (command ∷ commands) =
+    ReservesWithin n t (need_of command) × (size (edit t command).1 ≤ n)
+    × StaysWithin n (edit t command).1 commands
+
+-- the commands are pushes, and add at most k bytes together
+abbrev pub PushesWithin : ℕ → List Command → Type 0
+PushesWithin k [] = Unit {0}
+PushesWithin k (command ∷ commands) =
+    (n : ℕ) × (need_of command ≡ pushes n) × (n ≤ k) × PushesWithin (k - n) commands
+
+-- memory was refused
+abbrev pub is_refusal : Reply → Bool
+is_refusal NoMemory = true
+is_refusal reply = false

@@ -1,0 +1,195 @@
+//! Laws over the definitions that the runs' contracts cite. No function here does anything: its
+//! contract is the law.
+ghost use Rattle.std.specs.Prelude.{◌≡◌, ◌≢◌, ◌↔◌, ℕ, ◌+◌, ◌*◌, ◌<◌, ◌≤◌, List, [], ◌∷◌, ◌++◌, Some, None, length, take, drop, map, slice_get, All, Contains};
+ghost use Rattle.std.specs.Borrow.{Bor};
+ghost use Rattle.std.specs.Str.{chars, IsUtf8};
+ghost use Rattle.inlinable_string.specs.Text.{bytes_of, size, cut, IsCut, IsPlace, IsSplice, IsRemoval};
+ghost use Rattle.inlinable_string.specs.State.{TextState, IsLawful};
+ghost use Rattle.inlinable_string.specs.Edit.{edit, text_after};
+ghost use Rattle.inlinable_string.specs.Run.{IsLegal, LegalReplies, IsRun, EachRun, state_after_step, state_after, storage_after, credit, credit_after};
+ghost use Rattle.inlinable_string.specs.Laws.{IsWellFormed, StaysWithin, PushesWithin, is_refusal};
+
+use super::{Command, Reply};
+use crate::string_ext::Storage;
+
+/// `cut` finds the two parts of a text at each of its places, and none elsewhere.
+pub fn cut_decides_places()
+    ensures place { (t : List ℕ) (p : ℕ) (a b : List ℕ)
+        → (cut t p ≡ Some (a, b)) ↔ IsCut t p a b }
+    ensures none { (t : List ℕ) (p : ℕ) → (cut t p ≡ None) ↔ (¬ IsPlace t p) }
+{}
+
+/// An insertion is carried out exactly where what it leaves is a splice.
+pub fn insertions_are_splices()
+    ensures character { (t v : List ℕ) (p c : ℕ)
+        → (edit t (Command.Insert p c) ≡ (Reply.Done, v)) ↔ IsSplice t p (c ∷ []) v }
+    ensures string { (t v : List ℕ) (p : ℕ) (u : Bor (List ℕ))
+        → (edit t (Command.InsertStr p u) ≡ (Reply.Done, v)) ↔ IsSplice t p (chars u.now) v }
+{}
+
+/// `Truncate` keeps the text before a place.
+pub fn truncations_are_cuts()
+    ensures { (t v : List ℕ) (p : ℕ)
+        → (edit t (Command.Truncate p) ≡ (Reply.Done, v))
+        ↔ ((rest : List ℕ) × IsCut t p v rest) }
+{}
+
+/// `BadPlace` is answered exactly where there is no place.
+pub fn bad_places_are_no_places()
+    ensures insert { (t : List ℕ) (p c : ℕ)
+        → ((edit t (Command.Insert p c)).0 ≡ Reply.BadPlace) ↔ (¬ IsPlace t p) }
+    ensures insert_str { (t : List ℕ) (p : ℕ) (u : Bor (List ℕ))
+        → ((edit t (Command.InsertStr p u)).0 ≡ Reply.BadPlace) ↔ (¬ IsPlace t p) }
+    ensures truncate { (t : List ℕ) (p : ℕ)
+        → ((edit t (Command.Truncate p)).0 ≡ Reply.BadPlace) ↔ (¬ IsPlace t p) }
+{}
+
+/// `Pop` takes off the character that a text ends with, and finds none in the empty text alone.
+pub fn pop_takes_off_the_last_character()
+    ensures last { (t v : List ℕ) (c : ℕ)
+        → (edit t Command.Pop ≡ (Reply.Char c, v)) ↔ (t ≡ v ++ c ∷ []) }
+    ensures none { (t : List ℕ) → ((edit t Command.Pop).0 ≡ Reply.NoChar) ↔ (t ≡ []) }
+{}
+
+/// `Remove` takes out the character that begins at a place, and nothing else.
+pub fn remove_is_a_removal()
+    ensures { (t v : List ℕ) (p c : ℕ)
+        → (edit t (Command.Remove p) ≡ (Reply.Char c, v)) ↔ IsRemoval t p c v }
+{}
+
+/// `ReplaceBytes` is carried out exactly with as many bytes as the text has, of another text; the
+/// number of bytes is tested first.
+pub fn replacement_has_the_bytes()
+    ensures done { (t v : List ℕ) (b : Bor (List ℕ))
+        → (edit t (Command.ReplaceBytes b) ≡ (Reply.Done, v))
+        ↔ ((length b.now ≡ size t) × IsUtf8 b.now × (bytes_of v ≡ b.now)) }
+    ensures wrong_length { (t : List ℕ) (b : Bor (List ℕ))
+        → ((edit t (Command.ReplaceBytes b)).0 ≡ Reply.WrongLength)
+        ↔ (length b.now ≢ size t) }
+    ensures not_utf8 { (t : List ℕ) (b : Bor (List ℕ))
+        → ((edit t (Command.ReplaceBytes b)).0 ≡ Reply.NotUtf8)
+        ↔ ((length b.now ≡ size t) × ¬ (IsUtf8 b.now)) }
+{}
+
+/// A growth that is carried out adds its bytes to those of the text.
+pub fn growths_add_their_bytes()
+    ensures push { (t : List ℕ) (c : ℕ)
+        → size (edit t (Command.Push c)).1 ≡ size t + size (c ∷ []) }
+    ensures push_str { (t : List ℕ) (u : Bor (List ℕ)) → IsUtf8 u.now
+        → size (edit t (Command.PushStr u)).1 ≡ size t + length u.now }
+    ensures insert { (t : List ℕ) (p c : ℕ) → (edit t (Command.Insert p c)).0 ≡ Reply.Done
+        → size (edit t (Command.Insert p c)).1 ≡ size t + size (c ∷ []) }
+    ensures insert_str { (t : List ℕ) (p : ℕ) (u : Bor (List ℕ)) → IsUtf8 u.now
+        → (edit t (Command.InsertStr p u)).0 ≡ Reply.Done
+        → size (edit t (Command.InsertStr p u)).1 ≡ size t + length u.now }
+{}
+
+/// Taking out what was just put in gives it back, and leaves the old text.
+pub fn remove_undoes_insert()
+    ensures { (t : List ℕ) (p c : ℕ) → IsPlace t p
+        → edit (edit t (Command.Insert p c)).1 (Command.Remove p) ≡ (Reply.Char c, t) }
+{}
+
+/// Legal replies, read one at a time: each is that of `edit` on the text after the commands before
+/// it, or want of memory to a command that is not free in the state after them.
+pub fn each_reply_is_legal_in_its_turn()
+    ensures count { (s : TextState) (commands : List Command) (replies : List Reply)
+        → LegalReplies s commands replies → length replies ≡ length commands }
+    ensures reply { (s : TextState) (commands : List Command) (replies : List Reply) (i : ℕ)
+        (command : Command) (reply : Reply) → LegalReplies s commands replies
+        → slice_get commands i ≡ Some command → slice_get replies i ≡ Some reply
+        → IsLegal (state_after s (take i commands) (take i replies)) command reply }
+    ensures text { (s : TextState) (commands : List Command) (replies : List Reply)
+        → (state_after s commands replies).text ≡ text_after s.text commands replies }
+{}
+
+/// Many runs, read one at a time: the replies of the text at `i` are those from
+/// `i * commands.len()` on, as many as the commands.
+pub fn each_text_has_its_own_run()
+    ensures run { (olds news : List TextState) (commands : List Command) (replies : List Reply)
+        (i : ℕ) (old new : TextState) → EachRun olds commands replies news
+        → slice_get olds i ≡ Some old → slice_get news i ≡ Some new
+        → IsRun old commands (take (length commands) (drop (i * length commands) replies)) new }
+    ensures reply { (commands : List Command) (replies : List Reply) (i j : ℕ)
+        → j < length commands
+        → slice_get (take (length commands) (drop (i * length commands) replies)) j
+        ≡ slice_get replies (i * length commands + j) }
+    ensures count { (olds news : List TextState) (commands : List Command)
+        (replies : List Reply) → EachRun olds commands replies news
+        → length news ≡ length olds }
+{}
+
+/// The places of the refusals determine the rest: for one text, storage and policy, whatever the
+/// credits, replies with the same refusals are the same replies, and so are text and storage after
+/// them.
+pub fn refusals_determine_the_run()
+    ensures replies { (s t : TextState) (commands : List Command) (replies others : List Reply)
+        → s.text ≡ t.text → LegalReplies s commands replies → LegalReplies t commands others
+        → map is_refusal replies ≡ map is_refusal others → replies ≡ others }
+    ensures storage { (s t : TextState) (commands : List Command) (replies : List Reply)
+        → s.text ≡ t.text → s.storage ≡ t.storage → s.policy ≡ t.policy
+        → storage_after s commands replies ≡ storage_after t commands replies }
+{}
+
+/// Every reply but `Done` and `Char` leaves the text and its storage.
+pub fn refusals_change_nothing()
+    ensures text { (s : TextState) (command : Command) (reply : Reply)
+        → IsLegal s command reply → reply ≢ Reply.Done → ((c : ℕ) → reply ≢ Reply.Char c)
+        → (state_after_step s command reply).text ≡ s.text }
+    ensures storage { (s : TextState) (command : Command) (reply : Reply)
+        → reply ≢ Reply.Done → (state_after_step s command reply).storage ≡ s.storage }
+{}
+
+/// Short runs never ask: where the text lies inline, and without refusals neither the texts nor
+/// what is reserved beside them would pass the limit, no memory is refused, and it stays inline.
+pub fn short_runs_never_ask()
+    ensures replies { (s : TextState) (commands : List Command) (replies : List Reply)
+        → All IsWellFormed commands → IsLawful s → s.storage ≡ Storage.Inline
+        → StaysWithin s.policy.limit s.text commands → LegalReplies s commands replies → ¬ Contains replies Reply.NoMemory }
+    ensures storage { (s : TextState) (commands : List Command) (replies : List Reply)
+        → All IsWellFormed commands → IsLawful s → s.storage ≡ Storage.Inline
+        → StaysWithin s.policy.limit s.text commands → LegalReplies s commands replies → storage_after s commands replies ≡ Storage.Inline }
+{}
+
+/// Reserved pushes never fail: pushes directly after a reservation that was carried out, or at the
+/// start of a run on a value with room for them, are not refused memory.
+pub fn reserved_pushes_never_fail()
+    ensures reserve { (s : TextState) (k : ℕ) (commands : List Command) (replies : List Reply)
+        → PushesWithin k commands
+        → LegalReplies s (Command.Reserve k ∷ commands) (Reply.Done ∷ replies)
+        → ¬ Contains replies Reply.NoMemory }
+    ensures reserve_exact { (s : TextState) (k : ℕ) (commands : List Command)
+        (replies : List Reply) → PushesWithin k commands
+        → LegalReplies s (Command.ReserveExact k ∷ commands) (Reply.Done ∷ replies)
+        → ¬ Contains replies Reply.NoMemory }
+    ensures start { (s : TextState) (k : ℕ) (commands : List Command) (replies : List Reply)
+        → PushesWithin k commands → size s.text + k ≤ s.capacity
+        → LegalReplies s commands replies → ¬ Contains replies Reply.NoMemory }
+{}
+
+/// Two runs join: the second goes on from the state that the first left.
+pub fn runs_join()
+    ensures text { (t : List ℕ) (first second : List Command) (replies others : List Reply)
+        → length first ≡ length replies → text_after t (first ++ second) (replies ++ others)
+        ≡ text_after (text_after t first replies) second others }
+    ensures storage { (s : TextState) (first second : List Command)
+        (replies others : List Reply) → length first ≡ length replies
+        → storage_after s (first ++ second) (replies ++ others)
+        ≡ storage_after (state_after s first replies) second others }
+    ensures credit { (s : TextState) (first second : List Command)
+        (replies others : List Reply) → length first ≡ length replies
+        → credit_after s (first ++ second) (replies ++ others)
+        ≡ credit_after (state_after s first replies) second others }
+    ensures legal { (s : TextState) (first second : List Command) (replies others : List Reply)
+        → LegalReplies s first replies → LegalReplies (state_after s first replies) second others
+        → LegalReplies s (first ++ second) (replies ++ others) }
+{}
+
+/// One run after another of one value is a run of both lists: the second may find more credit than
+/// the first left for certain, and what is legal with more is legal with less.
+pub fn a_second_run_goes_on()
+    ensures { (old mid new : TextState) (first second : List Command)
+        (replies others : List Reply) → IsRun old first replies mid
+        → IsRun mid second others new
+        → IsRun old (first ++ second) (replies ++ others) new }
+{}

@@ -1,0 +1,78 @@
+//! Lists of commands for a text behind a `dyn`.
+ghost use Rattle.std.specs.Prelude.{◌≡◌, ◌+◌, ◌≤◌, length};
+ghost use Rattle.inlinable_string.specs.Text.{size};
+ghost use Rattle.inlinable_string.specs.State.{IsLawful};
+ghost use Rattle.inlinable_string.specs.Edit.{text_after};
+ghost use Rattle.inlinable_string.specs.Run.{LegalReplies, storage_after, credit_after};
+ghost use Rattle.inlinable_string.specs.Step.{IsStep};
+
+use super::{Command, Reply, obeyed};
+use crate::inline_string::ReplaceError;
+use crate::string_ext::StringExt;
+
+/// Gives each command in turn to the text, and writes the reply to each, as [`super::run`] does.
+pub fn run_dyn(text: &mut dyn StringExt, commands: &[Command], replies: &mut [Reply])
+    requires { length replies.old ≡ length commands.now }
+
+    // The text is that of one list of characters, and lies where the placement table says.
+    ensures text { (state text.new).text
+        ≡ text_after (state text.old).text commands.now replies.new }
+    ensures storage { (state text.new).storage
+        ≡ storage_after (state text.old) commands.now replies.new }
+
+    // Each reply is that of `edit`, or want of memory to a command that is not free of it.
+    ensures replies { LegalReplies (state text.old) commands.now replies.new }
+
+    // A next run starts with no less credit than this one ended with.
+    ensures credit { size (state text.new).text
+        + credit_after (state text.old) commands.now replies.new
+        ≤ (state text.new).capacity }
+    ensures policy { (state text.new).policy ≡ (state text.old).policy }
+{
+    let _ = text.len();
+    for (i, command) in commands.iter().enumerate() {
+        replies[i] = apply_dyn(text, *command);
+    }
+}
+
+/// Gives one command.
+fn apply_dyn(text: &mut dyn StringExt, command: Command) -> Reply
+    ensures { IsStep (state text.old) command.entry result (state text.new) }
+{
+    let reply = obey_dyn(text, command);
+    // The laws of the text as it is now.
+    let _ = text.len();
+    reply
+}
+
+/// Gives one command; that the text is lawful after it is left to the caller.
+fn obey_dyn(text: &mut dyn StringExt, command: Command) -> Reply
+    ensures { IsLawful (state text.new)
+        → IsStep (state text.old) command.entry result (state text.new) }
+{
+    obeyed!(text, command, push_str_dyn, insert_str_dyn)
+}
+
+fn push_str_dyn(text: &mut dyn StringExt, string: &str) -> Reply
+    ensures { IsLawful (state text.new)
+        → IsStep (state text.old) (Command.PushStr string.entry) result (state text.new) }
+{
+    match text.push_str(string) {
+        Ok(()) => Reply::Done,
+        Err(_) => Reply::NoMemory,
+    }
+}
+
+fn insert_str_dyn(text: &mut dyn StringExt, idx: usize, string: &str) -> Reply
+    ensures { IsLawful (state text.new)
+        → IsStep (state text.old) (Command.InsertStr idx string.entry) result (state text.new) }
+{
+    if text.as_str().is_char_boundary(idx) {
+        match text.insert_str(idx, string) {
+            Ok(()) => Reply::Done,
+            Err(_) => Reply::NoMemory,
+        }
+    } else {
+        Reply::BadPlace
+    }
+}

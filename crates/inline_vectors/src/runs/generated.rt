@@ -1,0 +1,317 @@
+//! Generated lists of commands, on texts of several limits, with the plain program beside each.
+ghost use Rattle.std.specs.Prelude.{◌<◌, ◌≤◌, length};
+
+use super::made;
+use crate::beside::{HEAP, Policy, Seen, Verdict, before, inlinable, judged, seen_of, seen_of_dyn};
+use crate::plain::room::PlainText;
+use crate::plain::text::{edit, size_of};
+use inlinable_string::run::Command::{
+    self, Clear, Insert, InsertStr, Pop, Push, PushStr, Remove, ReplaceBytes, Reserve,
+    ReserveExact, ShrinkToFit, Truncate,
+};
+use inlinable_string::run::Reply::{
+    self, BadPlace, Char, Done, NoChar, NoMemory, NotUtf8, WrongLength,
+};
+use inlinable_string::run::{run, run_dyn};
+use inlinable_string::{InlinableString, InlinableStringN, Storage, StringExt, StringMake};
+use std::alloc::{AllocError, Global};
+use std::process::Abort;
+use std::test::Fail;
+
+const SEED: u64 = 20_251_122;
+
+const LISTS: usize = 10_000;
+
+/// The most commands of a list.
+const MOST_COMMANDS: usize = 12;
+
+/// Characters of one to four bytes: the first and the last of each length, and one between.
+const CHARS: [char; 16] = [
+    'a',
+    '\0',
+    'z',
+    '\u{7f}',
+    'é',
+    '\u{80}',
+    'ß',
+    '\u{7ff}',
+    '€',
+    '\u{800}',
+    '\u{d7ff}',
+    '\u{e000}',
+    '\u{ffff}',
+    '𝄞',
+    '\u{10000}',
+    '\u{10ffff}',
+];
+
+const TEXTS: [&str; 12] = [
+    "",
+    "a",
+    "é",
+    "€",
+    "𝄞",
+    "foo",
+    "aé€𝄞",
+    "hello world",
+    "ééééé",
+    "𝄞€éa𝄞€éa",
+    "abcdefghijklmnopqrstuvwxyz",
+    "0123456789€0123456789é0123456789",
+];
+
+/// Limits that a reservation or a text is drawn for.
+const LIMITS: [usize; 3] = [0, 8, 30];
+
+/// Texts are made by `new`, or for so many bytes.
+const CAPACITIES: [Option<usize>; 6] = [None, None, None, Some(8), Some(31), Some(40)];
+
+/// Bytes to be put in the place of others are parts of these: one byte a character, and several.
+const NARROW: &str = "The quick brown fox jumps over the lazy dog, and the dog sleeps on and on.";
+
+const WIDE: &str = "éaé€é𝄞a€aéééaaa𝄞𝄞€a€éa€€aé𝄞éaé€é𝄞a€aéééaaa𝄞𝄞€a€éa€€aé𝄞";
+
+/// Numbers below bounds, by a linear congruence whose upper bits are taken.
+#[derive(Drop)]
+struct Draws {
+    state: u64,
+}
+
+impl Draws {
+    fn below(&mut self, bound: usize) -> usize
+        requires { 0 < bound }
+        ensures { result < bound }
+    {
+        let product = self.state.wrapping_mul(6_364_136_223_846_793_005);
+        self.state = product.wrapping_add(1_442_695_040_888_963_407);
+        (self.state >> 33) as usize % bound
+    }
+
+    /// Two of three times.
+    fn mostly(&mut self) -> bool {
+        self.below(3) < 2
+    }
+
+    fn one_of<T: Copy>(&mut self, items: &[T]) -> T
+        requires { 0 < length items.now }
+    {
+        items[self.below(items.len())]
+    }
+
+    /// Two of three times a place of the text, the end among them, and else any offset.
+    fn place(&mut self, text: &[char]) -> usize {
+        if self.mostly() {
+            size_of(&text[..self.below(text.len() + 1)])
+        } else if self.below(20) == 0 {
+            usize::MAX
+        } else {
+            self.below(size_of(text).saturating_add(3).max(1))
+        }
+    }
+
+    /// So many bytes that the text just reaches a limit with them, or stays a byte below it, or
+    /// goes a byte past it.
+    fn near_a_limit(&mut self, text: &[char]) -> usize {
+        let rest = self.one_of(&LIMITS).saturating_sub(size_of(text));
+        self.one_of(&[rest, rest.saturating_sub(1), rest.saturating_add(1)])
+    }
+
+    fn string(&mut self, text: &[char]) -> &'static str {
+        let count = self.near_a_limit(text);
+        if self.mostly() || !NARROW.is_char_boundary(count) {
+            self.one_of(&TEXTS)
+        } else {
+            &NARROW[..count]
+        }
+    }
+
+    /// Two of three times as many bytes as the text has, well-formed or not.
+    fn bytes(&mut self, text: &[char]) -> &'static [u8] {
+        let size = size_of(text);
+        let count = if self.mostly() {
+            size
+        } else {
+            self.near_a_limit(text)
+        };
+        let pool = self.one_of(&[NARROW, WIDE]).as_bytes();
+        let from = self.below(8);
+        match pool.get(from..from.saturating_add(count)) {
+            Some(bytes) => bytes,
+            None => pool,
+        }
+    }
+
+    /// Room near a limit, or up to one of the text's places, or more than can be had.
+    fn room(&mut self, text: &[char]) -> usize {
+        match self.below(8) {
+            0..=3 => self.near_a_limit(text),
+            4..=5 => self.place(text).min(size_of(text)),
+            6 => self.below(200),
+            _ => {
+                let size = size_of(text);
+                self.one_of(&[usize::MAX, usize::MAX - size, usize::MAX / 2 + 1])
+            }
+        }
+    }
+
+    /// A command, of which it is known what text it is given to.
+    fn command(&mut self, text: &[char]) -> Command<'static> {
+        match self.below(24) {
+            0..=2 => Push(self.one_of(&CHARS)),
+            3..=5 => PushStr(self.string(text)),
+            6..=8 => Insert(self.place(text), self.one_of(&CHARS)),
+            9..=10 => InsertStr(self.place(text), self.string(text)),
+            11..=12 => Truncate(self.place(text)),
+            13..=14 => Pop,
+            15..=17 => Remove(self.place(text)),
+            18 => Clear,
+            19..=20 => ReplaceBytes(self.bytes(text)),
+            21 => Reserve(self.room(text)),
+            22 => ReserveExact(self.room(text)),
+            _ => ShrinkToFit,
+        }
+    }
+}
+
+/// The reply to a command where memory is only refused to what can't be had, if `edit` gives this.
+fn ample_reply(command: Command, reply: Reply) -> Reply {
+    match command {
+        Reserve(bytes) | ReserveExact(bytes) if usize::MAX / 2 < bytes => NoMemory,
+        _ => reply,
+    }
+}
+
+/// A list of commands, and the replies to them with ample memory.
+#[derive(Drop)]
+struct List {
+    commands: Vec<Command<'static>>,
+    replies: Vec<Reply>,
+}
+
+impl List {
+    fn draw(&mut self, alloc: Global, draws: &mut Draws) -> Result<(), AllocError> {
+        self.commands.clear();
+        self.replies.clear();
+        let mut text: Vec<char> = Vec::new(alloc);
+        for _ in 0..draws.below(MOST_COMMANDS + 1) {
+            let command = draws.command(&text);
+            let (reply, next) = edit(alloc, &text, command)?;
+            self.commands.push(command)?;
+            self.replies.push(ample_reply(command, reply))?;
+            text = next;
+        }
+        Ok(())
+    }
+}
+
+/// Gives a list to a new text with the plain program beside it, and asserts all replies. Answers
+/// where the text lies then.
+fn check_list<S: StringMake + Drop>(
+    rt: &impl Abort,
+    alloc: Global,
+    policy: Policy,
+    capacity: Option<usize>,
+    list: &List,
+    number: usize,
+) -> Storage {
+    let mut text: S = made(rt, alloc, capacity);
+    let start = before(rt, alloc, seen_of(&text), policy);
+    let mut replies = [BadPlace; MOST_COMMANDS];
+    let count = list.commands.len();
+    assert!(rt; count <= MOST_COMMANDS);
+    run(&mut text, &list.commands, &mut replies[..count]);
+    let given = &replies[..count];
+    check_replies(rt, alloc, start, list, given, seen_of(&text), number);
+    text.storage()
+}
+
+/// The same on a text behind a `dyn`.
+fn check_list_dyn(
+    rt: &impl Abort,
+    alloc: Global,
+    text: &mut dyn StringExt,
+    policy: Policy,
+    list: &List,
+    number: usize,
+) {
+    let start = before(rt, alloc, seen_of_dyn(text), policy);
+    let mut replies = [BadPlace; MOST_COMMANDS];
+    let count = list.commands.len();
+    assert!(rt; count <= MOST_COMMANDS);
+    run_dyn(text, &list.commands, &mut replies[..count]);
+    let given = &replies[..count];
+    check_replies(rt, alloc, start, list, given, seen_of_dyn(text), number);
+}
+
+fn check_replies(
+    rt: &impl Abort,
+    alloc: Global,
+    start: PlainText,
+    list: &List,
+    replies: &[Reply],
+    end: Seen<'_>,
+    number: usize,
+) {
+    let limit = start.limit;
+    assert!(rt;
+        replies == list.replies.as_slice(),
+        "{replies:?} to list {number} at limit {limit}"
+    );
+    let verdict = judged(alloc, start, &list.commands, replies, end);
+    let verdict = verdict.expect(rt, "memory for the plain program");
+    assert_eq!(rt;
+        verdict,
+        Verdict::Agrees,
+        "to list {number} at limit {limit}"
+    );
+}
+
+/// Which of the seven kinds a reply is.
+fn kind_of(reply: Reply) -> usize
+    ensures { result < 7 }
+{
+    match reply {
+        Done => 0,
+        Char(_) => 1,
+        NoChar => 2,
+        BadPlace => 3,
+        NotUtf8 => 4,
+        WrongLength => 5,
+        NoMemory => 6,
+    }
+}
+
+#[test]
+fn generated_lists_have_the_replies_of_the_plain_program(rt: HostRuntime) -> Result<(), Fail> {
+    let alloc = rt.alloc();
+    let mut draws = Draws { state: SEED };
+    let mut list = List {
+        commands: Vec::new(alloc),
+        replies: Vec::new(alloc),
+    };
+    let mut kinds = [0u64; 7];
+    let mut on_heap = 0usize;
+    for number in 0..LISTS {
+        list.draw(alloc, &mut draws)?;
+        let capacity = draws.one_of(&CAPACITIES);
+        check_list::<InlinableStringN<0>>(&rt, alloc, inlinable(0), capacity, &list, number);
+        check_list::<InlinableStringN<8>>(&rt, alloc, inlinable(8), capacity, &list, number);
+        let end = check_list::<InlinableString>(&rt, alloc, inlinable(30), capacity, &list, number);
+        if end == Storage::Heap {
+            on_heap = on_heap.saturating_add(1);
+        }
+        let mut text: String = made(&rt, alloc, capacity);
+        check_list_dyn(&rt, alloc, &mut text, HEAP, &list, number);
+        for reply in &list.replies {
+            let kind = &mut kinds[kind_of(*reply)];
+            *kind = kind.wrapping_add(1);
+        }
+    }
+    println!(rt; "{LISTS} lists from seed {SEED}")?;
+    println!(rt; "replies of each kind {kinds:?}, ends on the heap {on_heap}")?;
+    assert!(rt; (LISTS / 5..LISTS / 5 * 4).contains(&on_heap), "{on_heap}");
+    for (kind, count) in kinds.iter().enumerate() {
+        assert!(rt; 500 <= *count, "replies of kind {kind}: {count}");
+    }
+    Ok(())
+}

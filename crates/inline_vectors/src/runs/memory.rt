@@ -1,0 +1,372 @@
+//! Runs with every request for memory refused from the first command on, or from a later one.
+use super::made;
+use super::rows::{A26, A27, A28, A30, DIGITS};
+use crate::beside::{HEAP, Policy, after, before, inlinable, run_beside, seen_of};
+use crate::hoard::Hoard;
+use crate::plain::room::PlainText;
+use Storage::{Heap, Inline};
+use inlinable_string::run::Command::{
+    self, Clear, Insert, InsertStr, Pop, Push, PushStr, Remove, Reserve, ReserveExact, ShrinkToFit,
+    Truncate,
+};
+use inlinable_string::run::Reply::{self, BadPlace, Char, Done, NoMemory};
+use inlinable_string::run::run;
+use inlinable_string::{InlinableString, InlinableStringN, Storage, StringExt, StringMake};
+use std::alloc::Global;
+use std::process::Abort;
+use std::test::Fail;
+
+/// A run of which the memory is refused from some command on.
+#[derive(Clone, Copy)]
+struct Row {
+    /// How the text is made, for so many bytes or by `new`, and what is pushed to it.
+    capacity: Option<usize>,
+    start: &'static str,
+    /// A command before them all that is `Done`, with memory.
+    granted: Option<Command<'static>>,
+    /// Those to which memory is refused, and the replies to the first of them: the others may have
+    /// any that is legal.
+    refused: &'static [Command<'static>],
+    replies: &'static [Reply],
+    end: &'static str,
+    storage: Storage,
+}
+
+/// The most commands of a row.
+const MOST_COMMANDS: usize = 12;
+
+const AT_30: [Row; 15] = [
+    Row {
+        capacity: None,
+        start: A26,
+        granted: None,
+        refused: &[Push('𝄞')],
+        replies: &[Done],
+        end: "aaaaaaaaaaaaaaaaaaaaaaaaaa𝄞",
+        storage: Inline,
+    },
+    Row {
+        capacity: None,
+        start: A27,
+        granted: None,
+        refused: &[Insert(27, '𝄞')],
+        replies: &[NoMemory],
+        end: A27,
+        storage: Inline,
+    },
+    Row {
+        capacity: None,
+        start: A30,
+        granted: None,
+        refused: &[PushStr(""), InsertStr(30, "")],
+        replies: &[Done, Done],
+        end: A30,
+        storage: Inline,
+    },
+    Row {
+        capacity: None,
+        start: "a",
+        granted: None,
+        refused: &[Reserve(18446744073709551615)],
+        replies: &[NoMemory],
+        end: "a",
+        storage: Inline,
+    },
+    Row {
+        capacity: None,
+        start: "foo",
+        granted: None,
+        refused: &[Reserve(27)],
+        replies: &[Done],
+        end: "foo",
+        storage: Inline,
+    },
+    Row {
+        capacity: None,
+        start: "foo",
+        granted: Some(Reserve(100)),
+        refused: &[
+            PushStr(DIGITS),
+            PushStr(DIGITS),
+            PushStr(DIGITS),
+            PushStr(DIGITS),
+            PushStr(DIGITS),
+            PushStr(DIGITS),
+            PushStr(DIGITS),
+            PushStr(DIGITS),
+            PushStr(DIGITS),
+            PushStr(DIGITS),
+            ShrinkToFit,
+        ],
+        replies: &[Done; 10],
+        end: "foo0123456789012345678901234567890123456789012345678901234567890123456789012345678901234567890123456789",
+        storage: Heap,
+    },
+    Row {
+        capacity: None,
+        start: A28,
+        granted: Some(ReserveExact(4)),
+        refused: &[Push('𝄞')],
+        replies: &[Done],
+        end: "aaaaaaaaaaaaaaaaaaaaaaaaaaaa𝄞",
+        storage: Heap,
+    },
+    Row {
+        capacity: Some(40),
+        start: "",
+        granted: None,
+        refused: &[
+            PushStr(DIGITS),
+            PushStr(DIGITS),
+            PushStr(DIGITS),
+            PushStr(DIGITS),
+        ],
+        replies: &[Done; 4],
+        end: "0123456789012345678901234567890123456789",
+        storage: Heap,
+    },
+    Row {
+        capacity: None,
+        start: "foo",
+        granted: Some(Reserve(50)),
+        refused: &[
+            PushStr(DIGITS),
+            PushStr(DIGITS),
+            PushStr(DIGITS),
+            PushStr(DIGITS),
+            PushStr(DIGITS),
+        ],
+        replies: &[Done; 5],
+        end: "foo01234567890123456789012345678901234567890123456789",
+        storage: Heap,
+    },
+    Row {
+        capacity: None,
+        start: "",
+        granted: None,
+        refused: &[
+            Reserve(30),
+            InsertStr(0, "abc"),
+            Remove(1),
+            Insert(2, 'é'),
+            ShrinkToFit,
+            Clear,
+        ],
+        replies: &[Done, Done, Char('b'), Done, Done, Done],
+        end: "",
+        storage: Inline,
+    },
+    Row {
+        capacity: None,
+        start: "",
+        granted: None,
+        refused: &[
+            Reserve(30),
+            InsertStr(0, "abc"),
+            Remove(1),
+            Insert(2, 'é'),
+            ShrinkToFit,
+        ],
+        replies: &[Done, Done, Char('b'), Done, Done],
+        end: "acé",
+        storage: Inline,
+    },
+    Row {
+        capacity: None,
+        start: A27,
+        granted: None,
+        refused: &[Reserve(28)],
+        replies: &[NoMemory],
+        end: A27,
+        storage: Inline,
+    },
+    Row {
+        capacity: None,
+        start: "aaaaaaaaaaaaaaaaaaaaaaaaaaaaa",
+        granted: None,
+        refused: &[Push('€')],
+        replies: &[NoMemory],
+        end: "aaaaaaaaaaaaaaaaaaaaaaaaaaaaa",
+        storage: Inline,
+    },
+    Row {
+        capacity: None,
+        start: "",
+        granted: None,
+        refused: &[
+            PushStr(A27),
+            PushStr("€"),
+            PushStr("b"),
+            Truncate(28),
+            Truncate(27),
+            Pop,
+        ],
+        replies: &[Done, Done, NoMemory, BadPlace, Done, Char('a')],
+        end: A26,
+        storage: Inline,
+    },
+    Row {
+        capacity: Some(31),
+        start: "he",
+        granted: None,
+        refused: &[ShrinkToFit, Reserve(28), Push('€')],
+        replies: &[Done, Done, Done],
+        end: "he€",
+        storage: Inline,
+    },
+];
+
+/// A row on a `String`.
+const ON_A_STRING: [Row; 1] = [Row {
+    capacity: None,
+    start: "",
+    granted: Some(Reserve(10)),
+    refused: &[Truncate(5), PushStr(DIGITS), Pop],
+    replies: &[BadPlace, Done, Char('9')],
+    end: "012345678",
+    storage: Heap,
+}];
+
+/// The text of a row as memory begins to be refused, and the replies to what is given then.
+#[derive(Drop)]
+struct Prepared<S: Drop> {
+    text: S,
+    start: PlainText,
+    replies: [Reply; MOST_COMMANDS],
+}
+
+impl<S: StringExt + Drop> Prepared<S> {
+    fn give(&mut self, commands: &[Command]) {
+        let count = commands.len();
+        if count <= MOST_COMMANDS {
+            let replies = &mut self.replies[..];
+            run(&mut self.text, commands, &mut replies[..count]);
+        }
+    }
+}
+
+fn prepare<S: StringMake + Drop>(
+    rt: &impl Abort,
+    alloc: Global,
+    policy: Policy,
+    row: Row,
+) -> Prepared<S> {
+    let mut text: S = made(rt, alloc, row.capacity);
+    assert!(rt; text.push_str(row.start).is_ok());
+    if let Some(command) = row.granted {
+        let mut replies = [NoMemory];
+        run_beside(rt, alloc, &mut text, policy, &[command], &mut replies);
+        assert_eq!(rt; replies, [Done]);
+    }
+    let start = before(rt, alloc, seen_of(&text), policy);
+    Prepared {
+        text,
+        start,
+        replies: [NoMemory; MOST_COMMANDS],
+    }
+}
+
+/// Runs each row while all memory is held, and asserts what it tells once the memory is given back.
+fn check_refused<S: StringMake + Drop>(
+    rt: &impl Abort,
+    alloc: Global,
+    policy: Policy,
+    rows: &[Row],
+) {
+    let mut runs: Vec<Prepared<S>> = Vec::new(alloc);
+    for row in rows {
+        assert!(rt; row.refused.len() <= MOST_COMMANDS);
+        assert!(rt; row.replies.len() <= row.refused.len());
+        let next = prepare(rt, alloc, policy, *row);
+        assert!(rt; runs.push(next).is_ok());
+    }
+    let hoard = Hoard::take(rt, alloc);
+    for (run_of, row) in runs.iter_mut().zip(rows) {
+        run_of.give(row.refused);
+    }
+    drop(hoard);
+    for (i, (run_of, row)) in runs.into_iter().zip(rows).enumerate() {
+        let Prepared {
+            text,
+            start,
+            replies,
+        } = run_of;
+        let count = row.refused.len();
+        assert!(rt; row.replies.len() <= count && count <= MOST_COMMANDS);
+        let told = &replies[..row.replies.len()];
+        assert!(rt; told == row.replies, "{replies:?} in row {i}");
+        let end = seen_of(&text);
+        assert_eq!(rt;
+            (end.string, end.storage),
+            (row.end, row.storage),
+            "in row {i}"
+        );
+        if end.storage == Inline {
+            assert_eq!(rt; end.capacity, policy.limit, "in row {i}");
+        }
+        after(rt, alloc, start, row.refused, &replies[..count], end);
+    }
+}
+
+#[test]
+fn an_inline_or_heap_text_asks_for_no_memory_that_its_rules_spare(
+    rt: HostRuntime,
+) -> Result<(), Fail> {
+    check_refused::<InlinableString>(&rt, rt.alloc(), inlinable(30), &AT_30);
+    Ok(())
+}
+
+#[test]
+fn a_string_asks_for_no_memory_that_was_reserved(rt: HostRuntime) -> Result<(), Fail> {
+    check_refused::<String>(&rt, rt.alloc(), HEAP, &ON_A_STRING);
+    Ok(())
+}
+
+#[test]
+fn a_push_that_was_refused_is_done_once_memory_is_back(rt: HostRuntime) -> Result<(), Fail> {
+    let alloc = rt.alloc();
+    let mut text = InlinableString::new(alloc);
+    let start = before(&rt, alloc, seen_of(&text), inlinable(30));
+    let commands = [PushStr(A30), Push('b'), Pop, Push('€')];
+    let mut replies = [BadPlace; 4];
+    let hoard = Hoard::take(&rt, alloc);
+    run(&mut text, &commands[..3], &mut replies[..3]);
+    drop(hoard);
+    let storage = text.storage();
+    run(&mut text, &commands[3..], &mut replies[3..]);
+    assert_eq!(rt; replies, [Done, NoMemory, Char('a'), Done]);
+    assert_eq!(rt; storage, Inline);
+    assert_eq!(rt; (text.len(), text.storage()), (32, Heap));
+    after(&rt, alloc, start, &commands, &replies, seen_of(&text));
+    Ok(())
+}
+
+#[test]
+fn pushes_within_a_limit_of_300_ask_for_no_memory(rt: HostRuntime) -> Result<(), Fail> {
+    let alloc = rt.alloc();
+    let mut text = InlinableStringN::<300>::new(alloc);
+    let start = before(&rt, alloc, seen_of(&text), inlinable(300));
+    let commands = [Push('a'); 300];
+    let mut replies = [NoMemory; 300];
+    let hoard = Hoard::take(&rt, alloc);
+    run(&mut text, &commands, &mut replies);
+    let mut refused = [Done];
+    run(&mut text, &[Push('a')], &mut refused);
+    drop(hoard);
+    assert!(rt; replies == [Done; 300]);
+    assert_eq!(rt; refused, [NoMemory]);
+    assert_eq!(rt; (text.len(), text.storage()), (300, Inline));
+    after(&rt, alloc, start, &commands, &replies, seen_of(&text));
+    let mut last = [NoMemory];
+    run_beside(
+        &rt,
+        alloc,
+        &mut text,
+        inlinable(300),
+        &[Push('a')],
+        &mut last,
+    );
+    assert_eq!(rt; last, [Done]);
+    assert_eq!(rt; (text.len(), text.storage()), (301, Heap));
+    Ok(())
+}

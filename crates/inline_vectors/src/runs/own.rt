@@ -1,0 +1,150 @@
+//! Texts of a caller's own under the trait.
+ghost use Rattle.inlinable_string.specs.Values.{inlinable_state, string_state};
+
+use inlinable_string::inline_string::ReplaceError;
+use inlinable_string::{InlinableStringN, Storage, StringExt};
+use std::alloc::AllocError;
+
+/// A text of which eight bytes may lie inline, in a type without a parameter.
+#[derive(Drop)]
+pub struct EightBytes(pub InlinableStringN<8>);
+
+impl StringExt for EightBytes {
+    ghost state = { λ s. inlinable_state 8 s.0 };
+
+    fn push(&mut self, ch: char) -> Result<(), AllocError> {
+        self.0.push(ch)
+    }
+
+    fn push_str(&mut self, string: &str) -> Result<(), AllocError> {
+        self.0.push_str(string)
+    }
+
+    fn insert(&mut self, idx: usize, ch: char) -> Result<(), AllocError> {
+        self.0.insert(idx, ch)
+    }
+
+    fn insert_str(&mut self, idx: usize, string: &str) -> Result<(), AllocError> {
+        self.0.insert_str(idx, string)
+    }
+
+    fn reserve(&mut self, additional: usize) -> Result<(), AllocError> {
+        self.0.reserve(additional)
+    }
+
+    fn reserve_exact(&mut self, additional: usize) -> Result<(), AllocError> {
+        self.0.reserve_exact(additional)
+    }
+
+    fn shrink_to_fit(&mut self) -> Result<(), AllocError> {
+        self.0.shrink_to_fit()
+    }
+
+    fn truncate(&mut self, new_len: usize) {
+        self.0.truncate(new_len);
+    }
+
+    fn pop(&mut self) -> Option<char> {
+        self.0.pop()
+    }
+
+    fn remove(&mut self, idx: usize) -> char {
+        self.0.remove(idx)
+    }
+
+    fn replace_bytes(&mut self, bytes: &[u8]) -> Result<(), ReplaceError> {
+        self.0.replace_bytes(bytes)
+    }
+
+    fn capacity(&self) -> usize {
+        self.0.capacity()
+    }
+
+    fn storage(&self) -> Storage {
+        self.0.storage()
+    }
+
+    fn len(&self) -> usize {
+        self.0.len()
+    }
+
+    fn as_bytes(&self) -> &[u8] {
+        self.0.as_bytes()
+    }
+
+    fn as_str(&self) -> &str {
+        self.0.as_str()
+    }
+}
+
+/// A text that lies on the heap always, and that shrinking does not bring back.
+#[derive(Drop)]
+pub struct OnHeap(pub String);
+
+impl StringExt for OnHeap {
+    ghost state = { λ s. string_state s.0 };
+
+    fn push(&mut self, ch: char) -> Result<(), AllocError> {
+        StringExt::push(&mut self.0, ch)
+    }
+
+    fn push_str(&mut self, string: &str) -> Result<(), AllocError> {
+        StringExt::push_str(&mut self.0, string)
+    }
+
+    fn insert(&mut self, idx: usize, ch: char) -> Result<(), AllocError> {
+        StringExt::insert(&mut self.0, idx, ch)
+    }
+
+    fn insert_str(&mut self, idx: usize, string: &str) -> Result<(), AllocError> {
+        StringExt::insert_str(&mut self.0, idx, string)
+    }
+
+    fn reserve(&mut self, additional: usize) -> Result<(), AllocError> {
+        StringExt::reserve(&mut self.0, additional)
+    }
+
+    fn reserve_exact(&mut self, additional: usize) -> Result<(), AllocError> {
+        StringExt::reserve_exact(&mut self.0, additional)
+    }
+
+    fn shrink_to_fit(&mut self) -> Result<(), AllocError> {
+        StringExt::shrink_to_fit(&mut self.0)
+    }
+
+    fn truncate(&mut self, new_len: usize) {
+        StringExt::truncate(&mut self.0, new_len);
+    }
+
+    fn pop(&mut self) -> Option<char> {
+        StringExt::pop(&mut self.0)
+    }
+
+    fn remove(&mut self, idx: usize) -> char {
+        StringExt::remove(&mut self.0, idx)
+    }
+
+    fn replace_bytes(&mut self, bytes: &[u8]) -> Result<(), ReplaceError> {
+        StringExt::replace_bytes(&mut self.0, bytes)
+    }
+
+    fn capacity(&self) -> usize {
+        StringExt::capacity(&self.0)
+    }
+
+    fn storage(&self) -> Storage {
+        StringExt::storage(&self.0)
+    }
+
+    fn len(&self) -> usize {
+        StringExt::len(&self.0)
+    }
+
+    fn as_bytes(&self) -> &[u8] {
+        StringExt::as_bytes(&self.0)
+    }
+
+    fn as_str(&self) -> &str {
+        StringExt::as_str(&self.0)
+    }
+}

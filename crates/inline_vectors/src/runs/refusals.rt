@@ -1,0 +1,211 @@
+//! Each request for memory refused in turn, in runs over all commands: these tests pass whichever
+//! request of theirs is refused, and say `refused` where they met the refusal. At most one request
+//! of a test is refused, and `.ci/refusals` says which.
+use super::rows::{A30, DIGITS};
+use crate::beside::{HEAP, Policy, Seen, Verdict, inlinable, judged, seen_of, seen_of_dyn};
+use crate::plain::plain_from;
+use crate::refusals::Refusals;
+use inlinable_string::run::Command::{
+    self, Clear, Insert, InsertStr, Pop, Push, PushStr, Remove, ReplaceBytes, Reserve,
+    ReserveExact, ShrinkToFit, Truncate,
+};
+use inlinable_string::run::Reply::{
+    self, BadPlace, Char, Done, NoChar, NoMemory, NotUtf8, WrongLength,
+};
+use inlinable_string::run::{run, run_dyn};
+use inlinable_string::{InlinableString, InlinableStringN, Storage, StringExt, StringMake};
+use std::alloc::{AllocError, Global};
+use std::process::Abort;
+use std::test::Fail;
+
+/// Commands of each kind on a new text.
+const COMMANDS: [Command<'static>; 20] = [
+    PushStr("aaaaaaaaaaaaaaaaaaaaaaaaaaa"),
+    Insert(27, '€'),
+    Insert(28, 'x'),
+    Push('b'),
+    Truncate(28),
+    ShrinkToFit,
+    Remove(30),
+    ReserveExact(18446744073709551615),
+    Reserve(100),
+    PushStr(DIGITS),
+    InsertStr(1, "é"),
+    InsertStr(2, "é"),
+    Remove(0),
+    Pop,
+    ReplaceBytes(b"too short"),
+    Truncate(2),
+    ReplaceBytes(&[0xC3, 0x61]),
+    ReplaceBytes(&[0xC3, 0xA9]),
+    Clear,
+    Pop,
+];
+
+/// The replies to them where no request is refused. That for room past what a `usize` counts is for
+/// want of memory all the same.
+const REPLIES: [Reply; 20] = [
+    Done,
+    Done,
+    BadPlace,
+    Done,
+    BadPlace,
+    Done,
+    Char('b'),
+    NoMemory,
+    Done,
+    Done,
+    Done,
+    BadPlace,
+    Char('a'),
+    Char('9'),
+    WrongLength,
+    Done,
+    NotUtf8,
+    Done,
+    Done,
+    NoChar,
+];
+
+/// How many replies are for want of memory.
+fn count_no_memory(replies: &[Reply]) -> usize {
+    let mut count = 0usize;
+    for reply in replies {
+        if *reply == NoMemory {
+            count = count.saturating_add(1);
+        }
+    }
+    count
+}
+
+/// What the plain program says of commands with their replies on a new text.
+fn judged_from_new(
+    alloc: Global,
+    start: Seen<'_>,
+    policy: Policy,
+    commands: &[Command],
+    replies: &[Reply],
+    end: Seen<'_>,
+) -> Result<Verdict, AllocError> {
+    let plain = plain_from(
+        alloc,
+        start.string,
+        start.storage,
+        start.capacity,
+        policy.demotes,
+        policy.limit,
+    )?;
+    judged(alloc, plain, commands, replies, end)
+}
+
+/// Asserts that at most one request was refused, that the replies are those with none refused where
+/// none was, and what the plain program says. Answers whether one was refused.
+///
+/// The plain program's own request may be the refused one: then it is asked again.
+fn check_refused(
+    rt: &impl Abort,
+    alloc: Global,
+    policy: Policy,
+    commands: &[Command],
+    replies: &[Reply],
+    ample: &[Reply],
+    end: Seen<'_>,
+) -> bool {
+    let mut refusals = Refusals::none();
+    let fewest = count_no_memory(ample);
+    for _ in fewest..count_no_memory(replies) {
+        refusals.meet(rt);
+    }
+    let refused = 0 < refusals.met;
+    if !refused {
+        assert!(rt; replies == ample, "{replies:?}");
+    }
+    let storage = if policy.demotes {
+        Storage::Inline
+    } else {
+        Storage::Heap
+    };
+    let start = Seen {
+        string: "",
+        storage,
+        capacity: policy.limit,
+    };
+    let verdict = match judged_from_new(alloc, start, policy, commands, replies, end) {
+        Ok(verdict) => verdict,
+        Err(_) => {
+            assert!(rt; !refused, "want of memory with no request refused");
+            let again = judged_from_new(alloc, start, policy, commands, replies, end);
+            again.expect(rt, "memory for the plain program")
+        }
+    };
+    assert_eq!(rt; verdict, Verdict::Agrees, "{replies:?}");
+    refused
+}
+
+#[test]
+fn of_a_run_on_an_inline_or_heap_text(rt: HostRuntime) -> Result<(), Fail> {
+    let mut text = InlinableString::new(rt.alloc());
+    let mut replies = [BadPlace; 20];
+    run(&mut text, &COMMANDS, &mut replies);
+    let end = seen_of(&text);
+    let policy = inlinable(30);
+    if check_refused(&rt, rt.alloc(), policy, &COMMANDS, &replies, &REPLIES, end) {
+        println!(rt; "refused")?;
+    }
+    Ok(())
+}
+
+#[test]
+fn of_a_run_on_a_text_with_a_small_limit(rt: HostRuntime) -> Result<(), Fail> {
+    let mut text = InlinableStringN::<8>::new(rt.alloc());
+    let mut replies = [BadPlace; 20];
+    run(&mut text, &COMMANDS, &mut replies);
+    let end = seen_of(&text);
+    let policy = inlinable(8);
+    if check_refused(&rt, rt.alloc(), policy, &COMMANDS, &replies, &REPLIES, end) {
+        println!(rt; "refused")?;
+    }
+    Ok(())
+}
+
+#[test]
+fn of_a_run_on_a_string_behind_a_dyn(rt: HostRuntime) -> Result<(), Fail> {
+    let mut text = <String as StringMake>::new(rt.alloc());
+    let mut replies = [BadPlace; 20];
+    run_dyn(&mut text, &COMMANDS, &mut replies);
+    let end = seen_of_dyn(&text);
+    if check_refused(&rt, rt.alloc(), HEAP, &COMMANDS, &replies, &REPLIES, end) {
+        println!(rt; "refused")?;
+    }
+    Ok(())
+}
+
+#[test]
+fn of_a_promotion_in_a_run(rt: HostRuntime) -> Result<(), Fail> {
+    let mut text = InlinableString::new(rt.alloc());
+    let commands = [PushStr(A30), Push('b'), Pop, Push('€')];
+    let mut replies = [BadPlace; 4];
+    run(&mut text, &commands, &mut replies);
+    let ample = [Done, Done, Char('b'), Done];
+    let end = seen_of(&text);
+    if check_refused(
+        &rt,
+        rt.alloc(),
+        inlinable(30),
+        &commands,
+        &replies,
+        &ample,
+        end,
+    ) {
+        // The first request is that of the promotion, the second that of the growth after it.
+        if replies[1] == NoMemory {
+            assert_eq!(rt; replies, [Done, NoMemory, Char('a'), Done]);
+            assert_eq!(rt; (text.len(), text.storage()), (32, Storage::Heap));
+        } else {
+            assert_eq!(rt; replies, [Done, Done, Char('b'), NoMemory]);
+            assert_eq!(rt; (text.as_str(), text.storage()), (A30, Storage::Heap));
+        }
+        println!(rt; "refused")?;
+    }
+    Ok(())
+}

@@ -1,0 +1,138 @@
+//! What commands do to texts, and what they answer.
+ghost use Rattle.std.specs.Prelude.{◌≡◌, ◌∷◌, [], List, ℕ, Some, None, codes};
+ghost use Rattle.inlinable_string.specs.Text.{size, cut};
+ghost use Rattle.inlinable_string.specs.Edit.{edit};
+
+use inlinable_string::run::{Command, Reply};
+
+/// "aé" has three bytes and the places 0, 1 and 3: 2 is inside é, and 4 is past the end.
+pub fn places_of_two_characters()
+    ensures bytes { size (97 ∷ 233 ∷ []) ≡ 3 }
+    ensures start { cut (97 ∷ 233 ∷ []) 0 ≡ Some ([], 97 ∷ 233 ∷ []) }
+    ensures between { cut (97 ∷ 233 ∷ []) 1 ≡ Some (97 ∷ [], 233 ∷ []) }
+    ensures inside { cut (97 ∷ 233 ∷ []) 2 ≡ None }
+    ensures end { cut (97 ∷ 233 ∷ []) 3 ≡ Some (97 ∷ 233 ∷ [], []) }
+    ensures past { cut (97 ∷ 233 ∷ []) 4 ≡ None }
+{}
+
+/// "aé€" and the G clef have ten bytes and the places 0, 1, 3, 6 and 10.
+pub fn places_of_each_width()
+    ensures bytes { size (97 ∷ 233 ∷ 8364 ∷ 119070 ∷ []) ≡ 10 }
+    ensures start { cut (97 ∷ 233 ∷ 8364 ∷ 119070 ∷ []) 0
+        ≡ Some ([], 97 ∷ 233 ∷ 8364 ∷ 119070 ∷ []) }
+    ensures after_a { cut (97 ∷ 233 ∷ 8364 ∷ 119070 ∷ []) 1
+        ≡ Some (97 ∷ [], 233 ∷ 8364 ∷ 119070 ∷ []) }
+    ensures after_e { cut (97 ∷ 233 ∷ 8364 ∷ 119070 ∷ []) 3
+        ≡ Some (97 ∷ 233 ∷ [], 8364 ∷ 119070 ∷ []) }
+    ensures after_euro { cut (97 ∷ 233 ∷ 8364 ∷ 119070 ∷ []) 6
+        ≡ Some (97 ∷ 233 ∷ 8364 ∷ [], 119070 ∷ []) }
+    ensures end { cut (97 ∷ 233 ∷ 8364 ∷ 119070 ∷ []) 10
+        ≡ Some (97 ∷ 233 ∷ 8364 ∷ 119070 ∷ [], []) }
+    ensures in_e { cut (97 ∷ 233 ∷ 8364 ∷ 119070 ∷ []) 2 ≡ None }
+    ensures early_in_euro { cut (97 ∷ 233 ∷ 8364 ∷ 119070 ∷ []) 4 ≡ None }
+    ensures late_in_euro { cut (97 ∷ 233 ∷ 8364 ∷ 119070 ∷ []) 5 ≡ None }
+    ensures early_in_clef { cut (97 ∷ 233 ∷ 8364 ∷ 119070 ∷ []) 7 ≡ None }
+    ensures amid_clef { cut (97 ∷ 233 ∷ 8364 ∷ 119070 ∷ []) 8 ≡ None }
+    ensures late_in_clef { cut (97 ∷ 233 ∷ 8364 ∷ 119070 ∷ []) 9 ≡ None }
+    ensures past { cut (97 ∷ 233 ∷ 8364 ∷ 119070 ∷ []) 11 ≡ None }
+{}
+
+/// "é", truncated at 1, inside it, or at 3, past its end, is left as it was; at 2 it is kept whole.
+pub fn truncate_of_one_character()
+    ensures inside { edit (233 ∷ []) (Command.Truncate 1) ≡ (Reply.BadPlace, 233 ∷ []) }
+    ensures end { edit (233 ∷ []) (Command.Truncate 2) ≡ (Reply.Done, 233 ∷ []) }
+    ensures past { edit (233 ∷ []) (Command.Truncate 3) ≡ (Reply.BadPlace, 233 ∷ []) }
+{}
+
+/// A text can be truncated at 0.
+pub fn truncate_at_the_start()
+    ensures all { edit (codes "hi") (Command.Truncate 0) ≡ (Reply.Done, []) }
+    ensures empty { edit [] (Command.Truncate 0) ≡ (Reply.Done, []) }
+{}
+
+/// Of "hi" the i is taken off; of the empty text no character.
+pub fn pop_of_two_texts()
+    ensures last { edit (codes "hi") Command.Pop ≡ (Reply.Char 105, codes "h") }
+    ensures none { edit [] Command.Pop ≡ (Reply.NoChar, []) }
+{}
+
+/// "bc" put at the end of "a" makes "abc".
+pub fn push_of_two_letters(string: &str)
+    requires { string.now ≡ codes "bc" }
+    ensures { edit (codes "a") (Command.PushStr string.entry) ≡ (Reply.Done, codes "abc") }
+{}
+
+/// The three bytes of € are one character.
+pub fn push_of_a_euro(string: &str)
+    requires { string.now ≡ 226 ∷ 130 ∷ 172 ∷ [] }
+    ensures { edit (codes "a") (Command.PushStr string.entry) ≡ (Reply.Done, 97 ∷ 8364 ∷ []) }
+{}
+
+/// The G clef put at the end of "a".
+pub fn push_of_a_clef()
+    ensures { edit (97 ∷ []) (Command.Push 119070) ≡ (Reply.Done, 97 ∷ 119070 ∷ []) }
+{}
+
+/// Of "aé" the é is taken out at 1, and "a" is left; at 1, its end, no character begins.
+pub fn remove_of_the_last_character()
+    ensures last { edit (97 ∷ 233 ∷ []) (Command.Remove 1) ≡ (Reply.Char 233, 97 ∷ []) }
+    ensures end { edit (97 ∷ []) (Command.Remove 1) ≡ (Reply.BadPlace, 97 ∷ []) }
+{}
+
+/// € put into "aé" between its characters is taken out again at 1, but not at 2, inside it.
+pub fn euro_put_in_and_taken_out()
+    ensures put_in { edit (97 ∷ 233 ∷ []) (Command.Insert 1 8364)
+        ≡ (Reply.Done, 97 ∷ 8364 ∷ 233 ∷ []) }
+    ensures inside { edit (97 ∷ 8364 ∷ 233 ∷ []) (Command.Remove 2)
+        ≡ (Reply.BadPlace, 97 ∷ 8364 ∷ 233 ∷ []) }
+    ensures taken_out { edit (97 ∷ 8364 ∷ 233 ∷ []) (Command.Remove 1)
+        ≡ (Reply.Char 8364, 97 ∷ 233 ∷ []) }
+{}
+
+/// Nothing is put into "é" at 1, which is inside it.
+pub fn insert_inside_a_character(string: &str)
+    ensures character { edit (233 ∷ []) (Command.Insert 1 120) ≡ (Reply.BadPlace, 233 ∷ []) }
+    ensures text { edit (233 ∷ []) (Command.InsertStr 1 string.entry)
+        ≡ (Reply.BadPlace, 233 ∷ []) }
+{}
+
+/// "bar" put into "foo" at 2 makes "fobaro".
+pub fn insert_of_three_letters(string: &str)
+    requires { string.now ≡ codes "bar" }
+    ensures { edit (codes "foo") (Command.InsertStr 2 string.entry)
+        ≡ (Reply.Done, codes "fobaro") }
+{}
+
+/// Of any text nothing is left.
+pub fn clear_of_any_text()
+    ensures { (t : List ℕ) → edit t Command.Clear ≡ (Reply.Done, []) }
+{}
+
+/// The two bytes of "é" are replaced by two bytes that are UTF-8, and by no others: one byte is of
+/// the wrong number, though it is not UTF-8 either.
+pub fn replace_of_two_bytes(one: &[u8], broken: &[u8], letters: &[u8])
+    requires one { one.now ≡ 255 ∷ [] }
+    requires broken { broken.now ≡ 195 ∷ 97 ∷ [] }
+    requires letters { letters.now ≡ codes "ab" }
+    ensures wrong_length { edit (233 ∷ []) (Command.ReplaceBytes one.entry)
+        ≡ (Reply.WrongLength, 233 ∷ []) }
+    ensures not_utf8 { edit (233 ∷ []) (Command.ReplaceBytes broken.entry)
+        ≡ (Reply.NotUtf8, 233 ∷ []) }
+    ensures done { edit (233 ∷ []) (Command.ReplaceBytes letters.entry)
+        ≡ (Reply.Done, codes "ab") }
+{}
+
+/// The bytes of "hello" in their opposite order make "olleh".
+pub fn replace_of_five_bytes(bytes: &[u8])
+    requires { bytes.now ≡ 111 ∷ 108 ∷ 108 ∷ 101 ∷ 104 ∷ [] }
+    ensures { edit (codes "hello") (Command.ReplaceBytes bytes.entry)
+        ≡ (Reply.Done, codes "olleh") }
+{}
+
+/// Room is reserved and given back without a change of the text.
+pub fn room_leaves_the_text()
+    ensures reserve { (t : List ℕ) → (n : ℕ) → edit t (Command.Reserve n) ≡ (Reply.Done, t) }
+    ensures exact { (t : List ℕ) → (n : ℕ)
+        → edit t (Command.ReserveExact n) ≡ (Reply.Done, t) }
+    ensures shrink { (t : List ℕ) → edit t Command.ShrinkToFit ≡ (Reply.Done, t) }
+{}
