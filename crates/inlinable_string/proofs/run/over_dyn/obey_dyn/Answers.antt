@@ -24,9 +24,7 @@ pub returns-in-Ok-insert : goal.returns-in-Ok-insert
 returns-in-Ok-insert g c laws = let e = c.in-Ok-insert.ensures in rw c.in-Insert.is (insert_done _ _ _ _ laws e.0 e.1.0 e.1.1.1.1)
 
 pub returns-in-Err-insert : goal.returns-in-Err-insert
-returns-in-Err-insert g c laws =
-    let place = place_if_tested _ _ _ _ c.as_str.utf8 c.as_str.ensures c.is_char_boundary.ensures.test c.if-is_char_boundary.true in
-    let e = c.in-Err-insert.ensures in rw c.in-Insert.is (insert_refused _ _ _ _ laws place e.1.1.0 e.1.1.1.0 e.1.1.1.1)
+returns-in-Err-insert g c laws = let place = place_if_tested _ _ _ _ c.as_str.utf8 c.as_str.ensures c.is_char_boundary.ensures.test c.if-is_char_boundary.true in let e = c.in-Err-insert.ensures in rw c.in-Insert.is (insert_refused _ _ _ _ laws place e.1.1.0 e.1.1.1.0 e.1.1.1.1)
 
 pub returns-else-is_char_boundary : goal.returns-else-is_char_boundary
 returns-else-is_char_boundary g c laws = rw c.in-Insert.is (insert_misplaced _ _ _ (no_place_if_tested _ _ _ _ c.as_str.utf8 c.as_str.ensures c.is_char_boundary.ensures.test c.if-is_char_boundary.false))
@@ -47,17 +45,10 @@ pub returns-then-idx-len : goal.returns-then-idx-len
 returns-then-idx-len g c laws = let e = c.remove.ensures in rw c.in-Remove.is (remove_char _ _ _ _ laws e.0 e.1.0 e.1.1)
 
 pub returns-else-idx-len : goal.returns-else-idx-len
-returns-else-idx-len g c laws =
-    let place = place_if_tested _ _ _ _ c.as_str-in-Remove.utf8 c.as_str-in-Remove.ensures c.is_char_boundary-in-Remove.ensures.test c.if-not-is_char_boundary.false in
-    rw c.in-Remove.is (remove_at_end _ _ place (rw c.len.ensures.0 at c.if-idx-len.false))
+returns-else-idx-len g c laws = let place = place_if_tested _ _ _ _ c.as_str-in-Remove.utf8 c.as_str-in-Remove.ensures c.is_char_boundary-in-Remove.ensures.test c.if-not-is_char_boundary.false in rw c.in-Remove.is (remove_at_end _ _ place (rw c.len.ensures.0 at c.if-idx-len.false))
 
 pub returns-in-Ok-replace_bytes : goal.returns-in-Ok-replace_bytes
-returns-in-Ok-replace_bytes g c laws =
-    let e = c.in-Ok-replace_bytes.ensures in
-    rw c.in-ReplaceBytes.is (replace_done _ _ _ laws e.0 e.1.1.0 e.1.1.1.0 e.1.1.1.1.1.1.0 e.1.1.1.1.1.1.1)
+returns-in-Ok-replace_bytes g c laws = let e = c.in-Ok-replace_bytes.ensures in rw c.in-ReplaceBytes.is (replace_done _ _ _ laws e.0 e.1.1.0 e.1.1.1.0 e.1.1.1.1.1.1.0 e.1.1.1.1.1.1.1)
 
 pub returns-in-Err-NotUtf8 : goal.returns-in-Err-NotUtf8
-returns-in-Err-NotUtf8 g c laws =
-    let e = rw c.in-Err-NotUtf8.field-0-is at c.in-Err-NotUtf8.ensures in
-    let not = e.1.1.1.1.1.0 refl in
-    rw c.in-ReplaceBytes.is (replace_not_utf8 _ _ _ laws e.1.0 not.0 not.1 e.1.1.1.1.1.1.1)
+returns-in-Err-NotUtf8 g c laws = let e = rw c.in-Err-NotUtf8.field-0-is at c.in-Err-NotUtf8.ensures in let not = e.1.1.1.1.1.0 refl in rw c.in-ReplaceBytes.is (replace_not_utf8 _ _ _ laws e.1.0 not.0 not.1 e.1.1.1.1.1.1.1)
