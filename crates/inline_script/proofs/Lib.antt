@@ -1,1 +1,4 @@
 mod Pieces
+mod Cuts
+mod Lines
+mod Scripts

@@ -1,20 +1,71 @@
 -- What a line and its parts are written as.
-use Rattle.std.specs.Prelude.{◌≡◌, ℕ, ◌≤◌, ◌<◌, ◌^◌, List, ◌++◌, length, codes}
+use Rattle.std.specs.Prelude.{◌≡◌, ℕ, ◌≤◌, ◌<◌, ◌^◌, List, [], ◌∷◌, ◌++◌, length, codes, encode_utf8, Ok}
+use Rattle.std.specs.Char.{IsScalar}
+use Rattle.std.specs.Str.Iter.{LacksByte}
 use Rattle.std.specs.Str.Parse.{IsNumeral, digits_value}
+use Rattle.hex.specs.Hex.{decode_of}
 use Rattle.inlinable_string.specs.declared.run.Command.{Command}
-use Rattle.inlinable_string.specs.declared.run.Command.TheVariants.{PushStr, Truncate, Pop}
+use Rattle.inlinable_string.specs.declared.run.Command.TheVariants.{Push, PushStr, Insert, InsertStr, Truncate, Pop, Remove, Clear, ReplaceBytes, Reserve, ReserveExact, ShrinkToFit}
 
--- the digits are written for the place: at least one, at most twenty, and no sign
-pub record IsPlaceText (digits : List ℕ) (place : ℕ) : Type 0 where
+-- the byte between a word and its argument, and between two arguments
+abbrev pub space : ℕ
+space = 32
+
+-- the text has the mark, and is cut at the first one
+pub record IsFirstCut (mark : ℕ) (text front behind : List ℕ) : Type 0 where
+  pub joined : text ≡ front ++ mark ∷ behind
+  pub first : LacksByte mark front
+
+-- the digits are written for the number: at least one, at most twenty, and no sign
+pub record IsNumberText (digits : List ℕ) (number : ℕ) : Type 0 where
   pub numeral : IsNumeral 10 digits
   pub short : length digits ≤ 20
-  pub value : place ≡ digits_value 10 digits
-  pub bounded : place < 2 ^ 64
+  pub value : number ≡ digits_value 10 digits
+  pub bounded : number < 2 ^ 64
+
+-- the text is the character
+pub record IsCharText (text : List ℕ) (c : ℕ) : Type 0 where
+  pub scalar : IsScalar c
+  pub encoded : text ≡ encode_utf8 c
+
+-- the word that a command's line begins with
+abbrev pub word_of : Command → List ℕ
+word_of (Push c) = codes "push"
+word_of (PushStr string) = codes "push_str"
+word_of (Insert place c) = codes "insert"
+word_of (InsertStr place string) = codes "insert_str"
+word_of (Truncate place) = codes "truncate"
+word_of Pop = codes "pop"
+word_of (Remove place) = codes "remove"
+word_of Clear = codes "clear"
+word_of (ReplaceBytes bytes) = codes "replace_bytes"
+word_of (Reserve n) = codes "reserve"
+word_of (ReserveExact n) = codes "reserve_exact"
+word_of ShrinkToFit = codes "shrink_to_fit"
+
+-- a space, and digits that are written for the number
+abbrev pub IsNumberTail : ℕ → List ℕ → Type 0
+IsNumberTail number tail =
+    (digits : List ℕ) × (tail ≡ space ∷ digits) × IsNumberText digits number
+
+-- what stands behind the word of a command's line
+abbrev pub IsTail : Command → List ℕ → Type 0
+IsTail (Push c) tail = (text : List ℕ) × (tail ≡ space ∷ text) × IsCharText text c
+IsTail (PushStr string) tail = tail ≡ space ∷ string.now
+IsTail (Insert place c) tail = (digits : List ℕ) × (text : List ℕ)
+    × (tail ≡ space ∷ digits ++ space ∷ text) × IsNumberText digits place × IsCharText text c
+IsTail (InsertStr place string) tail = (digits : List ℕ)
+    × (tail ≡ space ∷ digits ++ space ∷ string.now) × IsNumberText digits place
+IsTail (Truncate place) tail = IsNumberTail place tail
+IsTail Pop tail = tail ≡ []
+IsTail (Remove place) tail = IsNumberTail place tail
+IsTail Clear tail = tail ≡ []
+IsTail (ReplaceBytes bytes) tail =
+    (digits : List ℕ) × (tail ≡ space ∷ digits) × (decode_of digits ≡ Ok bytes.now)
+IsTail (Reserve n) tail = IsNumberTail n tail
+IsTail (ReserveExact n) tail = IsNumberTail n tail
+IsTail ShrinkToFit tail = tail ≡ []
 
 -- the line asks for the command
 abbrev pub IsLine : List ℕ → Command → Type 0
-IsLine line (PushStr text) = line ≡ codes "push_str " ++ text.now
-IsLine line (Truncate place) =
-    (digits : List ℕ) × (line ≡ codes "truncate " ++ digits) × IsPlaceText digits place
-IsLine line Pop = line ≡ codes "pop"
-IsLine line command = ⊥
+IsLine line command = (tail : List ℕ) × (line ≡ word_of command ++ tail) × IsTail command tail

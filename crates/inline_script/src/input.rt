@@ -1,5 +1,5 @@
 //! Reads a whole input, within a limit.
-ghost use Rattle.std.specs.Prelude.{◌≡◌, ◌≢◌, ◌≤◌, ◌<◌, IfErr, IfOk, IfSome, take, length, vec_len};
+ghost use Rattle.std.specs.Prelude.{◌≡◌, ◌⊎◌, ◌≤◌, ◌<◌, IfErr, IfOk, IfSome, take, length, vec_len};
 ghost use Rattle.std.specs.Io.KnownBytes.{Consumes, IsAtEnd};
 
 use crate::fault::ScriptFault;
@@ -17,7 +17,10 @@ pub fn read_input<R: Read>(alloc: Global, input: &mut R) -> Result<Vec<u8>, Scri
     ensures bound { IfOk result (λ bytes. vec_len bytes ≤ 65536) }
     ensures whole { IfOk result (λ bytes.
         IfSome (R.remaining input.old) (λ all. bytes.items ≡ all)) }
-    ensures fault { IfErr result (λ fault. fault ≢ ScriptFault.BadArgument) }
+    ensures too_long { result ≡ Err ScriptFault.TooLong
+        → IfSome (R.remaining input.old) (λ all. 65536 < length all) }
+    ensures fault { IfErr result (λ fault. (fault ≡ ScriptFault.NoMemory)
+        ⊎ (fault ≡ ScriptFault.TooLong) ⊎ (fault ≡ ScriptFault.Read)) }
 {
     let mut bytes = vec![in alloc; 0u8; MOST_BYTES + 1]?;
     let length = fill(input, bytes.as_mut_slice())?;

@@ -3,6 +3,7 @@
 //! The argument says which text the script begins with; the script comes from standard input.
 #![tactic(auto)]
 
+mod cut;
 mod fault;
 mod input;
 mod line;
@@ -12,6 +13,7 @@ mod output;
 #[cfg(test)]
 mod refusals;
 mod script;
+mod start;
 #[cfg(test)]
 mod tests;
 

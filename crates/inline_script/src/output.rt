@@ -1,22 +1,20 @@
 //! Prints what a run gave. It takes no memory.
-ghost use Rattle.std.specs.Prelude.{◌≡◌, IfErr, OnOk, decimal};
+ghost use Rattle.std.specs.Prelude.{◌≡◌, IfErr, OnOk};
 ghost use Rattle.std.specs.Io.KnownBytes.{Appends};
-ghost use Rattle.inlinable_string.specs.Text.{size};
 ghost use Rattle.inline_script.specs.Output.{labelled_line, printed, reply_line, storage_name};
 
 use crate::fault::ScriptFault;
 use inlinable_string::run::Reply;
 use inlinable_string::{Storage, StringExt};
+use itoa::Buffer;
 use std::io::Write;
 
-/// Prints a line for each reply, and then the text, its length, in these digits, and its storage.
+/// Prints a line for each reply, and then the text, its length and its storage.
 pub fn print<S: StringExt, W: Write>(
     out: &mut W,
     replies: &[Reply],
     text: &S,
-    length: &str,
 ) -> Result<(), ScriptFault>
-    requires { length.now ≡ decimal (size (S.state text.now).text) }
     ensures written { OnOk result (Appends (W.contents out.old) (W.contents out.new)
         (printed replies.now (S.state text.now))) }
     ensures fault { IfErr result (λ fault. fault ≡ ScriptFault.Write) }
@@ -25,7 +23,8 @@ pub fn print<S: StringExt, W: Write>(
         print_reply(out, *reply)?;
     }
     print_line(out, b"text ", text.as_bytes())?;
-    print_line(out, b"length ", length.as_bytes())?;
+    let mut digits = Buffer::new();
+    print_line(out, b"length ", digits.format(text.len()).as_bytes())?;
     print_line(out, b"storage ", storage_name(text.storage()))
 }
 

@@ -8,15 +8,14 @@ use std::alloc::Global;
 use std::process::Abort;
 use std::test::Fail;
 
-const SCRIPT: &[u8] = b"push_str hello world\ntruncate 5\npop\ntruncate 9\n\
-    push_str abcdefghijklmnopqrstuvwxyz0\npop\n";
-
-const OUTPUT: &[u8] = b"done\ndone\nchar o\nbad place\ndone\nchar 0\n\
-    text hellabcdefghijklmnopqrstuvwxyz\nlength 30\nstorage heap\n";
-
-/// The output where memory is refused to the push that leaves the inline room.
-const OUTPUT_REFUSED: &[u8] = b"done\ndone\nchar o\nbad place\nno memory\nchar l\n\
-    text hel\nlength 3\nstorage inline\n";
+/// A script, what it prints, and what it prints where a request of its run is refused.
+#[derive(Clone, Copy)]
+struct Script {
+    word: &'static str,
+    lines: &'static [u8],
+    output: &'static [u8],
+    refused: &'static [&'static [u8]],
+}
 
 /// Counts the refusals that a test meets: a second one is an answer for want of memory where no
 /// request was refused.
@@ -37,43 +36,116 @@ impl Refusals {
 }
 
 /// The argument word.
-fn word(rt: &impl Abort, alloc: Global, refusals: &mut Refusals) -> String {
-    if let Ok(word) = String::from_str(alloc, "inline") {
+fn word_of(rt: &impl Abort, alloc: Global, script: &Script, refusals: &mut Refusals) -> String {
+    if let Ok(word) = String::from_str(alloc, script.word) {
         return word;
     }
     refusals.meet(rt);
-    let again = String::from_str(alloc, "inline");
+    let again = String::from_str(alloc, script.word);
     again.expect(rt, "at most one request is refused")
 }
 
-#[test]
-fn of_a_script(rt: HostRuntime) -> Result<(), Fail> {
-    let alloc = rt.alloc();
+/// Runs a script, and once more where it was refused memory outside of the run.
+fn check(rt: &(impl Abort + Print), alloc: Global, of: &Script) -> Result<(), Fail> {
     let mut refusals = Refusals::new();
-    let words = [word(&rt, alloc, &mut refusals)];
+    let words = [word_of(rt, alloc, of, &mut refusals)];
     let mut cells = [0; 128];
     let size = cells.len();
     let mut room = cells.as_mut_slice();
-    let mut input = SCRIPT;
+    let mut input = of.lines;
     let mut result = script(alloc, &words, &mut input, &mut room);
     let mut left = room.len();
     if result == Err(ScriptFault::NoMemory) {
-        refusals.meet(&rt);
+        refusals.meet(rt);
         assert_eq!(rt; left, size);
         let mut room = cells.as_mut_slice();
-        let mut input = SCRIPT;
+        let mut input = of.lines;
         result = script(alloc, &words, &mut input, &mut room);
         left = room.len();
     }
     assert_eq!(rt; result, Ok(()));
     let written = cells.get(..size.saturating_sub(left)).unwrap_or(&[]);
-    if written == OUTPUT_REFUSED {
-        refusals.meet(&rt);
+    if of.refused.contains(&written) {
+        refusals.meet(rt);
     } else {
-        assert_eq!(rt; written, OUTPUT);
+        assert_eq!(rt; written, of.output);
     }
     if refusals.met > 0 {
         println!(rt; "refused")?;
     }
     Ok(())
+}
+
+#[test]
+fn of_a_text_that_leaves_its_inline_room(rt: HostRuntime) -> Result<(), Fail> {
+    let script = Script {
+        word: "inline",
+        lines: b"push_str hello world\ntruncate 5\npop\nreplace_bytes 48454c4C\ntruncate 9\n\
+            push_str abcdefghijklmnopqrstuvwxyz0\npop\n",
+        output: b"done\ndone\nchar o\ndone\nbad place\ndone\nchar 0\n\
+            text HELLabcdefghijklmnopqrstuvwxyz\nlength 30\nstorage heap\n",
+        refused: &[
+            b"done\ndone\nchar o\ndone\nbad place\nno memory\nchar L\n\
+            text HEL\nlength 3\nstorage inline\n",
+        ],
+    };
+    check(&rt, rt.alloc(), &script)
+}
+
+#[test]
+fn of_a_text_with_no_inline_room(rt: HostRuntime) -> Result<(), Fail> {
+    let script = Script {
+        word: "inline0",
+        lines: b"push a\npop\nshrink_to_fit\n",
+        output: b"done\nchar a\ndone\ntext \nlength 0\nstorage inline\n",
+        refused: &[b"no memory\nnone\ndone\ntext \nlength 0\nstorage inline\n"],
+    };
+    check(&rt, rt.alloc(), &script)
+}
+
+#[test]
+fn of_a_text_that_outgrows_eight_bytes(rt: HostRuntime) -> Result<(), Fail> {
+    let script = Script {
+        word: "inline8",
+        lines: b"push_str 12345678\npush 9\nreplace_bytes 393837363534333231\n",
+        output: b"done\ndone\ndone\ntext 987654321\nlength 9\nstorage heap\n",
+        refused: &[b"done\nno memory\nwrong length\ntext 12345678\nlength 8\nstorage inline\n"],
+    };
+    check(&rt, rt.alloc(), &script)
+}
+
+#[test]
+fn of_a_text_that_begins_on_the_heap(rt: HostRuntime) -> Result<(), Fail> {
+    let script = Script {
+        word: "heap",
+        lines: b"push_str 0123456789\nreserve 31\nshrink_to_fit\n",
+        output: b"done\ndone\ndone\ntext 0123456789\nlength 10\nstorage inline\n",
+        refused: &[b"done\nno memory\ndone\ntext 0123456789\nlength 10\nstorage inline\n"],
+    };
+    check(&rt, rt.alloc(), &script)
+}
+
+#[test]
+fn of_a_text_that_begins_on_the_heap_and_gets_no_line(rt: HostRuntime) -> Result<(), Fail> {
+    let script = Script {
+        word: "heap",
+        lines: b"",
+        output: b"text \nlength 0\nstorage heap\n",
+        refused: &[],
+    };
+    check(&rt, rt.alloc(), &script)
+}
+
+#[test]
+fn of_a_string(rt: HostRuntime) -> Result<(), Fail> {
+    let script = Script {
+        word: "string",
+        lines: b"push_str abc\nreserve_exact 100\npop\n",
+        output: b"done\ndone\nchar c\ntext ab\nlength 2\nstorage heap\n",
+        refused: &[
+            b"no memory\ndone\nnone\ntext \nlength 0\nstorage heap\n",
+            b"done\nno memory\nchar c\ntext ab\nlength 2\nstorage heap\n",
+        ],
+    };
+    check(&rt, rt.alloc(), &script)
 }

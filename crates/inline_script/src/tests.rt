@@ -38,53 +38,141 @@ fn answer<R: Read>(
     Ok((result, out))
 }
 
+/// A script that is accepted: what it shows, its word, its lines, and what it prints.
+type Accepted = (&'static str, &'static str, &'static str, &'static str);
+
+const ACCEPTED: [Accepted; 21] = [
+    ("no line", "inline", "", "text \nlength 0\nstorage inline\n"),
+    (
+        "no line, with no room inline",
+        "inline0",
+        "",
+        "text \nlength 0\nstorage inline\n",
+    ),
+    (
+        "a new String lies on the heap",
+        "string",
+        "",
+        "text \nlength 0\nstorage heap\n",
+    ),
+    (
+        "a text begins on the heap",
+        "heap",
+        "",
+        "text \nlength 0\nstorage heap\n",
+    ),
+    (
+        "a text is put in, and the number of bytes is tested",
+        "inline",
+        "push_str foo\ninsert_str 2 bar\nreplace_bytes 61\npop\n",
+        "done\ndone\nwrong length\nchar o\ntext fobar\nlength 5\nstorage inline\n",
+    ),
+    (
+        "a String has places and characters too",
+        "string",
+        "push é\ninsert 1 x\nremove 0\npop\n",
+        "done\nbad place\nchar é\nnone\ntext \nlength 0\nstorage heap\n",
+    ),
+    (
+        "shrinking brings a text back, and room for the limit leaves it inline",
+        "heap",
+        "push_str he\nshrink_to_fit\nreserve 28\n",
+        "done\ndone\ndone\ntext he\nlength 2\nstorage inline\n",
+    ),
+    (
+        "an empty line is passed over, and the last line needs no end",
+        "inline",
+        "push_str a\n\npop",
+        "done\nchar a\ntext \nlength 0\nstorage inline\n",
+    ),
+    (
+        "a carriage return belongs to its line",
+        "inline",
+        "push_str a\r\npop\n",
+        "done\nchar \r\ntext a\nlength 1\nstorage inline\n",
+    ),
+    (
+        "the greatest place is read",
+        "inline",
+        "truncate 18446744073709551615\n",
+        "bad place\ntext \nlength 0\nstorage inline\n",
+    ),
+    (
+        "a place has up to twenty digits",
+        "inline",
+        "push_str ab\nremove 00000000000000000001\n",
+        "done\nchar b\ntext a\nlength 1\nstorage inline\n",
+    ),
+    (
+        "a character may be a space",
+        "inline",
+        "push  \n",
+        "done\ntext  \nlength 1\nstorage inline\n",
+    ),
+    (
+        "a character that is put in may be a space, and a text may begin with one",
+        "inline",
+        "insert 0  \ninsert_str 0  a \n",
+        "done\ndone\ntext  a  \nlength 4\nstorage inline\n",
+    ),
+    (
+        "an empty text may be pushed and put in",
+        "inline",
+        "push_str \ninsert_str 0 \n",
+        "done\ndone\ntext \nlength 0\nstorage inline\n",
+    ),
+    (
+        "the empty text has no last character",
+        "inline",
+        "pop\n",
+        "none\ntext \nlength 0\nstorage inline\n",
+    ),
+    (
+        "a place lies between two characters",
+        "inline",
+        "push_str é\ntruncate 1\ntruncate 3\ntruncate 2\npop\n",
+        "done\nbad place\nbad place\ndone\nchar é\ntext \nlength 0\nstorage inline\n",
+    ),
+    (
+        "digits of bytes are of either case",
+        "inline",
+        "push_str abc\nreplace_bytes 4A4b4C\n",
+        "done\ndone\ntext JKL\nlength 3\nstorage inline\n",
+    ),
+    (
+        "bytes that are no text are refused",
+        "inline",
+        "push_str é\nreplace_bytes C361\nreplace_bytes 6162\nclear\nreplace_bytes \n",
+        "done\nnot utf-8\ndone\ndone\ndone\ntext \nlength 0\nstorage inline\n",
+    ),
+    (
+        "a reservation that cannot be counted is refused, and the run goes on",
+        "inline",
+        "push a\nreserve 18446744073709551615\nreserve_exact 18446744073709551615\npush b\n",
+        "done\nno memory\nno memory\ndone\ntext ab\nlength 2\nstorage inline\n",
+    ),
+    (
+        "a text outgrows eight bytes",
+        "inline8",
+        "push_str 12345678\npush 9\n",
+        "done\ndone\ntext 123456789\nlength 9\nstorage heap\n",
+    ),
+    (
+        "room past the limit takes a text to the heap",
+        "inline",
+        "reserve_exact 31\n",
+        "done\ntext \nlength 0\nstorage heap\n",
+    ),
+];
+
 #[test]
 fn accepted_scripts_print_each_reply_and_the_text(rt: HostRuntime) -> Result<(), Fail> {
     let alloc = rt.alloc();
-    for (name, lines, replies, state) in [
-        ("no line", "", "", EMPTY),
-        (
-            "an empty line is passed over, and the last line needs no end",
-            "push_str a\n\npop",
-            "done\nchar a\n",
-            EMPTY,
-        ),
-        (
-            "a carriage return belongs to its line",
-            "push_str a\r\npop\n",
-            "done\nchar \r\n",
-            "text a\nlength 1\nstorage inline\n",
-        ),
-        (
-            "the greatest place is read",
-            "truncate 18446744073709551615\n",
-            "bad place\n",
-            EMPTY,
-        ),
-        (
-            "an empty text may be pushed",
-            "push_str \n",
-            "done\n",
-            EMPTY,
-        ),
-        (
-            "the empty text has no last character",
-            "pop\n",
-            "none\n",
-            EMPTY,
-        ),
-        (
-            "a place lies between two characters",
-            "push_str é\ntruncate 1\ntruncate 3\ntruncate 2\npop\n",
-            "done\nbad place\nbad place\ndone\nchar é\n",
-            EMPTY,
-        ),
-    ] {
+    for (name, word, lines, output) in ACCEPTED {
         let mut input = lines.as_bytes();
-        let (result, out) = answer(alloc, &["inline"], &mut input)?;
+        let (result, out) = answer(alloc, &[word], &mut input)?;
         assert_eq!(rt; result, Ok(()), "{name}");
-        let wanted = format!(in alloc; "{replies}{state}")?;
-        assert_eq!(rt; out.as_slice(), wanted.as_bytes(), "{name}");
+        assert_eq!(rt; out.as_slice(), output.as_bytes(), "{name}");
     }
     Ok(())
 }
@@ -92,18 +180,34 @@ fn accepted_scripts_print_each_reply_and_the_text(rt: HostRuntime) -> Result<(),
 #[test]
 fn rejected_scripts_name_their_fault_and_print_nothing(rt: HostRuntime) -> Result<(), Fail> {
     let alloc = rt.alloc();
-    let cases: [(&[u8], ScriptFault); 13] = [
+    let cases: [(&[u8], ScriptFault); 29] = [
         (b"pop\npush ab\n", ScriptFault::BadLine(2)),
         (b"truncate 18446744073709551616\n", ScriptFault::BadLine(1)),
         (b"truncate 000000000000000000000\n", ScriptFault::BadLine(1)),
         (b"truncate +1\n", ScriptFault::BadLine(1)),
+        (b"truncate -0\n", ScriptFault::BadLine(1)),
         (b"truncate \n", ScriptFault::BadLine(1)),
         (b"truncate\n", ScriptFault::BadLine(1)),
+        (b"remove 1 \n", ScriptFault::BadLine(1)),
+        (b"reserve  1\n", ScriptFault::BadLine(1)),
+        (b"reserve_exact 0x1\n", ScriptFault::BadLine(1)),
+        (b"insert 0\n", ScriptFault::BadLine(1)),
+        (b"insert 0 \n", ScriptFault::BadLine(1)),
+        (b"insert 0 ab\n", ScriptFault::BadLine(1)),
+        (b"insert a b\n", ScriptFault::BadLine(1)),
+        (b"insert_str 0\n", ScriptFault::BadLine(1)),
+        (b"insert_str +0 a\n", ScriptFault::BadLine(1)),
         (b"pop\nreplace_bytes 6\n", ScriptFault::BadLine(2)),
+        (b"replace_bytes 6g\n", ScriptFault::BadLine(1)),
+        (b"replace_bytes\n", ScriptFault::BadLine(1)),
         (b"\npop \n", ScriptFault::BadLine(2)),
         (b"push \n", ScriptFault::BadLine(1)),
         (b"push_str\n", ScriptFault::BadLine(1)),
         (b"pop\r\n", ScriptFault::BadLine(1)),
+        (b"\xef\xbb\xbfpop\n", ScriptFault::BadLine(1)),
+        (b"POP\n", ScriptFault::BadLine(1)),
+        (b"clear \n", ScriptFault::BadLine(1)),
+        (b"shrink_to_fit 1\n", ScriptFault::BadLine(1)),
         (b"\xff", ScriptFault::NotUtf8),
         (b"pop\n\xc3", ScriptFault::NotUtf8),
     ];
@@ -113,6 +217,22 @@ fn rejected_scripts_name_their_fault_and_print_nothing(rt: HostRuntime) -> Resul
         assert_eq!(rt; result, Err(fault), "at {bytes:?}");
         assert!(rt; out.is_empty(), "at {bytes:?}");
     }
+    Ok(())
+}
+
+/// One line of so many bytes, whose digits need all the room that there is for bytes.
+#[test]
+fn the_longest_line_of_bytes_is_accepted(rt: HostRuntime) -> Result<(), Fail> {
+    let alloc = rt.alloc();
+    let mut line = vec![in alloc; b'6'; MOST_BYTES]?;
+    let word = b"replace_bytes ";
+    assert!(rt; word.len() <= line.len());
+    line.as_mut_slice()[..word.len()].copy_from_slice(word);
+    let mut input = line.as_slice();
+    let (result, out) = answer(alloc, &["inline"], &mut input)?;
+    assert_eq!(rt; result, Ok(()));
+    let output: &[u8] = b"wrong length\ntext \nlength 0\nstorage inline\n";
+    assert_eq!(rt; out.as_slice(), output);
     Ok(())
 }
 
@@ -139,12 +259,14 @@ fn the_longest_input_is_accepted_and_a_longer_one_is_not(rt: HostRuntime) -> Res
 #[test]
 fn nothing_is_read_after_a_bad_argument(rt: HostRuntime) -> Result<(), Fail> {
     let alloc = rt.alloc();
-    let cases: [&[&str]; 6] = [
+    let cases: [&[&str]; 8] = [
         &["stack"],
         &[],
         &["inline", "inline"],
         &["inline "],
         &["Inline"],
+        &["inline1"],
+        &["heap", "8"],
         &[""],
     ];
     for texts in cases {
