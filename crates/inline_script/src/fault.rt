@@ -1,5 +1,6 @@
 //! Why a script was not run, or not printed to its end.
 ghost use Rattle.std.specs.Prelude.{◌≡◌};
+ghost use Rattle.inline_script.specs.Fault.{status_of};
 ghost use Rattle.inline_script.specs.declared.fault.ScriptFault.TheVariants.{NoMemory};
 
 use std::alloc::{AllocError, AllocFailed};
@@ -26,7 +27,9 @@ pub enum ScriptFault {
 
 impl ScriptFault {
     /// The program's exit status: 2 where the script is at fault, 1 where its surroundings are.
-    pub fn status(self) -> u8 {
+    pub fn status(self) -> u8
+        ensures { result ≡ status_of self }
+    {
         match self {
             ScriptFault::BadArgument
             | ScriptFault::TooLong
