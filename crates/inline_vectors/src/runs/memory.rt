@@ -2,7 +2,6 @@
 use super::made;
 use super::rows::{A26, A27, A28, A30, DIGITS};
 use crate::beside::{HEAP, Policy, after, before, inlinable, run_beside, seen_of};
-use crate::hoard::Hoard;
 use crate::plain::room::PlainText;
 use Storage::{Heap, Inline};
 use inlinable_string::run::Command::{
@@ -15,6 +14,7 @@ use inlinable_string::{InlinableString, InlinableStringN, Storage, StringExt, St
 use std::alloc::Global;
 use std::process::Abort;
 use std::test::Fail;
+use test_memory::Hoard;
 
 /// A run of which the memory is refused from some command on.
 #[derive(Clone, Copy)]
@@ -280,7 +280,7 @@ fn check_refused<S: StringMake + Drop>(
         let next = prepare(rt, alloc, policy, *row);
         assert!(rt; runs.push(next).is_ok());
     }
-    let hoard = Hoard::take(rt, alloc);
+    let hoard = Hoard::take(alloc).expect(rt, "memory cannot be used up here");
     for (run_of, row) in runs.iter_mut().zip(rows) {
         run_of.give(row.refused);
     }
@@ -329,7 +329,7 @@ fn a_push_that_was_refused_is_done_once_memory_is_back(rt: HostRuntime) -> Resul
     let start = before(&rt, alloc, seen_of(&text), inlinable(30));
     let commands = [PushStr(A30), Push('b'), Pop, Push('€')];
     let mut replies = [BadPlace; 4];
-    let hoard = Hoard::take(&rt, alloc);
+    let hoard = Hoard::take(alloc).expect(&rt, "memory cannot be used up here");
     run(&mut text, &commands[..3], &mut replies[..3]);
     drop(hoard);
     let storage = text.storage();
@@ -348,7 +348,7 @@ fn pushes_within_a_limit_of_300_ask_for_no_memory(rt: HostRuntime) -> Result<(),
     let start = before(&rt, alloc, seen_of(&text), inlinable(300));
     let commands = [Push('a'); 300];
     let mut replies = [NoMemory; 300];
-    let hoard = Hoard::take(&rt, alloc);
+    let hoard = Hoard::take(alloc).expect(&rt, "memory cannot be used up here");
     run(&mut text, &commands, &mut replies);
     let mut refused = [Done];
     run(&mut text, &[Push('a')], &mut refused);

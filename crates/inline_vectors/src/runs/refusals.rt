@@ -4,7 +4,6 @@
 use super::rows::{A30, DIGITS};
 use crate::beside::{HEAP, Policy, Seen, Verdict, inlinable, judged, seen_of, seen_of_dyn};
 use crate::plain::plain_from;
-use crate::refusals::Refusals;
 use inlinable_string::run::Command::{
     self, Clear, Insert, InsertStr, Pop, Push, PushStr, Remove, ReplaceBytes, Reserve,
     ReserveExact, ShrinkToFit, Truncate,
@@ -17,6 +16,7 @@ use inlinable_string::{InlinableString, InlinableStringN, Storage, StringExt, St
 use std::alloc::{AllocError, Global};
 use std::process::Abort;
 use std::test::Fail;
+use test_memory::Refusals;
 
 /// Commands of each kind on a new text.
 const COMMANDS: [Command<'static>; 20] = [
@@ -114,9 +114,9 @@ fn check_refused(
     let mut refusals = Refusals::none();
     let fewest = count_no_memory(ample);
     for _ in fewest..count_no_memory(replies) {
-        refusals.meet(rt);
+        assert!(rt; refusals.meet(), "want of memory with no request refused");
     }
-    let refused = 0 < refusals.met;
+    let refused = refusals.has_met;
     if !refused {
         assert!(rt; replies == ample, "{replies:?}");
     }

@@ -6,24 +6,7 @@ use inlinable_string::{InlinableString, InlinableStringN, Storage, StringExt, St
 use std::alloc::{AllocError, Global};
 use std::process::Abort;
 use std::test::Fail;
-
-/// Counts the refusals that a test meets. One request is refused at most, so a second refusal is
-/// an answer for want of memory where there was none.
-#[derive(Drop)]
-pub struct Refusals {
-    pub met: u8,
-}
-
-impl Refusals {
-    pub fn none() -> Refusals {
-        Refusals { met: 0 }
-    }
-
-    pub fn meet(&mut self, rt: &impl Abort) {
-        assert_eq!(rt; self.met, 0, "want of memory with no request refused");
-        self.met = 1;
-    }
-}
+use test_memory::Refusals;
 
 /// A call that may ask for memory, with what it adds.
 #[derive(Clone, Copy)]
@@ -57,7 +40,7 @@ fn made<S: StringMake + Drop>(
     match S::with_capacity(alloc, room) {
         Ok(text) => text,
         Err(AllocError) => {
-            refusals.meet(rt);
+            assert!(rt; refusals.meet(), "want of memory with no request refused");
             S::with_capacity(alloc, room).expect(rt, "one request is refused at most")
         }
     }
@@ -76,7 +59,7 @@ fn assert_grown<S: StringMake + Drop>(
     let capacity = text.capacity();
     let mut answer = grow(&mut text, growth);
     if answer != Some(Ok(())) {
-        refusals.meet(rt);
+        assert!(rt; refusals.meet(), "want of memory with no request refused");
         assert_eq!(rt; text.as_str(), content);
         assert_eq!(rt; text.storage(), storage);
         assert_eq!(rt; text.capacity(), capacity);
@@ -116,7 +99,7 @@ fn a_refused_promotion_leaves_the_text_inline(rt: HostRuntime) -> Result<(), Fai
     }
     let none = (0, "", Storage::Inline);
     assert_grown::<InlinableStringN<0>>(&rt, alloc, &mut refusals, none, GROWTHS[0]);
-    if refusals.met > 0 {
+    if refusals.has_met {
         println!(rt; "refused")?;
     }
     Ok(())
@@ -130,7 +113,7 @@ fn a_refused_growth_on_the_heap_leaves_the_text(rt: HostRuntime) -> Result<(), F
     for growth in GROWTHS {
         assert_grown::<InlinableString>(&rt, alloc, &mut refusals, heap, growth);
     }
-    if refusals.met > 0 {
+    if refusals.has_met {
         println!(rt; "refused")?;
     }
     Ok(())
@@ -144,7 +127,7 @@ fn a_refused_growth_of_a_string_leaves_the_text(rt: HostRuntime) -> Result<(), F
     for growth in GROWTHS {
         assert_grown::<String>(&rt, alloc, &mut refusals, heap, growth);
     }
-    if refusals.met > 0 {
+    if refusals.has_met {
         println!(rt; "refused")?;
     }
     Ok(())
@@ -159,7 +142,7 @@ fn a_refused_reservation_on_the_heap_leaves_the_text(rt: HostRuntime) -> Result<
         assert_grown::<InlinableString>(&rt, alloc, &mut refusals, heap, growth);
         assert_grown::<String>(&rt, alloc, &mut refusals, heap, growth);
     }
-    if refusals.met > 0 {
+    if refusals.has_met {
         println!(rt; "refused")?;
     }
     Ok(())
@@ -177,7 +160,7 @@ fn a_text_is_made_on_the_heap_once_memory_is_there(rt: HostRuntime) -> Result<()
     let mut inline: InlinableString = made(&rt, alloc, &mut refusals, 30);
     assert!(rt; inline.push_str(FULL).is_ok());
     assert_eq!(rt; inline.storage(), Storage::Inline);
-    if refusals.met > 0 {
+    if refusals.has_met {
         println!(rt; "refused")?;
     }
     Ok(())

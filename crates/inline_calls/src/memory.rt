@@ -1,7 +1,6 @@
 //! Calls while every request for memory is refused: a test holds all memory that can be had, makes
 //! its calls, gives the memory back, and then asserts. One gives a block back before its calls, so
 //! that one request of that size is granted and the next one is refused.
-use crate::hoard::Hoard;
 use crate::texts::{
     HEAP_ROOM, assert_text, insert_at, insert_str_at, letters, remove_at, text_of, truncate_at,
 };
@@ -12,6 +11,12 @@ use inlinable_string::{
 use std::alloc::Global;
 use std::process::Abort;
 use std::test::Fail;
+use test_memory::Hoard;
+
+/// All memory that can be had.
+fn all_memory(rt: &impl Abort, alloc: Global) -> Hoard {
+    Hoard::take(alloc).expect(rt, "memory cannot be used up here")
+}
 
 const FULL: &str = "aaaaaaaaaaaaaaaaaaaaaaaaaaaaaa";
 
@@ -19,7 +24,7 @@ const FULL: &str = "aaaaaaaaaaaaaaaaaaaaaaaaaaaaaa";
 fn a_character_up_to_30_bytes_takes_no_memory(rt: HostRuntime) -> Result<(), Fail> {
     let alloc = rt.alloc();
     for (count, ch) in [(29, 'a'), (28, 'é'), (27, '€'), (26, '𝄞')] {
-        let hoard = Hoard::take(&rt, alloc);
+        let hoard = all_memory(&rt, alloc);
         let mut pushed: InlinableString = letters(&rt, alloc, 0, count);
         let pushes = pushed.push(ch).is_ok();
         let mut inserted: InlinableString = letters(&rt, alloc, 0, count);
@@ -41,7 +46,7 @@ fn a_character_past_30_bytes_is_refused_and_changes_nothing(rt: HostRuntime) -> 
     let alloc = rt.alloc();
     for (count, ch) in [(30, 'a'), (29, 'é'), (28, '€'), (27, '𝄞'), (29, '€')] {
         let mut text: InlinableString = letters(&rt, alloc, 0, count);
-        let hoard = Hoard::take(&rt, alloc);
+        let hoard = all_memory(&rt, alloc);
         let pushed = text.push(ch).is_err();
         let at_the_front = insert_at(&mut text, 0, ch);
         let at_the_end = insert_at(&mut text, count, ch);
@@ -71,7 +76,7 @@ fn assert_all_refused<S: StringExt>(
     storage: Storage,
 ) {
     let capacity = text.capacity();
-    let hoard = Hoard::take(rt, alloc);
+    let hoard = all_memory(rt, alloc);
     let answers = [
         text.push('𝄞').is_err(),
         text.push_str("0123").is_err(),
@@ -109,7 +114,7 @@ fn what_outgrows_the_room_at_hand_is_refused_and_changes_nothing(rt: HostRuntime
 #[test]
 fn an_inline_text_is_reserved_and_edited_without_memory(rt: HostRuntime) {
     let alloc = rt.alloc();
-    let hoard = Hoard::take(&rt, alloc);
+    let hoard = all_memory(&rt, alloc);
     let mut full: InlinableString = letters(&rt, alloc, 0, 30);
     let nothing_pushed = full.push_str("").is_ok();
     let nothing_inserted = insert_str_at(&mut full, 30, "");
@@ -151,7 +156,7 @@ fn assert_filled<S: StringMake + Drop>(
     let mut exact: S = letters(rt, alloc, room, count);
     assert!(rt; additional == 0 || text.reserve(additional).is_ok());
     assert!(rt; additional == 0 || exact.reserve_exact(additional).is_ok());
-    let hoard = Hoard::take(rt, alloc);
+    let hoard = all_memory(rt, alloc);
     let mut all_fit = true;
     let mut wanted = count;
     for string in added {
@@ -193,7 +198,7 @@ fn a_cut_takes_no_memory_and_neither_does_a_bad_place(rt: HostRuntime) {
     let alloc = rt.alloc();
     let mut text = String::new(alloc);
     assert!(rt; StringExt::reserve(&mut text, 10).is_ok());
-    let hoard = Hoard::take(&rt, alloc);
+    let hoard = all_memory(&rt, alloc);
     let cut = truncate_at(&mut text, 5);
     let pushed = StringExt::push_str(&mut text, "0123456789").is_ok();
     let last = StringExt::pop(&mut text);
@@ -208,7 +213,7 @@ fn a_cut_takes_no_memory_and_neither_does_a_bad_place(rt: HostRuntime) {
 
 fn assert_replaced<S: StringMake + Drop>(rt: &impl Abort, alloc: Global, room: usize) {
     let mut text: S = text_of(rt, alloc, room, "hello");
-    let hoard = Hoard::take(rt, alloc);
+    let hoard = all_memory(rt, alloc);
     let replaced = text.replace_bytes(b"olleh");
     let is_reversed = text.as_str() == "olleh";
     let long = text.replace_bytes(b"olleho");
@@ -234,7 +239,7 @@ fn bytes_on_the_heap_are_replaced_without_memory(rt: HostRuntime) {
 fn a_text_comes_back_inline_without_memory(rt: HostRuntime) {
     let alloc = rt.alloc();
     let mut text: InlinableString = letters(&rt, alloc, 0, 31);
-    let hoard = Hoard::take(&rt, alloc);
+    let hoard = all_memory(&rt, alloc);
     let last = text.pop();
     let shrunk = text.shrink_to_fit().is_ok();
     drop(hoard);
@@ -247,7 +252,7 @@ fn a_text_comes_back_inline_without_memory(rt: HostRuntime) {
 fn a_text_is_made_without_memory_where_its_room_is_inline(rt: HostRuntime) {
     let alloc = rt.alloc();
     for (capacity, is_granted) in [(0, true), (1, true), (30, true), (31, false), (40, false)] {
-        let hoard = Hoard::take(&rt, alloc);
+        let hoard = all_memory(&rt, alloc);
         let made = InlinableString::with_capacity(alloc, capacity);
         drop(hoard);
         assert_eq!(rt; made.is_ok(), is_granted, "at {capacity}");
@@ -255,7 +260,7 @@ fn a_text_is_made_without_memory_where_its_room_is_inline(rt: HostRuntime) {
             assert_text(&rt, &text, "", Storage::Inline);
         }
     }
-    let hoard = Hoard::take(&rt, alloc);
+    let hoard = all_memory(&rt, alloc);
     let zero = InlinableStringN::<0>::with_capacity(alloc, 1).is_err();
     let string = <String as StringMake>::with_capacity(alloc, 1).is_err();
     let new: String = text_of(&rt, alloc, 0, "");
@@ -267,7 +272,7 @@ fn a_text_is_made_without_memory_where_its_room_is_inline(rt: HostRuntime) {
 #[test]
 fn at_300_the_first_300_bytes_take_no_memory(rt: HostRuntime) -> Result<(), Fail> {
     let alloc = rt.alloc();
-    let hoard = Hoard::take(&rt, alloc);
+    let hoard = all_memory(&rt, alloc);
     let mut text: InlinableStringN<300> = letters(&rt, alloc, 0, 300);
     let one_more = text.push('a').is_err();
     drop(hoard);
@@ -290,7 +295,7 @@ fn promoted_with_one_block(rt: &impl Abort, alloc: Global, size: usize) -> [bool
     for (i, answer) in answers.iter_mut().enumerate() {
         let block: Result<Vec<u8>, _> = Vec::with_capacity(alloc, size);
         let block = block.expect(rt, "memory");
-        let hoard = Hoard::take(rt, alloc);
+        let hoard = all_memory(rt, alloc);
         drop(block);
         *answer = match i {
             0 => pushed.push('b').is_ok(),
