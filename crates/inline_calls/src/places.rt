@@ -3,7 +3,8 @@
 use crate::texts::{
     HEAP_ROOM, assert_text, insert_at, insert_str_at, remove_at, text_of, truncate_at,
 };
-use inlinable_string::{BoxableString, InlinableString, Storage, StringExt};
+use inlinable_string::{BoxableString, InlinableString, Storage, StringExt, StringMake};
+use std::alloc::Global;
 use std::process::Abort;
 
 /// A character of each length. Its places are 0, 1, 3, 6 and 10.
@@ -17,35 +18,47 @@ fn assert_inserted<S: StringExt>(
     wanted: Option<&str>,
 ) {
     let answer = insert_at(text, offset, 'x');
-    assert_eq!(rt; answer.is_some(), wanted.is_some(), "at {offset}");
-    assert_ne!(rt; answer, Some(Err(std::alloc::AllocError)), "at {offset}");
+    let granted = wanted.is_some().then_some(Ok(()));
+    assert_eq!(rt; answer, granted, "at {offset}");
     assert_text(rt, text, wanted.unwrap_or(TEXT), storage);
+}
+
+/// The text with 'x' put in at an offset, if it is a place.
+const WITH_A_CHARACTER: [(usize, Option<&str>); 13] = [
+    (0, Some("xaé€𝄞")),
+    (1, Some("axé€𝄞")),
+    (2, None),
+    (3, Some("aéx€𝄞")),
+    (4, None),
+    (5, None),
+    (6, Some("aé€x𝄞")),
+    (7, None),
+    (8, None),
+    (9, None),
+    (10, Some("aé€𝄞x")),
+    (11, None),
+    (usize::MAX, None),
+];
+
+fn assert_inserted_at_each<S: StringMake + Drop>(
+    rt: &impl Abort,
+    alloc: Global,
+    room: usize,
+    storage: Storage,
+) {
+    for (offset, wanted) in WITH_A_CHARACTER {
+        let mut text: S = text_of(rt, alloc, room, TEXT);
+        assert_inserted(rt, &mut text, storage, offset, wanted);
+    }
 }
 
 #[test]
 fn a_character_goes_in_at_each_place_and_nowhere_else(rt: HostRuntime) {
     let alloc = rt.alloc();
-    for (offset, wanted) in [
-        (0, Some("xaé€𝄞")),
-        (1, Some("axé€𝄞")),
-        (2, None),
-        (3, Some("aéx€𝄞")),
-        (4, None),
-        (5, None),
-        (6, Some("aé€x𝄞")),
-        (7, None),
-        (8, None),
-        (9, None),
-        (10, Some("aé€𝄞x")),
-        (11, None),
-        (usize::MAX, None),
-    ] {
-        let mut inline: InlinableString = text_of(&rt, alloc, 0, TEXT);
-        assert_inserted(&rt, &mut inline, Storage::Inline, offset, wanted);
-        let mut heap: InlinableString = text_of(&rt, alloc, HEAP_ROOM, TEXT);
-        assert_inserted(&rt, &mut heap, Storage::Heap, offset, wanted);
-        let mut string: String = text_of(&rt, alloc, 0, TEXT);
-        assert_inserted(&rt, &mut string, Storage::Heap, offset, wanted);
+    assert_inserted_at_each::<InlinableString>(&rt, alloc, 0, Storage::Inline);
+    assert_inserted_at_each::<InlinableString>(&rt, alloc, HEAP_ROOM, Storage::Heap);
+    assert_inserted_at_each::<String>(&rt, alloc, 0, Storage::Heap);
+    for (offset, wanted) in WITH_A_CHARACTER {
         let mut boxable = BoxableString(text_of(&rt, alloc, 0, TEXT));
         assert_inserted(&rt, &mut boxable, Storage::Inline, offset, wanted);
     }
@@ -59,35 +72,47 @@ fn assert_str_inserted<S: StringExt>(
     wanted: Option<&str>,
 ) {
     let answer = insert_str_at(text, offset, "né");
-    assert_eq!(rt; answer.is_some(), wanted.is_some(), "at {offset}");
-    assert_ne!(rt; answer, Some(Err(std::alloc::AllocError)), "at {offset}");
+    let granted = wanted.is_some().then_some(Ok(()));
+    assert_eq!(rt; answer, granted, "at {offset}");
     assert_text(rt, text, wanted.unwrap_or(TEXT), storage);
+}
+
+/// The text with "né" put in at an offset, if it is a place.
+const WITH_A_TEXT: [(usize, Option<&str>); 13] = [
+    (0, Some("néaé€𝄞")),
+    (1, Some("anéé€𝄞")),
+    (2, None),
+    (3, Some("aéné€𝄞")),
+    (4, None),
+    (5, None),
+    (6, Some("aé€né𝄞")),
+    (7, None),
+    (8, None),
+    (9, None),
+    (10, Some("aé€𝄞né")),
+    (11, None),
+    (usize::MAX, None),
+];
+
+fn assert_str_inserted_at_each<S: StringMake + Drop>(
+    rt: &impl Abort,
+    alloc: Global,
+    room: usize,
+    storage: Storage,
+) {
+    for (offset, wanted) in WITH_A_TEXT {
+        let mut text: S = text_of(rt, alloc, room, TEXT);
+        assert_str_inserted(rt, &mut text, storage, offset, wanted);
+    }
 }
 
 #[test]
 fn a_text_goes_in_at_each_place_and_nowhere_else(rt: HostRuntime) {
     let alloc = rt.alloc();
-    for (offset, wanted) in [
-        (0, Some("néaé€𝄞")),
-        (1, Some("anéé€𝄞")),
-        (2, None),
-        (3, Some("aéné€𝄞")),
-        (4, None),
-        (5, None),
-        (6, Some("aé€né𝄞")),
-        (7, None),
-        (8, None),
-        (9, None),
-        (10, Some("aé€𝄞né")),
-        (11, None),
-        (usize::MAX, None),
-    ] {
-        let mut inline: InlinableString = text_of(&rt, alloc, 0, TEXT);
-        assert_str_inserted(&rt, &mut inline, Storage::Inline, offset, wanted);
-        let mut heap: InlinableString = text_of(&rt, alloc, HEAP_ROOM, TEXT);
-        assert_str_inserted(&rt, &mut heap, Storage::Heap, offset, wanted);
-        let mut string: String = text_of(&rt, alloc, 0, TEXT);
-        assert_str_inserted(&rt, &mut string, Storage::Heap, offset, wanted);
+    assert_str_inserted_at_each::<InlinableString>(&rt, alloc, 0, Storage::Inline);
+    assert_str_inserted_at_each::<InlinableString>(&rt, alloc, HEAP_ROOM, Storage::Heap);
+    assert_str_inserted_at_each::<String>(&rt, alloc, 0, Storage::Heap);
+    for (offset, wanted) in WITH_A_TEXT {
         let mut boxable = BoxableString(text_of(&rt, alloc, 0, TEXT));
         assert_str_inserted(&rt, &mut boxable, Storage::Inline, offset, wanted);
     }
@@ -104,30 +129,42 @@ fn assert_truncated<S: StringExt>(
     assert_text(rt, text, wanted.unwrap_or(TEXT), storage);
 }
 
+/// The text cut at an offset, if it is a place.
+const CUT: [(usize, Option<&str>); 13] = [
+    (0, Some("")),
+    (1, Some("a")),
+    (2, None),
+    (3, Some("aé")),
+    (4, None),
+    (5, None),
+    (6, Some("aé€")),
+    (7, None),
+    (8, None),
+    (9, None),
+    (10, Some(TEXT)),
+    (11, None),
+    (usize::MAX, None),
+];
+
+fn assert_truncated_at_each<S: StringMake + Drop>(
+    rt: &impl Abort,
+    alloc: Global,
+    room: usize,
+    storage: Storage,
+) {
+    for (offset, wanted) in CUT {
+        let mut text: S = text_of(rt, alloc, room, TEXT);
+        assert_truncated(rt, &mut text, storage, offset, wanted);
+    }
+}
+
 #[test]
 fn a_text_is_cut_at_each_place_and_nowhere_else(rt: HostRuntime) {
     let alloc = rt.alloc();
-    for (offset, wanted) in [
-        (0, Some("")),
-        (1, Some("a")),
-        (2, None),
-        (3, Some("aé")),
-        (4, None),
-        (5, None),
-        (6, Some("aé€")),
-        (7, None),
-        (8, None),
-        (9, None),
-        (10, Some(TEXT)),
-        (11, None),
-        (usize::MAX, None),
-    ] {
-        let mut inline: InlinableString = text_of(&rt, alloc, 0, TEXT);
-        assert_truncated(&rt, &mut inline, Storage::Inline, offset, wanted);
-        let mut heap: InlinableString = text_of(&rt, alloc, HEAP_ROOM, TEXT);
-        assert_truncated(&rt, &mut heap, Storage::Heap, offset, wanted);
-        let mut string: String = text_of(&rt, alloc, 0, TEXT);
-        assert_truncated(&rt, &mut string, Storage::Heap, offset, wanted);
+    assert_truncated_at_each::<InlinableString>(&rt, alloc, 0, Storage::Inline);
+    assert_truncated_at_each::<InlinableString>(&rt, alloc, HEAP_ROOM, Storage::Heap);
+    assert_truncated_at_each::<String>(&rt, alloc, 0, Storage::Heap);
+    for (offset, wanted) in CUT {
         let mut boxable = BoxableString(text_of(&rt, alloc, 0, TEXT));
         assert_truncated(&rt, &mut boxable, Storage::Inline, offset, wanted);
     }
@@ -144,30 +181,42 @@ fn assert_removed<S: StringExt>(
     assert_text(rt, text, wanted, storage);
 }
 
+/// What is taken out at an offset, and what stands then.
+const WITHOUT_A_CHARACTER: [(usize, (Option<char>, &str)); 13] = [
+    (0, (Some('a'), "é€𝄞")),
+    (1, (Some('é'), "a€𝄞")),
+    (2, (None, TEXT)),
+    (3, (Some('€'), "aé𝄞")),
+    (4, (None, TEXT)),
+    (5, (None, TEXT)),
+    (6, (Some('𝄞'), "aé€")),
+    (7, (None, TEXT)),
+    (8, (None, TEXT)),
+    (9, (None, TEXT)),
+    (10, (None, TEXT)),
+    (11, (None, TEXT)),
+    (usize::MAX, (None, TEXT)),
+];
+
+fn assert_removed_at_each<S: StringMake + Drop>(
+    rt: &impl Abort,
+    alloc: Global,
+    room: usize,
+    storage: Storage,
+) {
+    for (offset, wanted) in WITHOUT_A_CHARACTER {
+        let mut text: S = text_of(rt, alloc, room, TEXT);
+        assert_removed(rt, &mut text, storage, offset, wanted);
+    }
+}
+
 #[test]
 fn a_character_is_taken_out_where_it_begins_and_nowhere_else(rt: HostRuntime) {
     let alloc = rt.alloc();
-    for (offset, wanted) in [
-        (0, (Some('a'), "é€𝄞")),
-        (1, (Some('é'), "a€𝄞")),
-        (2, (None, TEXT)),
-        (3, (Some('€'), "aé𝄞")),
-        (4, (None, TEXT)),
-        (5, (None, TEXT)),
-        (6, (Some('𝄞'), "aé€")),
-        (7, (None, TEXT)),
-        (8, (None, TEXT)),
-        (9, (None, TEXT)),
-        (10, (None, TEXT)),
-        (11, (None, TEXT)),
-        (usize::MAX, (None, TEXT)),
-    ] {
-        let mut inline: InlinableString = text_of(&rt, alloc, 0, TEXT);
-        assert_removed(&rt, &mut inline, Storage::Inline, offset, wanted);
-        let mut heap: InlinableString = text_of(&rt, alloc, HEAP_ROOM, TEXT);
-        assert_removed(&rt, &mut heap, Storage::Heap, offset, wanted);
-        let mut string: String = text_of(&rt, alloc, 0, TEXT);
-        assert_removed(&rt, &mut string, Storage::Heap, offset, wanted);
+    assert_removed_at_each::<InlinableString>(&rt, alloc, 0, Storage::Inline);
+    assert_removed_at_each::<InlinableString>(&rt, alloc, HEAP_ROOM, Storage::Heap);
+    assert_removed_at_each::<String>(&rt, alloc, 0, Storage::Heap);
+    for (offset, wanted) in WITHOUT_A_CHARACTER {
         let mut boxable = BoxableString(text_of(&rt, alloc, 0, TEXT));
         assert_removed(&rt, &mut boxable, Storage::Inline, offset, wanted);
     }

@@ -56,20 +56,34 @@ fn assert_grown<S: StringMake + Drop>(
 ) {
     let mut text: S = made(rt, alloc, refusals, room);
     text.push_str(content).expect(rt, "the room was asked for");
-    let capacity = text.capacity();
-    let mut answer = grow(&mut text, growth);
-    if answer != Some(Ok(())) {
+    let before = (content, storage, text.capacity());
+    if grow(&mut text, growth) != Some(Ok(())) {
         assert!(rt; refusals.meet(), "want of memory with no request refused");
-        assert_eq!(rt; text.as_str(), content);
-        assert_eq!(rt; text.storage(), storage);
-        assert_eq!(rt; text.capacity(), capacity);
-        answer = grow(&mut text, growth);
+        assert_eq!(rt; (text.as_str(), text.storage(), text.capacity()), before);
+        assert_eq!(rt; grow(&mut text, growth), Some(Ok(())));
     }
-    assert_eq!(rt; answer, Some(Ok(())));
-    let grown = text.as_str().strip_prefix(front);
-    let middle = grown.and_then(|rest| rest.strip_suffix(back));
-    assert_eq!(rt; middle, Some(content));
-    assert_eq!(rt; text.storage(), Storage::Heap);
+    assert_eq!(rt;
+        (between(text.as_str(), front, back), text.storage()),
+        (Some(content), Storage::Heap)
+    );
+}
+
+/// What stands between these in a text that begins and ends with them.
+fn between<'a>(whole: &'a str, front: &str, back: &str) -> Option<&'a str> {
+    whole.strip_prefix(front)?.strip_suffix(back)
+}
+
+/// The same of each of these growths.
+fn assert_each_grown<S: StringMake + Drop>(
+    rt: &impl Abort,
+    alloc: Global,
+    refusals: &mut Refusals,
+    text: (usize, &str, Storage),
+    growths: &[(Growth, &str, &str)],
+) {
+    for growth in growths {
+        assert_grown::<S>(rt, alloc, refusals, text, *growth);
+    }
 }
 
 const FULL: &str = "aaaaaaaaaaaaaaaaaaaaaaaaaaaaaa";
@@ -94,8 +108,8 @@ fn a_refused_promotion_leaves_the_text_inline(rt: HostRuntime) -> Result<(), Fai
     let alloc = rt.alloc();
     let mut refusals = Refusals::none();
     let inline = (0, FULL, Storage::Inline);
-    for growth in GROWTHS.into_iter().chain(RESERVATIONS) {
-        assert_grown::<InlinableString>(&rt, alloc, &mut refusals, inline, growth);
+    for growths in [GROWTHS.as_slice(), RESERVATIONS.as_slice()] {
+        assert_each_grown::<InlinableString>(&rt, alloc, &mut refusals, inline, growths);
     }
     let none = (0, "", Storage::Inline);
     assert_grown::<InlinableStringN<0>>(&rt, alloc, &mut refusals, none, GROWTHS[0]);
@@ -110,9 +124,7 @@ fn a_refused_growth_on_the_heap_leaves_the_text(rt: HostRuntime) -> Result<(), F
     let alloc = rt.alloc();
     let mut refusals = Refusals::none();
     let heap = (HEAP_ROOM, OVER, Storage::Heap);
-    for growth in GROWTHS {
-        assert_grown::<InlinableString>(&rt, alloc, &mut refusals, heap, growth);
-    }
+    assert_each_grown::<InlinableString>(&rt, alloc, &mut refusals, heap, &GROWTHS);
     if refusals.has_met {
         println!(rt; "refused")?;
     }
@@ -124,9 +136,7 @@ fn a_refused_growth_of_a_string_leaves_the_text(rt: HostRuntime) -> Result<(), F
     let alloc = rt.alloc();
     let mut refusals = Refusals::none();
     let heap = (HEAP_ROOM, OVER, Storage::Heap);
-    for growth in GROWTHS {
-        assert_grown::<String>(&rt, alloc, &mut refusals, heap, growth);
-    }
+    assert_each_grown::<String>(&rt, alloc, &mut refusals, heap, &GROWTHS);
     if refusals.has_met {
         println!(rt; "refused")?;
     }
@@ -138,10 +148,8 @@ fn a_refused_reservation_on_the_heap_leaves_the_text(rt: HostRuntime) -> Result<
     let alloc = rt.alloc();
     let mut refusals = Refusals::none();
     let heap = (HEAP_ROOM, OVER, Storage::Heap);
-    for growth in RESERVATIONS {
-        assert_grown::<InlinableString>(&rt, alloc, &mut refusals, heap, growth);
-        assert_grown::<String>(&rt, alloc, &mut refusals, heap, growth);
-    }
+    assert_each_grown::<InlinableString>(&rt, alloc, &mut refusals, heap, &RESERVATIONS);
+    assert_each_grown::<String>(&rt, alloc, &mut refusals, heap, &RESERVATIONS);
     if refusals.has_met {
         println!(rt; "refused")?;
     }

@@ -142,14 +142,18 @@ fn check_refused(
     refused
 }
 
-#[test]
-fn of_a_run_on_an_inline_or_heap_text(rt: HostRuntime) -> Result<(), Fail> {
-    let mut text = InlinableString::new(rt.alloc());
+/// Gives the commands to a new text. Answers whether a request was refused.
+fn meets_refusal<S: StringMake + Drop>(rt: &impl Abort, alloc: Global, policy: Policy) -> bool {
+    let mut text = S::new(alloc);
     let mut replies = [BadPlace; 20];
     run(&mut text, &COMMANDS, &mut replies);
     let end = seen_of(&text);
-    let policy = inlinable(30);
-    if check_refused(&rt, rt.alloc(), policy, &COMMANDS, &replies, &REPLIES, end) {
+    check_refused(rt, alloc, policy, &COMMANDS, &replies, &REPLIES, end)
+}
+
+#[test]
+fn of_a_run_on_an_inline_or_heap_text(rt: HostRuntime) -> Result<(), Fail> {
+    if meets_refusal::<InlinableString>(&rt, rt.alloc(), inlinable(30)) {
         println!(rt; "refused")?;
     }
     Ok(())
@@ -157,12 +161,7 @@ fn of_a_run_on_an_inline_or_heap_text(rt: HostRuntime) -> Result<(), Fail> {
 
 #[test]
 fn of_a_run_on_a_text_with_a_small_limit(rt: HostRuntime) -> Result<(), Fail> {
-    let mut text = InlinableStringN::<8>::new(rt.alloc());
-    let mut replies = [BadPlace; 20];
-    run(&mut text, &COMMANDS, &mut replies);
-    let end = seen_of(&text);
-    let policy = inlinable(8);
-    if check_refused(&rt, rt.alloc(), policy, &COMMANDS, &replies, &REPLIES, end) {
+    if meets_refusal::<InlinableStringN<8>>(&rt, rt.alloc(), inlinable(8)) {
         println!(rt; "refused")?;
     }
     Ok(())
@@ -180,31 +179,42 @@ fn of_a_run_on_a_string_behind_a_dyn(rt: HostRuntime) -> Result<(), Fail> {
     Ok(())
 }
 
-#[test]
-fn of_a_promotion_in_a_run(rt: HostRuntime) -> Result<(), Fail> {
-    let mut text = InlinableString::new(rt.alloc());
+/// Gives four commands of which one promotes a new text. Answers whether a request was refused.
+fn meets_refusal_at_promotion<S: StringMake + Drop>(
+    rt: &impl Abort,
+    alloc: Global,
+    policy: Policy,
+) -> bool {
+    let mut text = S::new(alloc);
     let commands = [PushStr(A30), Push('b'), Pop, Push('€')];
     let mut replies = [BadPlace; 4];
     run(&mut text, &commands, &mut replies);
     let ample = [Done, Done, Char('b'), Done];
     let end = seen_of(&text);
-    if check_refused(
-        &rt,
-        rt.alloc(),
-        inlinable(30),
-        &commands,
-        &replies,
-        &ample,
-        end,
-    ) {
-        // The first request is that of the promotion, the second that of the growth after it.
-        if replies[1] == NoMemory {
-            assert_eq!(rt; replies, [Done, NoMemory, Char('a'), Done]);
-            assert_eq!(rt; (text.len(), text.storage()), (32, Storage::Heap));
-        } else {
-            assert_eq!(rt; replies, [Done, Done, Char('b'), NoMemory]);
-            assert_eq!(rt; (text.as_str(), text.storage()), (A30, Storage::Heap));
-        }
+    let refused = check_refused(rt, alloc, policy, &commands, &replies, &ample, end);
+    if refused {
+        check_one_refused(rt, replies, end);
+    }
+    refused
+}
+
+/// The first request is that of the promotion, the second that of the growth after it.
+fn check_one_refused(rt: &impl Abort, replies: [Reply; 4], end: Seen<'_>) {
+    let wanted = if replies[1] == NoMemory {
+        ([Done, NoMemory, Char('a'), Done], A29_EURO)
+    } else {
+        ([Done, Done, Char('b'), NoMemory], A30)
+    };
+    assert_eq!(rt; (replies, end.string), wanted);
+    assert_eq!(rt; end.storage, Storage::Heap);
+}
+
+/// 32 bytes.
+const A29_EURO: &str = "aaaaaaaaaaaaaaaaaaaaaaaaaaaaa€";
+
+#[test]
+fn of_a_promotion_in_a_run(rt: HostRuntime) -> Result<(), Fail> {
+    if meets_refusal_at_promotion::<InlinableString>(&rt, rt.alloc(), inlinable(30)) {
         println!(rt; "refused")?;
     }
     Ok(())
