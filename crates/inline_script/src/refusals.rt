@@ -7,6 +7,7 @@ use crate::script::script;
 use std::alloc::Global;
 use std::process::Abort;
 use std::test::Fail;
+use test_memory::Refusals;
 
 /// A script, what it prints, and what it prints where a request of its run is refused.
 #[derive(Clone, Copy)]
@@ -17,22 +18,8 @@ struct Script {
     refused: &'static [&'static [u8]],
 }
 
-/// Counts the refusals that a test meets: a second one is an answer for want of memory where no
-/// request was refused.
-#[derive(Drop)]
-struct Refusals {
-    met: u8,
-}
-
-impl Refusals {
-    fn new() -> Refusals {
-        Refusals { met: 0 }
-    }
-
-    fn meet(&mut self, rt: &impl Abort) {
-        assert_eq!(rt; self.met, 0, "want of memory with no request refused");
-        self.met = 1;
-    }
+fn assert_first(rt: &impl Abort, refusals: &mut Refusals) {
+    assert!(rt; refusals.meet(), "want of memory with no request refused");
 }
 
 /// The argument word.
@@ -40,14 +27,14 @@ fn word_of(rt: &impl Abort, alloc: Global, script: &Script, refusals: &mut Refus
     if let Ok(word) = String::from_str(alloc, script.word) {
         return word;
     }
-    refusals.meet(rt);
+    assert_first(rt, refusals);
     let again = String::from_str(alloc, script.word);
     again.expect(rt, "at most one request is refused")
 }
 
 /// Runs a script, and once more where it was refused memory outside of the run.
 fn check(rt: &(impl Abort + Print), alloc: Global, of: &Script) -> Result<(), Fail> {
-    let mut refusals = Refusals::new();
+    let mut refusals = Refusals::none();
     let words = [word_of(rt, alloc, of, &mut refusals)];
     let mut cells = [0; 128];
     let size = cells.len();
@@ -56,7 +43,7 @@ fn check(rt: &(impl Abort + Print), alloc: Global, of: &Script) -> Result<(), Fa
     let mut result = script(alloc, &words, &mut input, &mut room);
     let mut left = room.len();
     if result == Err(ScriptFault::NoMemory) {
-        refusals.meet(rt);
+        assert_first(rt, &mut refusals);
         assert_eq!(rt; left, size);
         let mut room = cells.as_mut_slice();
         let mut input = of.lines;
@@ -66,11 +53,11 @@ fn check(rt: &(impl Abort + Print), alloc: Global, of: &Script) -> Result<(), Fa
     assert_eq!(rt; result, Ok(()));
     let written = cells.get(..size.saturating_sub(left)).unwrap_or(&[]);
     if of.refused.contains(&written) {
-        refusals.meet(rt);
+        assert_first(rt, &mut refusals);
     } else {
         assert_eq!(rt; written, of.output);
     }
-    if refusals.met > 0 {
+    if refusals.has_met {
         println!(rt; "refused")?;
     }
     Ok(())

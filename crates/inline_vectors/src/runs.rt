@@ -98,6 +98,17 @@ fn check_row_dyn(
     check_end(rt, policy, row_limit, row, count, seen_of_dyn(text));
 }
 
+/// Where a text lies after these steps of a row: what is not told is as it was seen.
+fn wanted_storage(policy: Policy, row_limit: usize, steps: &[Step], seen: Storage) -> Storage {
+    if !policy.demotes {
+        return Heap;
+    }
+    match steps.last() {
+        Some(step) if policy.limit == row_limit => step.2,
+        _ => seen,
+    }
+}
+
 /// Asserts what a row tells of a text after so many of its steps.
 fn check_end(
     rt: &impl Abort,
@@ -109,32 +120,45 @@ fn check_end(
 ) {
     let (_, start, steps, last) = row;
     assert!(rt; count <= steps.len());
-    if count == steps.len() {
-        assert_eq!(rt; end.string, last);
-    }
-    if let Some(step) = steps[..count].last() {
-        let told = policy.limit == row_limit && policy.demotes;
-        let storage = if told { step.2 } else { end.storage };
-        assert_eq!(rt; end.storage, storage, "after {count} steps from {start}");
-    }
-    if !policy.demotes {
-        assert_eq!(rt; end.storage, Heap);
-    }
-    if end.storage == Inline {
-        assert_eq!(rt; end.capacity, policy.limit);
+    let string = if count == steps.len() {
+        last
+    } else {
+        end.string
+    };
+    let storage = wanted_storage(policy, row_limit, &steps[..count], end.storage);
+    let capacity = if end.storage == Inline {
+        policy.limit
+    } else {
+        end.capacity
+    };
+    assert_eq!(rt;
+        (end.string, end.storage, end.capacity),
+        (string, storage, capacity),
+        "after {count} steps from {start}"
+    );
+}
+
+fn check_rows<S: StringMake + Drop>(
+    rt: &impl Abort,
+    alloc: Global,
+    policy: Policy,
+    row_limit: usize,
+    rows: &[Row],
+) {
+    for row in rows {
+        check_row::<S>(rt, alloc, policy, row_limit, *row);
     }
 }
 
 #[test]
 fn each_row_on_every_kind_of_text(rt: HostRuntime) -> Result<(), Fail> {
     let alloc = rt.alloc();
-    for row in AT_30 {
-        check_row::<InlinableString>(&rt, alloc, inlinable(30), 30, row);
-        check_row::<InlinableStringN<0>>(&rt, alloc, inlinable(0), 30, row);
-        check_row::<InlinableStringN<8>>(&rt, alloc, inlinable(8), 30, row);
-        check_row::<InlinableStringN<300>>(&rt, alloc, inlinable(300), 30, row);
-        check_row::<String>(&rt, alloc, HEAP, 30, row);
-    }
+    let rows = AT_30.as_slice();
+    check_rows::<InlinableString>(&rt, alloc, inlinable(30), 30, rows);
+    check_rows::<InlinableStringN<0>>(&rt, alloc, inlinable(0), 30, rows);
+    check_rows::<InlinableStringN<8>>(&rt, alloc, inlinable(8), 30, rows);
+    check_rows::<InlinableStringN<300>>(&rt, alloc, inlinable(300), 30, rows);
+    check_rows::<String>(&rt, alloc, HEAP, 30, rows);
     Ok(())
 }
 
@@ -157,42 +181,38 @@ fn each_row_on_a_text_behind_a_dyn(rt: HostRuntime) -> Result<(), Fail> {
 #[test]
 fn small_limits_are_kept_to_the_byte(rt: HostRuntime) -> Result<(), Fail> {
     let alloc = rt.alloc();
-    for row in AT_0 {
-        check_row::<InlinableStringN<0>>(&rt, alloc, inlinable(0), 0, row);
-    }
-    for row in AT_3 {
-        check_row::<InlinableStringN<3>>(&rt, alloc, inlinable(3), 3, row);
-    }
-    for row in AT_4 {
-        check_row::<InlinableStringN<4>>(&rt, alloc, inlinable(4), 4, row);
-    }
+    check_rows::<InlinableStringN<0>>(&rt, alloc, inlinable(0), 0, &AT_0);
+    check_rows::<InlinableStringN<3>>(&rt, alloc, inlinable(3), 3, &AT_3);
+    check_rows::<InlinableStringN<4>>(&rt, alloc, inlinable(4), 4, &AT_4);
+    Ok(())
+}
+
+fn check_insertions<S: StringMake + Drop>(
+    rt: &impl Abort,
+    alloc: Global,
+    policy: Policy,
+    (count, storage): (usize, Storage),
+) -> Result<(), Fail> {
+    assert!(rt; count <= 100);
+    let commands = [InsertStr(0, "foo"); 100];
+    let mut replies = [NoMemory; 100];
+    let mut text = S::new(alloc);
+    let given = &commands[..count];
+    run_beside(rt, alloc, &mut text, policy, given, &mut replies[..count]);
+    assert!(rt; replies[..count] == [Done; 100][..count]);
+    let wanted = "foo".repeat(alloc, count)?;
+    assert_eq!(rt;
+        (text.as_str(), text.len(), text.storage()),
+        (wanted.as_str(), 3 * count, storage),
+        "after {count} insertions"
+    );
     Ok(())
 }
 
 #[test]
 fn a_hundred_insertions_at_the_front(rt: HostRuntime) -> Result<(), Fail> {
-    let alloc = rt.alloc();
-    let commands = [InsertStr(0, "foo"); 100];
-    for (count, storage) in [(10, Inline), (11, Heap), (100, Heap)] {
-        let mut text = InlinableString::new(alloc);
-        let mut replies = [NoMemory; 100];
-        let given = &commands[..count];
-        run_beside(
-            &rt,
-            alloc,
-            &mut text,
-            inlinable(30),
-            given,
-            &mut replies[..count],
-        );
-        assert!(rt; replies[..count] == [Done; 100][..count]);
-        let mut wanted = String::new(alloc);
-        for _ in 0..count {
-            wanted.push_str("foo")?;
-        }
-        assert_eq!(rt; text.as_str(), wanted.as_str());
-        assert_eq!(rt; text.len(), 3 * count);
-        assert_eq!(rt; text.storage(), storage, "after {count} insertions");
+    for row in [(10, Inline), (11, Heap), (100, Heap)] {
+        check_insertions::<InlinableString>(&rt, rt.alloc(), inlinable(30), row)?;
     }
     Ok(())
 }

@@ -4,6 +4,7 @@ use crate::beside::{inlinable, run_beside};
 use inlinable_string::run::{Command, Reply};
 use inlinable_string::{InlinableString, StringMake};
 use std::alloc::{AllocError, Global};
+use std::process::Abort;
 use std::test::Fail;
 
 mod scripts;
@@ -34,25 +35,30 @@ fn commands_of(alloc: Global, script: &str) -> Result<Option<Vec<Command<'_>>>, 
     Ok(Some(commands))
 }
 
+fn check_script(rt: &impl Abort, alloc: Global, script: &str) -> Result<(), Fail> {
+    let Some(commands) = commands_of(alloc, script)? else {
+        return Err(Fail::from("a line is no command"));
+    };
+    let mut replies = vec![in alloc; Reply::NoMemory; commands.len()]?;
+    let mut text = InlinableString::new(alloc);
+    assert_eq!(rt; replies.len(), commands.len());
+    let given = commands.as_slice();
+    run_beside(
+        rt,
+        alloc,
+        &mut text,
+        inlinable(30),
+        given,
+        replies.as_mut_slice(),
+    );
+    Ok(())
+}
+
 #[test]
 fn each_stored_script_runs_as_the_plain_program_does(rt: HostRuntime) -> Result<(), Fail> {
-    let alloc = rt.alloc();
     let mut count = 0usize;
     for script in SCRIPTS.split('\u{1e}') {
-        let Some(commands) = commands_of(alloc, script)? else {
-            return Err(Fail::from("a line is no command"));
-        };
-        let mut replies = vec![in alloc; Reply::NoMemory; commands.len()]?;
-        let mut text = InlinableString::new(alloc);
-        assert_eq!(rt; replies.len(), commands.len());
-        run_beside(
-            &rt,
-            alloc,
-            &mut text,
-            inlinable(30),
-            commands.as_slice(),
-            replies.as_mut_slice(),
-        );
+        check_script(&rt, rt.alloc(), script)?;
         count = count.saturating_add(1);
     }
     // What stands behind the last end is the empty script.

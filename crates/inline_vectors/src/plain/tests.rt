@@ -13,16 +13,17 @@ const THIRDS: [(Reply, Storage, bool); 3] = [
     (Reply::BadPlace, Storage::Inline, false),
 ];
 
+const SIX_COMMANDS: [Command<'static>; 6] = [
+    Command::PushStr("aaaaaaaaaaaaaaaaaaaaaaaaaaa"),
+    Command::PushStr("€"),
+    Command::PushStr("b"),
+    Command::Truncate(28),
+    Command::Truncate(27),
+    Command::Pop,
+];
+
 #[test]
 fn follows_six_commands(rt: HostRuntime) -> Result<(), Fail> {
-    let commands = [
-        Command::PushStr("aaaaaaaaaaaaaaaaaaaaaaaaaaa"),
-        Command::PushStr("€"),
-        Command::PushStr("b"),
-        Command::Truncate(28),
-        Command::Truncate(27),
-        Command::Pop,
-    ];
     for (third, storage, legal) in THIRDS {
         let replies = [
             Reply::Done,
@@ -32,8 +33,7 @@ fn follows_six_commands(rt: HostRuntime) -> Result<(), Fail> {
             Reply::Done,
             Reply::Char('a'),
         ];
-        let start = plain_from(rt.alloc(), "", Storage::Inline, 30, true, 30)?;
-        let end = follow(rt.alloc(), start, &commands, &replies)?;
+        let end = followed(rt.alloc(), "", &SIX_COMMANDS, &replies)?;
         let agree = is_at(rt.alloc(), &end, "aaaaaaaaaaaaaaaaaaaaaaaaaa", storage, 26)?;
         assert_eq!(rt; agree, legal, "after {third:?}");
     }
@@ -113,16 +113,16 @@ const OTHERS: [(usize, Reply, bool); 20] = [
 
 #[test]
 fn follows_all_commands(rt: HostRuntime) -> Result<(), Fail> {
-    let long = followed(rt.alloc(), &COMMANDS[..LONG], &REPLIES[..LONG])?;
+    let long = followed(rt.alloc(), "a", &COMMANDS[..LONG], &REPLIES[..LONG])?;
     assert!(rt; is_at(rt.alloc(), &long, "aéfoobar", Storage::Heap, 9)?);
-    let whole = followed(rt.alloc(), &COMMANDS, &REPLIES)?;
+    let whole = followed(rt.alloc(), "a", &COMMANDS, &REPLIES)?;
     assert!(rt; is_at(rt.alloc(), &whole, "olleh", Storage::Inline, 5)?);
     for (index, reply, legal) in OTHERS {
         let mut replies = REPLIES;
         if let Some(other) = replies.get_mut(index) {
             *other = reply;
         }
-        let end = followed(rt.alloc(), &COMMANDS, &replies)?;
+        let end = followed(rt.alloc(), "a", &COMMANDS, &replies)?;
         let agree = is_at(rt.alloc(), &end, "olleh", Storage::Inline, 5)?;
         assert_eq!(rt; agree, legal, "{reply:?} to command {index}");
         assert_eq!(rt; end.is_some(), legal, "{reply:?} to command {index}");
@@ -143,12 +143,13 @@ fn is_at(
     }
 }
 
-// The run begins with "a", inline.
+// The run begins with this text, inline.
 fn followed(
     alloc: Global,
+    start: &str,
     commands: &[Command],
     replies: &[Reply],
 ) -> Result<Option<PlainText>, AllocError> {
-    let start = plain_from(alloc, "a", Storage::Inline, 30, true, 30)?;
+    let start = plain_from(alloc, start, Storage::Inline, 30, true, 30)?;
     follow(alloc, start, commands, replies)
 }

@@ -259,6 +259,10 @@ fn check_replies(
     );
     let verdict = judged(alloc, start, &list.commands, replies, end);
     let verdict = verdict.expect(rt, "memory for the plain program");
+    check_verdict(rt, verdict, limit, number);
+}
+
+fn check_verdict(rt: &impl Abort, verdict: Verdict, limit: usize, number: usize) {
     assert_eq!(rt;
         verdict,
         Verdict::Agrees,
@@ -281,6 +285,50 @@ fn kind_of(reply: Reply) -> usize
     }
 }
 
+/// How many lists left a text of 30 inline bytes on the heap, and how many replies there were of
+/// each kind.
+#[derive(Clone, Copy)]
+struct Counts {
+    on_heap: usize,
+    kinds: [u64; 7],
+}
+
+impl Counts {
+    fn add(&mut self, replies: &[Reply], end: Storage) {
+        if end == Storage::Heap {
+            self.on_heap = self.on_heap.saturating_add(1);
+        }
+        for reply in replies {
+            let kind = &mut self.kinds[kind_of(*reply)];
+            *kind = kind.wrapping_add(1);
+        }
+    }
+
+    /// Asserts that the lists were of every sort.
+    fn check(&self, rt: &impl Abort) {
+        let on_heap = self.on_heap;
+        assert!(rt; (LISTS / 5..LISTS / 5 * 4).contains(&on_heap), "{on_heap}");
+        for (kind, count) in self.kinds.iter().enumerate() {
+            assert!(rt; 500 <= *count, "replies of kind {kind}: {count}");
+        }
+    }
+}
+
+/// Gives a list to a text of each kind. Answers where that of 30 inline bytes lies then.
+fn check_kinds(
+    rt: &impl Abort,
+    alloc: Global,
+    capacity: Option<usize>,
+    list: &List,
+    number: usize,
+) -> Storage {
+    check_list::<InlinableStringN<0>>(rt, alloc, inlinable(0), capacity, list, number);
+    check_list::<InlinableStringN<8>>(rt, alloc, inlinable(8), capacity, list, number);
+    let mut text: String = made(rt, alloc, capacity);
+    check_list_dyn(rt, alloc, &mut text, HEAP, list, number);
+    check_list::<InlinableString>(rt, alloc, inlinable(30), capacity, list, number)
+}
+
 #[test]
 fn generated_lists_have_the_replies_of_the_plain_program(rt: HostRuntime) -> Result<(), Fail> {
     let alloc = rt.alloc();
@@ -289,29 +337,19 @@ fn generated_lists_have_the_replies_of_the_plain_program(rt: HostRuntime) -> Res
         commands: Vec::new(alloc),
         replies: Vec::new(alloc),
     };
-    let mut kinds = [0u64; 7];
-    let mut on_heap = 0usize;
+    let mut counts = Counts {
+        on_heap: 0,
+        kinds: [0; 7],
+    };
     for number in 0..LISTS {
         list.draw(alloc, &mut draws)?;
         let capacity = draws.one_of(&CAPACITIES);
-        check_list::<InlinableStringN<0>>(&rt, alloc, inlinable(0), capacity, &list, number);
-        check_list::<InlinableStringN<8>>(&rt, alloc, inlinable(8), capacity, &list, number);
-        let end = check_list::<InlinableString>(&rt, alloc, inlinable(30), capacity, &list, number);
-        if end == Storage::Heap {
-            on_heap = on_heap.saturating_add(1);
-        }
-        let mut text: String = made(&rt, alloc, capacity);
-        check_list_dyn(&rt, alloc, &mut text, HEAP, &list, number);
-        for reply in &list.replies {
-            let kind = &mut kinds[kind_of(*reply)];
-            *kind = kind.wrapping_add(1);
-        }
+        let end = check_kinds(&rt, alloc, capacity, &list, number);
+        counts.add(&list.replies, end);
     }
+    let Counts { on_heap, kinds } = &counts;
     println!(rt; "{LISTS} lists from seed {SEED}")?;
     println!(rt; "replies of each kind {kinds:?}, ends on the heap {on_heap}")?;
-    assert!(rt; (LISTS / 5..LISTS / 5 * 4).contains(&on_heap), "{on_heap}");
-    for (kind, count) in kinds.iter().enumerate() {
-        assert!(rt; 500 <= *count, "replies of kind {kind}: {count}");
-    }
+    counts.check(&rt);
     Ok(())
 }

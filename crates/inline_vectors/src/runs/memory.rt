@@ -2,7 +2,6 @@
 use super::made;
 use super::rows::{A26, A27, A28, A30, DIGITS};
 use crate::beside::{HEAP, Policy, after, before, inlinable, run_beside, seen_of};
-use crate::hoard::Hoard;
 use crate::plain::room::PlainText;
 use Storage::{Heap, Inline};
 use inlinable_string::run::Command::{
@@ -15,6 +14,12 @@ use inlinable_string::{InlinableString, InlinableStringN, Storage, StringExt, St
 use std::alloc::Global;
 use std::process::Abort;
 use std::test::Fail;
+use test_memory::Hoard;
+
+/// All memory that can be had.
+fn all_memory(rt: &impl Abort, alloc: Global) -> Hoard {
+    Hoard::take(alloc).expect(rt, "memory cannot be used up here")
+}
 
 /// A run of which the memory is refused from some command on.
 #[derive(Clone, Copy)]
@@ -280,7 +285,7 @@ fn check_refused<S: StringMake + Drop>(
         let next = prepare(rt, alloc, policy, *row);
         assert!(rt; runs.push(next).is_ok());
     }
-    let hoard = Hoard::take(rt, alloc);
+    let hoard = all_memory(rt, alloc);
     for (run_of, row) in runs.iter_mut().zip(rows) {
         run_of.give(row.refused);
     }
@@ -322,6 +327,23 @@ fn a_string_asks_for_no_memory_that_was_reserved(rt: HostRuntime) -> Result<(), 
     Ok(())
 }
 
+/// Gives the first three commands while all memory is held, and the last one once it is given
+/// back. Answers where the text lies between.
+fn run_held_and_free<S: StringExt>(
+    rt: &impl Abort,
+    alloc: Global,
+    text: &mut S,
+    commands: &[Command; 4],
+    replies: &mut [Reply; 4],
+) -> Storage {
+    let hoard = all_memory(rt, alloc);
+    run(text, &commands[..3], &mut replies[..3]);
+    drop(hoard);
+    let storage = text.storage();
+    run(text, &commands[3..], &mut replies[3..]);
+    storage
+}
+
 #[test]
 fn a_push_that_was_refused_is_done_once_memory_is_back(rt: HostRuntime) -> Result<(), Fail> {
     let alloc = rt.alloc();
@@ -329,44 +351,48 @@ fn a_push_that_was_refused_is_done_once_memory_is_back(rt: HostRuntime) -> Resul
     let start = before(&rt, alloc, seen_of(&text), inlinable(30));
     let commands = [PushStr(A30), Push('b'), Pop, Push('€')];
     let mut replies = [BadPlace; 4];
-    let hoard = Hoard::take(&rt, alloc);
-    run(&mut text, &commands[..3], &mut replies[..3]);
-    drop(hoard);
-    let storage = text.storage();
-    run(&mut text, &commands[3..], &mut replies[3..]);
+    let storage = run_held_and_free(&rt, alloc, &mut text, &commands, &mut replies);
     assert_eq!(rt; replies, [Done, NoMemory, Char('a'), Done]);
-    assert_eq!(rt; storage, Inline);
-    assert_eq!(rt; (text.len(), text.storage()), (32, Heap));
+    assert_eq!(rt; (storage, text.len(), text.storage()), (Inline, 32, Heap));
     after(&rt, alloc, start, &commands, &replies, seen_of(&text));
     Ok(())
 }
 
-#[test]
-fn pushes_within_a_limit_of_300_ask_for_no_memory(rt: HostRuntime) -> Result<(), Fail> {
-    let alloc = rt.alloc();
-    let mut text = InlinableStringN::<300>::new(alloc);
-    let start = before(&rt, alloc, seen_of(&text), inlinable(300));
+/// Gives these commands while all memory is held, and one push more. Answers the reply to it.
+fn run_held_and_push<S: StringExt>(
+    rt: &impl Abort,
+    alloc: Global,
+    text: &mut S,
+    commands: &[Command; 300],
+    replies: &mut [Reply; 300],
+) -> Reply {
+    let mut last = [Done];
+    let hoard = all_memory(rt, alloc);
+    run(text, commands, replies);
+    run(text, &[Push('a')], &mut last);
+    drop(hoard);
+    last[0]
+}
+
+fn check_300_pushes<S: StringMake + Drop>(rt: &impl Abort, alloc: Global, policy: Policy) {
+    let mut text = S::new(alloc);
+    let start = before(rt, alloc, seen_of(&text), policy);
     let commands = [Push('a'); 300];
     let mut replies = [NoMemory; 300];
-    let hoard = Hoard::take(&rt, alloc);
-    run(&mut text, &commands, &mut replies);
-    let mut refused = [Done];
-    run(&mut text, &[Push('a')], &mut refused);
-    drop(hoard);
+    let refused = run_held_and_push(rt, alloc, &mut text, &commands, &mut replies);
     assert!(rt; replies == [Done; 300]);
-    assert_eq!(rt; refused, [NoMemory]);
-    assert_eq!(rt; (text.len(), text.storage()), (300, Inline));
-    after(&rt, alloc, start, &commands, &replies, seen_of(&text));
-    let mut last = [NoMemory];
-    run_beside(
-        &rt,
-        alloc,
-        &mut text,
-        inlinable(300),
-        &[Push('a')],
-        &mut last,
+    assert_eq!(rt;
+        (refused, text.len(), text.storage()),
+        (NoMemory, 300, Inline)
     );
-    assert_eq!(rt; last, [Done]);
-    assert_eq!(rt; (text.len(), text.storage()), (301, Heap));
+    after(rt, alloc, start, &commands, &replies, seen_of(&text));
+    let mut last = [NoMemory];
+    run_beside(rt, alloc, &mut text, policy, &[Push('a')], &mut last);
+    assert_eq!(rt; (last, text.len(), text.storage()), ([Done], 301, Heap));
+}
+
+#[test]
+fn pushes_within_a_limit_of_300_ask_for_no_memory(rt: HostRuntime) -> Result<(), Fail> {
+    check_300_pushes::<InlinableStringN<300>>(&rt, rt.alloc(), inlinable(300));
     Ok(())
 }

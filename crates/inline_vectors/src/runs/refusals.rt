@@ -4,7 +4,6 @@
 use super::rows::{A30, DIGITS};
 use crate::beside::{HEAP, Policy, Seen, Verdict, inlinable, judged, seen_of, seen_of_dyn};
 use crate::plain::plain_from;
-use crate::refusals::Refusals;
 use inlinable_string::run::Command::{
     self, Clear, Insert, InsertStr, Pop, Push, PushStr, Remove, ReplaceBytes, Reserve,
     ReserveExact, ShrinkToFit, Truncate,
@@ -17,6 +16,7 @@ use inlinable_string::{InlinableString, InlinableStringN, Storage, StringExt, St
 use std::alloc::{AllocError, Global};
 use std::process::Abort;
 use std::test::Fail;
+use test_memory::Refusals;
 
 /// Commands of each kind on a new text.
 const COMMANDS: [Command<'static>; 20] = [
@@ -114,9 +114,9 @@ fn check_refused(
     let mut refusals = Refusals::none();
     let fewest = count_no_memory(ample);
     for _ in fewest..count_no_memory(replies) {
-        refusals.meet(rt);
+        assert!(rt; refusals.meet(), "want of memory with no request refused");
     }
-    let refused = 0 < refusals.met;
+    let refused = refusals.has_met;
     if !refused {
         assert!(rt; replies == ample, "{replies:?}");
     }
@@ -142,14 +142,18 @@ fn check_refused(
     refused
 }
 
-#[test]
-fn of_a_run_on_an_inline_or_heap_text(rt: HostRuntime) -> Result<(), Fail> {
-    let mut text = InlinableString::new(rt.alloc());
+/// Gives the commands to a new text. Answers whether a request was refused.
+fn meets_refusal<S: StringMake + Drop>(rt: &impl Abort, alloc: Global, policy: Policy) -> bool {
+    let mut text = S::new(alloc);
     let mut replies = [BadPlace; 20];
     run(&mut text, &COMMANDS, &mut replies);
     let end = seen_of(&text);
-    let policy = inlinable(30);
-    if check_refused(&rt, rt.alloc(), policy, &COMMANDS, &replies, &REPLIES, end) {
+    check_refused(rt, alloc, policy, &COMMANDS, &replies, &REPLIES, end)
+}
+
+#[test]
+fn of_a_run_on_an_inline_or_heap_text(rt: HostRuntime) -> Result<(), Fail> {
+    if meets_refusal::<InlinableString>(&rt, rt.alloc(), inlinable(30)) {
         println!(rt; "refused")?;
     }
     Ok(())
@@ -157,12 +161,7 @@ fn of_a_run_on_an_inline_or_heap_text(rt: HostRuntime) -> Result<(), Fail> {
 
 #[test]
 fn of_a_run_on_a_text_with_a_small_limit(rt: HostRuntime) -> Result<(), Fail> {
-    let mut text = InlinableStringN::<8>::new(rt.alloc());
-    let mut replies = [BadPlace; 20];
-    run(&mut text, &COMMANDS, &mut replies);
-    let end = seen_of(&text);
-    let policy = inlinable(8);
-    if check_refused(&rt, rt.alloc(), policy, &COMMANDS, &replies, &REPLIES, end) {
+    if meets_refusal::<InlinableStringN<8>>(&rt, rt.alloc(), inlinable(8)) {
         println!(rt; "refused")?;
     }
     Ok(())
@@ -180,31 +179,42 @@ fn of_a_run_on_a_string_behind_a_dyn(rt: HostRuntime) -> Result<(), Fail> {
     Ok(())
 }
 
-#[test]
-fn of_a_promotion_in_a_run(rt: HostRuntime) -> Result<(), Fail> {
-    let mut text = InlinableString::new(rt.alloc());
+/// Gives four commands of which one promotes a new text. Answers whether a request was refused.
+fn meets_refusal_at_promotion<S: StringMake + Drop>(
+    rt: &impl Abort,
+    alloc: Global,
+    policy: Policy,
+) -> bool {
+    let mut text = S::new(alloc);
     let commands = [PushStr(A30), Push('b'), Pop, Push('€')];
     let mut replies = [BadPlace; 4];
     run(&mut text, &commands, &mut replies);
     let ample = [Done, Done, Char('b'), Done];
     let end = seen_of(&text);
-    if check_refused(
-        &rt,
-        rt.alloc(),
-        inlinable(30),
-        &commands,
-        &replies,
-        &ample,
-        end,
-    ) {
-        // The first request is that of the promotion, the second that of the growth after it.
-        if replies[1] == NoMemory {
-            assert_eq!(rt; replies, [Done, NoMemory, Char('a'), Done]);
-            assert_eq!(rt; (text.len(), text.storage()), (32, Storage::Heap));
-        } else {
-            assert_eq!(rt; replies, [Done, Done, Char('b'), NoMemory]);
-            assert_eq!(rt; (text.as_str(), text.storage()), (A30, Storage::Heap));
-        }
+    let refused = check_refused(rt, alloc, policy, &commands, &replies, &ample, end);
+    if refused {
+        check_one_refused(rt, replies, end);
+    }
+    refused
+}
+
+/// The first request is that of the promotion, the second that of the growth after it.
+fn check_one_refused(rt: &impl Abort, replies: [Reply; 4], end: Seen<'_>) {
+    let wanted = if replies[1] == NoMemory {
+        ([Done, NoMemory, Char('a'), Done], A29_EURO)
+    } else {
+        ([Done, Done, Char('b'), NoMemory], A30)
+    };
+    assert_eq!(rt; (replies, end.string), wanted);
+    assert_eq!(rt; end.storage, Storage::Heap);
+}
+
+/// 32 bytes.
+const A29_EURO: &str = "aaaaaaaaaaaaaaaaaaaaaaaaaaaaa€";
+
+#[test]
+fn of_a_promotion_in_a_run(rt: HostRuntime) -> Result<(), Fail> {
+    if meets_refusal_at_promotion::<InlinableString>(&rt, rt.alloc(), inlinable(30)) {
         println!(rt; "refused")?;
     }
     Ok(())

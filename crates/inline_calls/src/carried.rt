@@ -8,11 +8,14 @@ use std::alloc::Global;
 use std::process::Abort;
 use std::test::Fail;
 
-fn assert_room<S: StringMake + Drop>(rt: &impl Abort, alloc: Global) {
+fn assert_emptiness<S: StringMake + Drop>(rt: &impl Abort, alloc: Global) {
     let mut text: S = S::new(alloc);
     assert!(rt; text.is_empty());
     assert!(rt; text.push('a').is_ok());
     assert!(rt; !text.is_empty());
+}
+
+fn assert_room<S: StringMake + Drop>(rt: &impl Abort, alloc: Global) {
     for capacity in [10, 100] {
         let made: Result<S, _> = S::with_capacity(alloc, capacity);
         assert!(rt; made.expect(rt, "memory").capacity() >= capacity);
@@ -28,16 +31,21 @@ fn assert_room<S: StringMake + Drop>(rt: &impl Abort, alloc: Global) {
 #[test]
 fn new_texts_are_empty_and_have_the_room_that_was_asked_for(rt: HostRuntime) {
     let alloc = rt.alloc();
+    assert_emptiness::<String>(&rt, alloc);
+    assert_emptiness::<InlinableString>(&rt, alloc);
     assert_room::<String>(&rt, alloc);
     assert_room::<InlinableString>(&rt, alloc);
 }
 
-fn assert_cut<S: StringMake + Drop>(rt: &impl Abort, alloc: Global, storage: Storage) {
+fn assert_truncated<S: StringMake + Drop>(rt: &impl Abort, alloc: Global, storage: Storage) {
     for (content, new_len, wanted) in [("foo", 1, "f"), ("hello", 2, "he")] {
         let mut text: S = text_of(rt, alloc, 0, content);
         assert!(rt; truncate_at(&mut text, new_len));
         assert_text(rt, &text, wanted, storage);
     }
+}
+
+fn assert_popped<S: StringMake + Drop>(rt: &impl Abort, alloc: Global, storage: Storage) {
     let mut text: S = text_of(rt, alloc, 0, "foo");
     for (last, wanted) in [
         (Some('o'), "fo"),
@@ -48,18 +56,35 @@ fn assert_cut<S: StringMake + Drop>(rt: &impl Abort, alloc: Global, storage: Sto
         assert_eq!(rt; text.pop(), last);
         assert_text(rt, &text, wanted, storage);
     }
+}
+
+fn assert_removed<S: StringMake + Drop>(rt: &impl Abort, alloc: Global, storage: Storage) {
     let mut text: S = text_of(rt, alloc, 0, "foo");
     for (idx, removed, wanted) in [(0, 'f', "oo"), (1, 'o', "o"), (0, 'o', "")] {
         assert_eq!(rt; remove_at(&mut text, idx), Some(removed));
         assert_text(rt, &text, wanted, storage);
     }
+}
+
+fn assert_cleared<S: StringMake + Drop>(rt: &impl Abort, alloc: Global, storage: Storage) {
     let mut text: S = text_of(rt, alloc, 0, "foo");
     assert_eq!(rt; text.len(), 3);
     text.clear();
     assert_text(rt, &text, "", storage);
+}
+
+fn assert_replaced<S: StringMake + Drop>(rt: &impl Abort, alloc: Global, storage: Storage) {
     let mut text: S = text_of(rt, alloc, 0, "hello");
     assert_eq!(rt; text.replace_bytes(&[111, 108, 108, 101, 104]), Ok(()));
     assert_text(rt, &text, "olleh", storage);
+}
+
+fn assert_cut<S: StringMake + Drop>(rt: &impl Abort, alloc: Global, storage: Storage) {
+    assert_truncated::<S>(rt, alloc, storage);
+    assert_popped::<S>(rt, alloc, storage);
+    assert_removed::<S>(rt, alloc, storage);
+    assert_cleared::<S>(rt, alloc, storage);
+    assert_replaced::<S>(rt, alloc, storage);
 }
 
 #[test]
@@ -69,26 +94,38 @@ fn texts_are_cut_and_replaced(rt: HostRuntime) {
     assert_cut::<InlinableString>(&rt, alloc, Storage::Inline);
 }
 
-fn assert_grown<S: StringMake + Drop>(rt: &impl Abort, alloc: Global, storage: Storage) {
+fn assert_pushed<S: StringMake + Drop>(rt: &impl Abort, alloc: Global, storage: Storage) {
     let mut text: S = text_of(rt, alloc, 0, "abc");
     for ch in ['1', '2', '3'] {
         assert!(rt; text.push(ch).is_ok());
     }
     assert_text(rt, &text, "abc123", storage);
+    let mut text = S::new(alloc);
+    assert!(rt; text.push('a').is_ok());
+    assert_text(rt, &text, "a", storage);
+}
+
+fn assert_str_pushed<S: StringMake + Drop>(rt: &impl Abort, alloc: Global, storage: Storage) {
     for (content, added, wanted) in [("foo", "bar", "foobar"), ("hello", " world", "hello world")] {
         let mut text: S = text_of(rt, alloc, 0, content);
         assert!(rt; text.push_str(added).is_ok());
         assert_text(rt, &text, wanted, storage);
     }
+}
+
+fn assert_inserted<S: StringMake + Drop>(rt: &impl Abort, alloc: Global, storage: Storage) {
     let mut text: S = text_of(rt, alloc, 0, "foo");
     assert_eq!(rt; insert_at(&mut text, 2, 'f'), Some(Ok(())));
     assert_text(rt, &text, "fofo", storage);
     let mut text: S = text_of(rt, alloc, 0, "foo");
     assert_eq!(rt; insert_str_at(&mut text, 2, "bar"), Some(Ok(())));
     assert_text(rt, &text, "fobaro", storage);
-    let mut text = S::new(alloc);
-    assert!(rt; text.push('a').is_ok());
-    assert_text(rt, &text, "a", storage);
+}
+
+fn assert_grown<S: StringMake + Drop>(rt: &impl Abort, alloc: Global, storage: Storage) {
+    assert_pushed::<S>(rt, alloc, storage);
+    assert_str_pushed::<S>(rt, alloc, storage);
+    assert_inserted::<S>(rt, alloc, storage);
 }
 
 #[test]
@@ -98,46 +135,56 @@ fn texts_grow(rt: HostRuntime) {
     assert_grown::<InlinableString>(&rt, alloc, Storage::Inline);
 }
 
-#[test]
-fn a_small_text_becomes_a_large_one(rt: HostRuntime) -> Result<(), Fail> {
-    let alloc = rt.alloc();
-    let mut text: InlinableString = text_of(&rt, alloc, 0, "small");
-    assert_text(&rt, &text, "small", Storage::Inline);
+fn assert_becomes_large<S: StringMake + Drop>(rt: &impl Abort, alloc: Global) -> Result<(), Fail> {
+    let mut text: S = text_of(rt, alloc, 0, "small");
+    assert_text(rt, &text, "small", Storage::Inline);
     assert_eq!(rt; text.capacity(), 30);
     text.push_str(LONG)?;
     let wanted = format!(in alloc; "small{LONG}")?;
-    assert_text(&rt, &text, wanted.as_str(), Storage::Heap);
+    assert_text(rt, &text, wanted.as_str(), Storage::Heap);
     assert!(rt; text.capacity() > 30);
     Ok(())
 }
 
 #[test]
-fn thirty_one_letters_are_pushed_or_inserted(rt: HostRuntime) {
-    let alloc = rt.alloc();
+fn a_small_text_becomes_a_large_one(rt: HostRuntime) -> Result<(), Fail> {
+    assert_becomes_large::<InlinableString>(&rt, rt.alloc())
+}
+
+fn assert_thirty_one_letters<S: StringMake + Drop>(rt: &impl Abort, alloc: Global) {
     let wanted = "aaaaaaaaaaaaaaaaaaaaaaaaaaaaaaa";
-    let text: InlinableString = letters(&rt, alloc, 0, 31);
-    assert_text(&rt, &text, wanted, Storage::Heap);
-    let mut text = InlinableString::new(alloc);
+    let text: S = letters(rt, alloc, 0, 31);
+    assert_text(rt, &text, wanted, Storage::Heap);
+    let mut text = S::new(alloc);
     for _ in 0..31u8 {
         assert_eq!(rt; insert_at(&mut text, 0, 'a'), Some(Ok(())));
     }
-    assert_text(&rt, &text, wanted, Storage::Heap);
+    assert_text(rt, &text, wanted, Storage::Heap);
+}
+
+#[test]
+fn thirty_one_letters_are_pushed_or_inserted(rt: HostRuntime) {
+    assert_thirty_one_letters::<InlinableString>(&rt, rt.alloc());
+}
+
+/// A text with room for 100 bytes that is shrunk.
+fn assert_shrunk<S: StringExt>(rt: &impl Abort, text: &mut S, storage: Storage) {
+    assert!(rt; text.capacity() >= 100);
+    assert!(rt; text.shrink_to_fit().is_ok());
+    assert_text(rt, text, "foo", storage);
+    assert!(rt; text.capacity() >= 3);
 }
 
 #[test]
 fn a_shrunk_text_has_the_room_that_it_needs(rt: HostRuntime) {
     let alloc = rt.alloc();
     let mut string: String = text_of(&rt, alloc, 100, "foo");
-    assert!(rt; StringExt::shrink_to_fit(&mut string).is_ok());
-    assert_text(&rt, &string, "foo", Storage::Heap);
-    assert!(rt; StringExt::capacity(&string) >= 3);
+    assert_shrunk(&rt, &mut string, Storage::Heap);
     let made: InlinableString = text_of(&rt, alloc, 100, "foo");
     let mut reserved: InlinableString = text_of(&rt, alloc, 0, "foo");
     assert!(rt; reserved.reserve(100).is_ok());
     for mut text in [made, reserved] {
-        assert!(rt; text.capacity() >= 100);
-        assert!(rt; text.shrink_to_fit().is_ok());
-        assert_text(&rt, &text, "foo", Storage::Inline);
+        assert_shrunk(&rt, &mut text, Storage::Inline);
         assert_eq!(rt; text.capacity(), 30);
     }
 }

@@ -1,5 +1,5 @@
 use Rattle.inlinable_string.proofs.Cut.{place_at_boundary}
-use Rattle.inline_vectors.proofs.texts.insert_str_at.Goals as goal
+use Rattle.inline_calls.proofs.texts.insert_str_at.Goals as goal
 
 pub insert_str-requires : goal.insert_str-requires
 insert_str-requires g c =

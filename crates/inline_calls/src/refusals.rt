@@ -6,24 +6,7 @@ use inlinable_string::{InlinableString, InlinableStringN, Storage, StringExt, St
 use std::alloc::{AllocError, Global};
 use std::process::Abort;
 use std::test::Fail;
-
-/// Counts the refusals that a test meets. One request is refused at most, so a second refusal is
-/// an answer for want of memory where there was none.
-#[derive(Drop)]
-pub struct Refusals {
-    pub met: u8,
-}
-
-impl Refusals {
-    pub fn none() -> Refusals {
-        Refusals { met: 0 }
-    }
-
-    pub fn meet(&mut self, rt: &impl Abort) {
-        assert_eq!(rt; self.met, 0, "want of memory with no request refused");
-        self.met = 1;
-    }
-}
+use test_memory::Refusals;
 
 /// A call that may ask for memory, with what it adds.
 #[derive(Clone, Copy)]
@@ -57,7 +40,7 @@ fn made<S: StringMake + Drop>(
     match S::with_capacity(alloc, room) {
         Ok(text) => text,
         Err(AllocError) => {
-            refusals.meet(rt);
+            assert!(rt; refusals.meet(), "want of memory with no request refused");
             S::with_capacity(alloc, room).expect(rt, "one request is refused at most")
         }
     }
@@ -73,20 +56,34 @@ fn assert_grown<S: StringMake + Drop>(
 ) {
     let mut text: S = made(rt, alloc, refusals, room);
     text.push_str(content).expect(rt, "the room was asked for");
-    let capacity = text.capacity();
-    let mut answer = grow(&mut text, growth);
-    if answer != Some(Ok(())) {
-        refusals.meet(rt);
-        assert_eq!(rt; text.as_str(), content);
-        assert_eq!(rt; text.storage(), storage);
-        assert_eq!(rt; text.capacity(), capacity);
-        answer = grow(&mut text, growth);
+    let before = (content, storage, text.capacity());
+    if grow(&mut text, growth) != Some(Ok(())) {
+        assert!(rt; refusals.meet(), "want of memory with no request refused");
+        assert_eq!(rt; (text.as_str(), text.storage(), text.capacity()), before);
+        assert_eq!(rt; grow(&mut text, growth), Some(Ok(())));
     }
-    assert_eq!(rt; answer, Some(Ok(())));
-    let grown = text.as_str().strip_prefix(front);
-    let middle = grown.and_then(|rest| rest.strip_suffix(back));
-    assert_eq!(rt; middle, Some(content));
-    assert_eq!(rt; text.storage(), Storage::Heap);
+    assert_eq!(rt;
+        (between(text.as_str(), front, back), text.storage()),
+        (Some(content), Storage::Heap)
+    );
+}
+
+/// What stands between these in a text that begins and ends with them.
+fn between<'a>(whole: &'a str, front: &str, back: &str) -> Option<&'a str> {
+    whole.strip_prefix(front)?.strip_suffix(back)
+}
+
+/// The same of each of these growths.
+fn assert_each_grown<S: StringMake + Drop>(
+    rt: &impl Abort,
+    alloc: Global,
+    refusals: &mut Refusals,
+    text: (usize, &str, Storage),
+    growths: &[(Growth, &str, &str)],
+) {
+    for growth in growths {
+        assert_grown::<S>(rt, alloc, refusals, text, *growth);
+    }
 }
 
 const FULL: &str = "aaaaaaaaaaaaaaaaaaaaaaaaaaaaaa";
@@ -111,12 +108,12 @@ fn a_refused_promotion_leaves_the_text_inline(rt: HostRuntime) -> Result<(), Fai
     let alloc = rt.alloc();
     let mut refusals = Refusals::none();
     let inline = (0, FULL, Storage::Inline);
-    for growth in GROWTHS.into_iter().chain(RESERVATIONS) {
-        assert_grown::<InlinableString>(&rt, alloc, &mut refusals, inline, growth);
+    for growths in [GROWTHS.as_slice(), RESERVATIONS.as_slice()] {
+        assert_each_grown::<InlinableString>(&rt, alloc, &mut refusals, inline, growths);
     }
     let none = (0, "", Storage::Inline);
     assert_grown::<InlinableStringN<0>>(&rt, alloc, &mut refusals, none, GROWTHS[0]);
-    if refusals.met > 0 {
+    if refusals.has_met {
         println!(rt; "refused")?;
     }
     Ok(())
@@ -127,10 +124,8 @@ fn a_refused_growth_on_the_heap_leaves_the_text(rt: HostRuntime) -> Result<(), F
     let alloc = rt.alloc();
     let mut refusals = Refusals::none();
     let heap = (HEAP_ROOM, OVER, Storage::Heap);
-    for growth in GROWTHS {
-        assert_grown::<InlinableString>(&rt, alloc, &mut refusals, heap, growth);
-    }
-    if refusals.met > 0 {
+    assert_each_grown::<InlinableString>(&rt, alloc, &mut refusals, heap, &GROWTHS);
+    if refusals.has_met {
         println!(rt; "refused")?;
     }
     Ok(())
@@ -141,10 +136,8 @@ fn a_refused_growth_of_a_string_leaves_the_text(rt: HostRuntime) -> Result<(), F
     let alloc = rt.alloc();
     let mut refusals = Refusals::none();
     let heap = (HEAP_ROOM, OVER, Storage::Heap);
-    for growth in GROWTHS {
-        assert_grown::<String>(&rt, alloc, &mut refusals, heap, growth);
-    }
-    if refusals.met > 0 {
+    assert_each_grown::<String>(&rt, alloc, &mut refusals, heap, &GROWTHS);
+    if refusals.has_met {
         println!(rt; "refused")?;
     }
     Ok(())
@@ -155,11 +148,9 @@ fn a_refused_reservation_on_the_heap_leaves_the_text(rt: HostRuntime) -> Result<
     let alloc = rt.alloc();
     let mut refusals = Refusals::none();
     let heap = (HEAP_ROOM, OVER, Storage::Heap);
-    for growth in RESERVATIONS {
-        assert_grown::<InlinableString>(&rt, alloc, &mut refusals, heap, growth);
-        assert_grown::<String>(&rt, alloc, &mut refusals, heap, growth);
-    }
-    if refusals.met > 0 {
+    assert_each_grown::<InlinableString>(&rt, alloc, &mut refusals, heap, &RESERVATIONS);
+    assert_each_grown::<String>(&rt, alloc, &mut refusals, heap, &RESERVATIONS);
+    if refusals.has_met {
         println!(rt; "refused")?;
     }
     Ok(())
@@ -177,7 +168,7 @@ fn a_text_is_made_on_the_heap_once_memory_is_there(rt: HostRuntime) -> Result<()
     let mut inline: InlinableString = made(&rt, alloc, &mut refusals, 30);
     assert!(rt; inline.push_str(FULL).is_ok());
     assert_eq!(rt; inline.storage(), Storage::Inline);
-    if refusals.met > 0 {
+    if refusals.has_met {
         println!(rt; "refused")?;
     }
     Ok(())

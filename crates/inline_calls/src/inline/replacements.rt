@@ -6,21 +6,30 @@ use inlinable_string::inline_string::ReplaceError;
 use inlinable_string::{InlineString, InlineStringN};
 use std::process::Abort;
 
+/// Gives the bytes to a text, and asserts the answer and the text after it.
+fn check_answer<const N: usize>(
+    rt: &impl Abort,
+    text: &mut InlineStringN<N>,
+    bytes: &[u8],
+    answer: Result<(), ReplaceError>,
+    left: &str,
+) {
+    assert_eq!(rt; text.replace_bytes(bytes), answer);
+    assert_eq!(rt; text.as_str(), left);
+}
+
 #[test]
 fn bytes_take_the_place_of_those_of_the_text(rt: HostRuntime) {
     let mut text = InlineString::from("hello");
-    assert_eq!(rt; text.replace_bytes(&[111, 108, 108, 101, 104]), Ok(()));
-    assert_eq!(rt; text.as_str(), "olleh");
+    let reversed = [111, 108, 108, 101, 104];
+    check_answer(&rt, &mut text, &reversed, Ok(()), "olleh");
 
     let mut text = InlineString::from("é");
-    assert_eq!(rt; text.replace_bytes(&[0xFF]), Err(ReplaceError::WrongLength));
-    assert_eq!(rt;
-        text.replace_bytes(&[0xC3, 0x61]),
-        Err(ReplaceError::NotUtf8)
-    );
-    assert_eq!(rt; text.as_str(), "é");
-    assert_eq!(rt; text.replace_bytes(&[0x61, 0x62]), Ok(()));
-    assert_eq!(rt; text.as_str(), "ab");
+    let wrong_length = Err(ReplaceError::WrongLength);
+    check_answer(&rt, &mut text, &[0xFF], wrong_length, "é");
+    let not_utf8 = Err(ReplaceError::NotUtf8);
+    check_answer(&rt, &mut text, &[0xC3, 0x61], not_utf8, "é");
+    check_answer(&rt, &mut text, &[0x61, 0x62], Ok(()), "ab");
 }
 
 #[test]
@@ -35,14 +44,14 @@ fn the_number_of_bytes_is_tested_before_they_are(rt: HostRuntime) {
         ("é", b"\xFF\xFF\xFF"),
         ("aé€𝄞", b"0123456789a"),
     ];
+    let answer = Err(ReplaceError::WrongLength);
     for (string, bytes) in wrong {
         let mut text = text_of::<30>(&rt, string);
-        assert_eq!(rt; text.replace_bytes(bytes), Err(ReplaceError::WrongLength));
-        assert_eq!(rt; text.as_str(), string);
+        check_answer(&rt, &mut text, bytes, answer, string);
     }
     let mut text = InlineStringN::<0>::new();
-    assert_eq!(rt; text.replace_bytes(b"a"), Err(ReplaceError::WrongLength));
-    assert_eq!(rt; text.replace_bytes(b""), Ok(()));
+    check_answer(&rt, &mut text, b"a", answer, "");
+    check_answer(&rt, &mut text, b"", Ok(()), "");
 }
 
 /// Puts bytes in the place of as many letters that fill a text: from `at` on those of `sequence`,
@@ -58,13 +67,13 @@ fn check_replaced_at<const N: usize>(
     assert!(rt; sequence.len() <= N && at <= N - sequence.len());
     let bytes = letters_around(at, sequence);
     let mut text = letters::<N>(rt, N);
+    let given = text.replace_bytes(&bytes);
+    let left = if answer.is_ok() { bytes } else { [b'a'; N] };
     assert_eq!(rt;
-        text.replace_bytes(&bytes),
-        answer,
+        (given, &text.into_bytes()[..]),
+        (answer, left.as_slice()),
         "{sequence:?} from {at}"
     );
-    let left = if answer.is_ok() { bytes } else { [b'a'; N] };
-    assert_eq!(rt; text.into_bytes(), left, "{sequence:?} from {at}");
 }
 
 /// At both ends of a text, and in its middle.

@@ -118,22 +118,28 @@ fn check_filled<const N: usize>(rt: &impl Abort)
         assert_eq!(rt; pushed.push('a'), Ok(()));
         assert_eq!(rt; try_insert(&mut inserted, 0, 'a'), Some(Ok(())));
     }
-    for mut text in [pushed, inserted] {
-        assert_eq!(rt; text.push('a'), Err(NotEnoughSpaceError));
-        assert_eq!(rt; text.push_str("a"), Err(NotEnoughSpaceError));
-        assert_eq!(rt;
-            try_insert(&mut text, 0, 'a'),
-            Some(Err(NotEnoughSpaceError))
-        );
-        assert_eq!(rt;
-            try_insert_str(&mut text, N, "a"),
-            Some(Err(NotEnoughSpaceError))
-        );
-        assert_eq!(rt; text.push_str(""), Ok(()));
-        assert_eq!(rt; try_insert_str(&mut text, N, ""), Some(Ok(())));
-        assert_eq!(rt; text.len(), N);
-        assert_eq!(rt; text.into_bytes(), [b'a'; N]);
+    for text in [pushed, inserted] {
+        check_full(rt, text);
     }
+}
+
+/// Gives growths to a text of as many letters as its limit.
+fn check_full<const N: usize>(rt: &impl Abort, mut text: InlineStringN<N>)
+    requires { N ≤ 300 }
+{
+    let refused = Err(NotEnoughSpaceError);
+    assert_eq!(rt; [text.push('a'), text.push_str("a")], [refused; 2]);
+    assert_eq!(rt;
+        [
+            try_insert(&mut text, 0, 'a'),
+            try_insert_str(&mut text, N, "a")
+        ],
+        [Some(refused); 2]
+    );
+    assert_eq!(rt; text.push_str(""), Ok(()));
+    assert_eq!(rt; try_insert_str(&mut text, N, ""), Some(Ok(())));
+    assert_eq!(rt; text.len(), N);
+    assert_eq!(rt; text.into_bytes(), [b'a'; N]);
 }
 
 #[test]
@@ -227,20 +233,31 @@ fn the_bytes_are_those_of_the_text_and_then_zeros(rt: HostRuntime) {
     check_bytes::<0>(&rt, "", b"");
 }
 
+fn check_cut_bytes<const N: usize>(rt: &impl Abort, mut text: InlineStringN<N>, bytes: &[u8])
+    requires { N ≤ 300 }
+{
+    assert_eq!(rt; try_truncate(&mut text, 2), Some(()));
+    assert_eq!(rt; &text.into_bytes()[..], bytes);
+}
+
 #[test]
 fn bytes_that_were_cut_off_do_not_show(rt: HostRuntime) {
-    let mut text = InlineString::from("hello");
-    assert_eq!(rt; try_truncate(&mut text, 2), Some(()));
-    let mut bytes = [0; 30];
-    bytes[0] = 0x68;
-    bytes[1] = 0x65;
-    assert_eq!(rt; text.into_bytes(), bytes);
+    let he = b"he\0\0\0\0\0\0\0\0\0\0\0\0\0\0\0\0\0\0\0\0\0\0\0\0\0\0\0\0";
+    check_cut_bytes(&rt, InlineString::from("hello"), he);
+}
 
-    let mut text = InlineStringN::<4>::from("abcd");
+fn check_first_taken_out<const N: usize>(rt: &impl Abort, mut text: InlineStringN<N>)
+    requires { N ≤ 300 }
+{
     assert_eq!(rt; try_remove(&mut text, 0), Some('a'));
     assert_eq!(rt; text.push('e'), Ok(()));
     assert_eq!(rt; text.as_str(), "bcde");
-    assert_eq!(rt; text.into_bytes(), [0x62, 0x63, 0x64, 0x65]);
+    assert_eq!(rt; &text.into_bytes()[..], [0x62, 0x63, 0x64, 0x65].as_slice());
+}
+
+#[test]
+fn bytes_that_were_taken_out_do_not_show(rt: HostRuntime) {
+    check_first_taken_out(&rt, InlineStringN::<4>::from("abcd"));
 }
 
 /// A place of "aé€𝄞", that text with 'x' and with "bar" put in there, cut off there, and the
@@ -261,46 +278,75 @@ const PLACES: [PlaceRow; 5] = [
     (10, "aé€𝄞x", "aé€𝄞bar", "aé€𝄞", None),
 ];
 
+const WHOLE: &str = "aé€𝄞";
+
+fn check_growths_at<const N: usize>(rt: &impl Abort, place: usize, with_char: &str, with_str: &str)
+    requires { N ≤ 300 }
+{
+    let mut text = text_of::<N>(rt, WHOLE);
+    let answer = try_insert(&mut text, place, 'x');
+    assert_eq!(rt;
+        (answer, text.as_str()),
+        (Some(Ok(())), with_char),
+        "at {place}"
+    );
+
+    let mut text = text_of::<N>(rt, WHOLE);
+    let answer = try_insert_str(&mut text, place, "bar");
+    assert_eq!(rt;
+        (answer, text.as_str()),
+        (Some(Ok(())), with_str),
+        "at {place}"
+    );
+}
+
+fn check_cuts_at<const N: usize>(
+    rt: &impl Abort,
+    place: usize,
+    cut: &str,
+    removal: Option<(char, &str)>,
+)
+    requires { N ≤ 300 }
+{
+    let mut text = text_of::<N>(rt, WHOLE);
+    let answer = try_truncate(&mut text, place);
+    assert_eq!(rt; (answer, text.as_str()), (Some(()), cut), "at {place}");
+
+    let mut text = text_of::<N>(rt, WHOLE);
+    let (ch, rest) = match removal {
+        Some((ch, rest)) => (Some(ch), rest),
+        None => (None, WHOLE),
+    };
+    let answer = try_remove(&mut text, place);
+    assert_eq!(rt; (answer, text.as_str()), (ch, rest), "at {place}");
+}
+
+fn check_no_place<const N: usize>(rt: &impl Abort, idx: usize)
+    requires { N ≤ 300 }
+{
+    let mut text = text_of::<N>(rt, WHOLE);
+    let are_refused = [
+        try_insert(&mut text, idx, 'x').is_none(),
+        try_insert_str(&mut text, idx, "bar").is_none(),
+        try_truncate(&mut text, idx).is_none(),
+        try_remove(&mut text, idx).is_none(),
+    ];
+    assert_eq!(rt;
+        (are_refused, text.as_str()),
+        ([true; 4], WHOLE),
+        "at {idx}"
+    );
+}
+
 fn check_places<const N: usize>(rt: &impl Abort)
     requires { N ≤ 300 }
 {
-    let whole = "aé€𝄞";
     for (place, with_char, with_str, cut, removal) in PLACES {
-        let mut text = text_of::<N>(rt, whole);
-        assert_eq!(rt;
-            try_insert(&mut text, place, 'x'),
-            Some(Ok(())),
-            "at {place}"
-        );
-        assert_eq!(rt; text.as_str(), with_char);
-
-        let mut text = text_of::<N>(rt, whole);
-        assert_eq!(rt;
-            try_insert_str(&mut text, place, "bar"),
-            Some(Ok(())),
-            "at {place}"
-        );
-        assert_eq!(rt; text.as_str(), with_str);
-
-        let mut text = text_of::<N>(rt, whole);
-        assert_eq!(rt; try_truncate(&mut text, place), Some(()), "at {place}");
-        assert_eq!(rt; text.as_str(), cut);
-
-        let mut text = text_of::<N>(rt, whole);
-        let (ch, rest) = match removal {
-            Some((ch, rest)) => (Some(ch), rest),
-            None => (None, whole),
-        };
-        assert_eq!(rt; try_remove(&mut text, place), ch, "at {place}");
-        assert_eq!(rt; text.as_str(), rest);
+        check_growths_at::<N>(rt, place, with_char, with_str);
+        check_cuts_at::<N>(rt, place, cut, removal);
     }
     for idx in [2, 4, 5, 7, 8, 9, 11, usize::MAX] {
-        let mut text = text_of::<N>(rt, whole);
-        assert_eq!(rt; try_insert(&mut text, idx, 'x'), None, "at {idx}");
-        assert_eq!(rt; try_insert_str(&mut text, idx, "bar"), None, "at {idx}");
-        assert_eq!(rt; try_truncate(&mut text, idx), None, "at {idx}");
-        assert_eq!(rt; try_remove(&mut text, idx), None, "at {idx}");
-        assert_eq!(rt; text.as_str(), whole);
+        check_no_place::<N>(rt, idx);
     }
 }
 

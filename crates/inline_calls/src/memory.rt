@@ -1,9 +1,9 @@
 //! Calls while every request for memory is refused: a test holds all memory that can be had, makes
 //! its calls, gives the memory back, and then asserts. One gives a block back before its calls, so
 //! that one request of that size is granted and the next one is refused.
-use crate::hoard::Hoard;
 use crate::texts::{
-    HEAP_ROOM, assert_text, insert_at, insert_str_at, letters, remove_at, text_of, truncate_at,
+    HEAP_ROOM, assert_inserted, assert_pushed, assert_text, insert_at, insert_str_at, letters,
+    remove_at, text_of, truncate_at,
 };
 use inlinable_string::inline_string::ReplaceError;
 use inlinable_string::{
@@ -12,52 +12,74 @@ use inlinable_string::{
 use std::alloc::Global;
 use std::process::Abort;
 use std::test::Fail;
+use test_memory::Hoard;
+
+/// All memory that can be had.
+fn all_memory(rt: &impl Abort, alloc: Global) -> Hoard {
+    Hoard::take(alloc).expect(rt, "memory cannot be used up here")
+}
 
 const FULL: &str = "aaaaaaaaaaaaaaaaaaaaaaaaaaaaaa";
+
+fn assert_added_without_memory<S: StringMake + Drop>(
+    rt: &impl Abort,
+    alloc: Global,
+    (count, ch): (usize, char),
+) -> Result<(), Fail> {
+    let hoard = all_memory(rt, alloc);
+    let mut pushed: S = letters(rt, alloc, 0, count);
+    let pushes = pushed.push(ch).is_ok();
+    let mut inserted: S = letters(rt, alloc, 0, count);
+    let inserts = insert_at(&mut inserted, 0, ch) == Some(Ok(()));
+    drop(hoard);
+    assert!(rt; pushes && inserts, "at {ch}");
+    assert_pushed(rt, alloc, &pushed, (count, ch), Storage::Inline)?;
+    assert_inserted(rt, alloc, &inserted, (count, ch), Storage::Inline)
+}
 
 #[test]
 fn a_character_up_to_30_bytes_takes_no_memory(rt: HostRuntime) -> Result<(), Fail> {
     let alloc = rt.alloc();
-    for (count, ch) in [(29, 'a'), (28, 'é'), (27, '€'), (26, '𝄞')] {
-        let hoard = Hoard::take(&rt, alloc);
-        let mut pushed: InlinableString = letters(&rt, alloc, 0, count);
-        let pushes = pushed.push(ch).is_ok();
-        let mut inserted: InlinableString = letters(&rt, alloc, 0, count);
-        let inserts = insert_at(&mut inserted, 0, ch);
-        drop(hoard);
-        assert!(rt; pushes, "at {ch}");
-        assert_eq!(rt; inserts, Some(Ok(())), "at {ch}");
-        let rest = "a".repeat(alloc, count)?;
-        let wanted = format!(in alloc; "{rest}{ch}")?;
-        assert_text(&rt, &pushed, wanted.as_str(), Storage::Inline);
-        let wanted = format!(in alloc; "{ch}{rest}")?;
-        assert_text(&rt, &inserted, wanted.as_str(), Storage::Inline);
+    for added in [(29, 'a'), (28, 'é'), (27, '€'), (26, '𝄞')] {
+        assert_added_without_memory::<InlinableString>(&rt, alloc, added)?;
     }
     Ok(())
+}
+
+fn assert_refused_past_30_bytes<S: StringMake + Drop>(
+    rt: &impl Abort,
+    alloc: Global,
+    (count, ch): (usize, char),
+) -> Result<(), Fail> {
+    let mut text: S = letters(rt, alloc, 0, count);
+    let hoard = all_memory(rt, alloc);
+    let refused = [
+        text.push(ch).is_err(),
+        matches!(insert_at(&mut text, 0, ch), Some(Err(_))),
+        matches!(insert_at(&mut text, count, ch), Some(Err(_))),
+    ];
+    drop(hoard);
+    assert_eq!(rt; (refused, text.capacity()), ([true; 3], 30), "at {ch}");
+    let wanted = "a".repeat(alloc, count)?;
+    assert_text(rt, &text, wanted.as_str(), Storage::Inline);
+    assert_goes_on(rt, &mut text, ch);
+    assert_text(rt, &text, wanted.as_str(), Storage::Heap);
+    Ok(())
+}
+
+/// Memory is back, and the text is one to go on with.
+fn assert_goes_on<S: StringExt>(rt: &impl Abort, text: &mut S, ch: char) {
+    assert_eq!(rt; text.pop(), Some('a'));
+    assert!(rt; text.push_str("a").is_ok());
+    assert!(rt; text.push(ch).is_ok());
+    assert_eq!(rt; text.pop(), Some(ch));
 }
 
 #[test]
 fn a_character_past_30_bytes_is_refused_and_changes_nothing(rt: HostRuntime) -> Result<(), Fail> {
     let alloc = rt.alloc();
-    for (count, ch) in [(30, 'a'), (29, 'é'), (28, '€'), (27, '𝄞'), (29, '€')] {
-        let mut text: InlinableString = letters(&rt, alloc, 0, count);
-        let hoard = Hoard::take(&rt, alloc);
-        let pushed = text.push(ch).is_err();
-        let at_the_front = insert_at(&mut text, 0, ch);
-        let at_the_end = insert_at(&mut text, count, ch);
-        drop(hoard);
-        assert!(rt; pushed, "at {ch}");
-        assert!(rt; matches!(at_the_front, Some(Err(_))), "at {ch}");
-        assert!(rt; matches!(at_the_end, Some(Err(_))), "at {ch}");
-        let wanted = "a".repeat(alloc, count)?;
-        assert_text(&rt, &text, wanted.as_str(), Storage::Inline);
-        assert_eq!(rt; text.capacity(), 30);
-        // Memory is back, and the text is one to go on with.
-        assert_eq!(rt; text.pop(), Some('a'));
-        assert!(rt; text.push_str("a").is_ok());
-        assert!(rt; text.push(ch).is_ok());
-        assert_eq!(rt; text.pop(), Some(ch));
-        assert_text(&rt, &text, wanted.as_str(), Storage::Heap);
+    for added in [(30, 'a'), (29, 'é'), (28, '€'), (27, '𝄞'), (29, '€')] {
+        assert_refused_past_30_bytes::<InlinableString>(&rt, alloc, added)?;
     }
     Ok(())
 }
@@ -71,7 +93,7 @@ fn assert_all_refused<S: StringExt>(
     storage: Storage,
 ) {
     let capacity = text.capacity();
-    let hoard = Hoard::take(rt, alloc);
+    let hoard = all_memory(rt, alloc);
     let answers = [
         text.push('𝄞').is_err(),
         text.push_str("0123").is_err(),
@@ -90,26 +112,34 @@ fn assert_all_refused<S: StringExt>(
     assert_eq!(rt; text.capacity(), capacity);
 }
 
+fn assert_made_and_all_refused<S: StringMake + Drop>(
+    rt: &impl Abort,
+    alloc: Global,
+    room: usize,
+    content: &str,
+    storage: Storage,
+) {
+    let mut text: S = text_of(rt, alloc, room, content);
+    assert_all_refused(rt, alloc, &mut text, content, storage);
+}
+
 #[test]
 fn what_outgrows_the_room_at_hand_is_refused_and_changes_nothing(rt: HostRuntime) {
     let alloc = rt.alloc();
-    let over = "aaaaaaaaaaaaaaaaaaaaaaaaaaaaaaa";
     for content in [FULL, "aaaaaaaaaaaaaaaaaaaaaaaaaaa"] {
-        let mut text: InlinableString = text_of(&rt, alloc, 0, content);
-        assert_all_refused(&rt, alloc, &mut text, content, Storage::Inline);
+        assert_made_and_all_refused::<InlinableString>(&rt, alloc, 0, content, Storage::Inline);
         let mut text = BoxableString(text_of(&rt, alloc, 0, content));
         assert_all_refused(&rt, alloc, &mut text, content, Storage::Inline);
     }
-    let mut text: InlinableString = text_of(&rt, alloc, HEAP_ROOM, over);
-    assert_all_refused(&rt, alloc, &mut text, over, Storage::Heap);
-    let mut text: String = text_of(&rt, alloc, HEAP_ROOM, over);
-    assert_all_refused(&rt, alloc, &mut text, over, Storage::Heap);
+    let over = "aaaaaaaaaaaaaaaaaaaaaaaaaaaaaaa";
+    assert_made_and_all_refused::<InlinableString>(&rt, alloc, HEAP_ROOM, over, Storage::Heap);
+    assert_made_and_all_refused::<String>(&rt, alloc, HEAP_ROOM, over, Storage::Heap);
 }
 
 #[test]
 fn an_inline_text_is_reserved_and_edited_without_memory(rt: HostRuntime) {
     let alloc = rt.alloc();
-    let hoard = Hoard::take(&rt, alloc);
+    let hoard = all_memory(&rt, alloc);
     let mut full: InlinableString = letters(&rt, alloc, 0, 30);
     let nothing_pushed = full.push_str("").is_ok();
     let nothing_inserted = insert_str_at(&mut full, 30, "");
@@ -151,7 +181,7 @@ fn assert_filled<S: StringMake + Drop>(
     let mut exact: S = letters(rt, alloc, room, count);
     assert!(rt; additional == 0 || text.reserve(additional).is_ok());
     assert!(rt; additional == 0 || exact.reserve_exact(additional).is_ok());
-    let hoard = Hoard::take(rt, alloc);
+    let hoard = all_memory(rt, alloc);
     let mut all_fit = true;
     let mut wanted = count;
     for string in added {
@@ -188,27 +218,30 @@ fn reserved_room_is_filled_without_memory(rt: HostRuntime) {
     }
 }
 
-#[test]
-fn a_cut_takes_no_memory_and_neither_does_a_bad_place(rt: HostRuntime) {
-    let alloc = rt.alloc();
-    let mut text = String::new(alloc);
-    assert!(rt; StringExt::reserve(&mut text, 10).is_ok());
-    let hoard = Hoard::take(&rt, alloc);
+fn assert_cut_without_memory<S: StringMake + Drop>(rt: &impl Abort, alloc: Global) {
+    let mut text: S = text_of(rt, alloc, 0, "");
+    assert!(rt; text.reserve(10).is_ok());
+    let hoard = all_memory(rt, alloc);
     let cut = truncate_at(&mut text, 5);
-    let pushed = StringExt::push_str(&mut text, "0123456789").is_ok();
-    let last = StringExt::pop(&mut text);
+    let pushed = text.push_str("0123456789").is_ok();
+    let last = text.pop();
     let first = remove_at(&mut text, 0);
     drop(hoard);
-    assert!(rt; !cut);
-    assert!(rt; pushed);
-    assert_eq!(rt; last, Some('9'));
-    assert_eq!(rt; first, Some('0'));
-    assert_text(&rt, &text, "12345678", Storage::Heap);
+    assert_eq!(rt;
+        (cut, pushed, last, first),
+        (false, true, Some('9'), Some('0'))
+    );
+    assert_text(rt, &text, "12345678", Storage::Heap);
+}
+
+#[test]
+fn a_cut_takes_no_memory_and_neither_does_a_bad_place(rt: HostRuntime) {
+    assert_cut_without_memory::<String>(&rt, rt.alloc());
 }
 
 fn assert_replaced<S: StringMake + Drop>(rt: &impl Abort, alloc: Global, room: usize) {
     let mut text: S = text_of(rt, alloc, room, "hello");
-    let hoard = Hoard::take(rt, alloc);
+    let hoard = all_memory(rt, alloc);
     let replaced = text.replace_bytes(b"olleh");
     let is_reversed = text.as_str() == "olleh";
     let long = text.replace_bytes(b"olleho");
@@ -230,24 +263,26 @@ fn bytes_on_the_heap_are_replaced_without_memory(rt: HostRuntime) {
     assert_replaced::<InlinableString>(&rt, alloc, HEAP_ROOM);
 }
 
-#[test]
-fn a_text_comes_back_inline_without_memory(rt: HostRuntime) {
-    let alloc = rt.alloc();
-    let mut text: InlinableString = letters(&rt, alloc, 0, 31);
-    let hoard = Hoard::take(&rt, alloc);
+fn assert_comes_back_without_memory<S: StringMake + Drop>(rt: &impl Abort, alloc: Global) {
+    let mut text: S = letters(rt, alloc, 0, 31);
+    let hoard = all_memory(rt, alloc);
     let last = text.pop();
     let shrunk = text.shrink_to_fit().is_ok();
     drop(hoard);
-    assert_eq!(rt; last, Some('a'));
-    assert!(rt; shrunk);
-    assert_text(&rt, &text, FULL, Storage::Inline);
+    assert_eq!(rt; (last, shrunk), (Some('a'), true));
+    assert_text(rt, &text, FULL, Storage::Inline);
+}
+
+#[test]
+fn a_text_comes_back_inline_without_memory(rt: HostRuntime) {
+    assert_comes_back_without_memory::<InlinableString>(&rt, rt.alloc());
 }
 
 #[test]
 fn a_text_is_made_without_memory_where_its_room_is_inline(rt: HostRuntime) {
     let alloc = rt.alloc();
     for (capacity, is_granted) in [(0, true), (1, true), (30, true), (31, false), (40, false)] {
-        let hoard = Hoard::take(&rt, alloc);
+        let hoard = all_memory(&rt, alloc);
         let made = InlinableString::with_capacity(alloc, capacity);
         drop(hoard);
         assert_eq!(rt; made.is_ok(), is_granted, "at {capacity}");
@@ -255,7 +290,7 @@ fn a_text_is_made_without_memory_where_its_room_is_inline(rt: HostRuntime) {
             assert_text(&rt, &text, "", Storage::Inline);
         }
     }
-    let hoard = Hoard::take(&rt, alloc);
+    let hoard = all_memory(&rt, alloc);
     let zero = InlinableStringN::<0>::with_capacity(alloc, 1).is_err();
     let string = <String as StringMake>::with_capacity(alloc, 1).is_err();
     let new: String = text_of(&rt, alloc, 0, "");
@@ -264,20 +299,29 @@ fn a_text_is_made_without_memory_where_its_room_is_inline(rt: HostRuntime) {
     assert_text(&rt, &new, "", Storage::Heap);
 }
 
-#[test]
-fn at_300_the_first_300_bytes_take_no_memory(rt: HostRuntime) -> Result<(), Fail> {
-    let alloc = rt.alloc();
-    let hoard = Hoard::take(&rt, alloc);
-    let mut text: InlinableStringN<300> = letters(&rt, alloc, 0, 300);
+fn assert_filled_inline<S: StringMake + Drop>(
+    rt: &impl Abort,
+    alloc: Global,
+    limit: usize,
+) -> Result<(), Fail> {
+    let hoard = all_memory(rt, alloc);
+    let mut text: S = letters(rt, alloc, 0, limit);
     let one_more = text.push('a').is_err();
     drop(hoard);
     assert!(rt; one_more);
-    let wanted = "a".repeat(alloc, 300)?;
-    assert_text(&rt, &text, wanted.as_str(), Storage::Inline);
+    let wanted = "a".repeat(alloc, limit)?;
+    assert_text(rt, &text, wanted.as_str(), Storage::Inline);
     assert!(rt; text.push('a').is_ok());
-    assert_eq!(rt; text.len(), 301);
-    assert_eq!(rt; text.storage(), Storage::Heap);
+    assert_eq!(rt;
+        (text.len(), text.storage()),
+        (limit.saturating_add(1), Storage::Heap)
+    );
     Ok(())
+}
+
+#[test]
+fn at_300_the_first_300_bytes_take_no_memory(rt: HostRuntime) -> Result<(), Fail> {
+    assert_filled_inline::<InlinableStringN<300>>(&rt, rt.alloc(), 300)
 }
 
 /// Promotes texts to 40 bytes while one block of `size` bytes can be had, and tells which went
@@ -290,7 +334,7 @@ fn promoted_with_one_block(rt: &impl Abort, alloc: Global, size: usize) -> [bool
     for (i, answer) in answers.iter_mut().enumerate() {
         let block: Result<Vec<u8>, _> = Vec::with_capacity(alloc, size);
         let block = block.expect(rt, "memory");
-        let hoard = Hoard::take(rt, alloc);
+        let hoard = all_memory(rt, alloc);
         drop(block);
         *answer = match i {
             0 => pushed.push('b').is_ok(),

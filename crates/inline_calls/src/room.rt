@@ -4,6 +4,22 @@ use inlinable_string::{InlinableString, Storage, StringExt, StringMake};
 use std::alloc::Global;
 use std::process::Abort;
 
+/// Asserts that a reservation is granted or not, and that there is the room where it is.
+fn assert_room<S: StringExt>(
+    rt: &impl Abort,
+    text: &S,
+    additional: usize,
+    answer: bool,
+    is_granted: bool,
+) {
+    let has_room = text.capacity().saturating_sub(text.len()) >= additional;
+    assert_eq!(rt;
+        (answer, !is_granted || has_room),
+        (is_granted, true),
+        "{additional}"
+    );
+}
+
 fn assert_reserved<S: StringMake + Drop>(
     rt: &impl Abort,
     alloc: Global,
@@ -20,21 +36,13 @@ fn assert_reserved<S: StringMake + Drop>(
         ("a", usize::MAX - 1, false, short),
     ] {
         let mut text: S = text_of(rt, alloc, room, content);
-        assert_eq!(rt;
-            text.reserve(additional).is_ok(),
-            is_granted,
-            "{additional}"
-        );
+        let answer = text.reserve(additional).is_ok();
+        assert_room(rt, &text, additional, answer, is_granted);
         assert_text(rt, &text, content, wanted);
-        assert!(rt; !is_granted || text.capacity().saturating_sub(content.len()) >= additional);
         let mut text: S = text_of(rt, alloc, room, content);
-        assert_eq!(rt;
-            text.reserve_exact(additional).is_ok(),
-            is_granted,
-            "{additional}"
-        );
+        let answer = text.reserve_exact(additional).is_ok();
+        assert_room(rt, &text, additional, answer, is_granted);
         assert_text(rt, &text, content, wanted);
-        assert!(rt; !is_granted || text.capacity().saturating_sub(content.len()) >= additional);
     }
 }
 
@@ -60,8 +68,7 @@ fn assert_filled_after_a_reservation<S: StringMake + Drop>(
     assert_eq!(rt; text.len(), 103);
     // Whatever it answers.
     let _ = text.shrink_to_fit();
-    assert_eq!(rt; text.len(), 103);
-    assert_eq!(rt; text.storage(), Storage::Heap);
+    assert_eq!(rt; (text.len(), text.storage()), (103, Storage::Heap));
     assert!(rt; text.as_str().starts_with("foo0123456789"));
 }
 
@@ -73,26 +80,30 @@ fn a_long_text_stays_on_the_heap_when_it_is_shrunk(rt: HostRuntime) {
     assert_filled_after_a_reservation::<String>(&rt, alloc, 0);
 }
 
+fn assert_comes_back_at_30_bytes<S: StringMake + Drop>(
+    rt: &impl Abort,
+    alloc: Global,
+    room: usize,
+) {
+    let long = "aaaaaaaaaaaaaaaaaaaaaaaaaaaaaaa";
+    let full = "aaaaaaaaaaaaaaaaaaaaaaaaaaaaaa";
+    let mut text: S = text_of(rt, alloc, room, long);
+    assert!(rt; text.shrink_to_fit().is_ok());
+    assert_text(rt, &text, long, Storage::Heap);
+    assert_eq!(rt; text.pop(), Some('a'));
+    assert_text(rt, &text, full, Storage::Heap);
+    assert!(rt; text.shrink_to_fit().is_ok());
+    assert_text(rt, &text, full, Storage::Inline);
+    assert_eq!(rt; text.capacity(), 30);
+    assert!(rt; text.push('b').is_ok());
+    assert_text(rt, &text, "aaaaaaaaaaaaaaaaaaaaaaaaaaaaaab", Storage::Heap);
+}
+
 #[test]
 fn a_text_comes_back_inline_when_it_is_shrunk_at_30_bytes(rt: HostRuntime) {
     let alloc = rt.alloc();
     for room in [0, HEAP_ROOM] {
-        let long = "aaaaaaaaaaaaaaaaaaaaaaaaaaaaaaa";
-        let mut text: InlinableString = text_of(&rt, alloc, room, long);
-        assert!(rt; text.shrink_to_fit().is_ok());
-        assert_text(&rt, &text, long, Storage::Heap);
-        assert_eq!(rt; text.pop(), Some('a'));
-        assert_text(&rt, &text, "aaaaaaaaaaaaaaaaaaaaaaaaaaaaaa", Storage::Heap);
-        assert!(rt; text.shrink_to_fit().is_ok());
-        assert_text(
-            &rt,
-            &text,
-            "aaaaaaaaaaaaaaaaaaaaaaaaaaaaaa",
-            Storage::Inline,
-        );
-        assert_eq!(rt; text.capacity(), 30);
-        assert!(rt; text.push('b').is_ok());
-        assert_text(&rt, &text, "aaaaaaaaaaaaaaaaaaaaaaaaaaaaaab", Storage::Heap);
+        assert_comes_back_at_30_bytes::<InlinableString>(&rt, alloc, room);
     }
 }
 

@@ -1,5 +1,8 @@
 //! Growths: what they make of a text, and when it goes to the heap.
-use crate::texts::{HEAP_ROOM, assert_text, insert_at, insert_str_at, letters, text_of};
+use crate::texts::{
+    HEAP_ROOM, assert_inserted, assert_pushed, assert_text, insert_at, insert_str_at, letters,
+    text_of,
+};
 use inlinable_string::{InlinableString, Storage, StringExt, StringMake};
 use std::alloc::Global;
 use std::process::Abort;
@@ -12,16 +15,12 @@ fn assert_character_added<S: StringMake + Drop>(
     (count, ch): (usize, char),
     storage: Storage,
 ) -> Result<(), Fail> {
-    let rest = "a".repeat(alloc, count)?;
     let mut pushed: S = letters(rt, alloc, room, count);
     assert!(rt; pushed.push(ch).is_ok());
-    let wanted = format!(in alloc; "{rest}{ch}")?;
-    assert_text(rt, &pushed, wanted.as_str(), storage);
+    assert_pushed(rt, alloc, &pushed, (count, ch), storage)?;
     let mut inserted: S = letters(rt, alloc, room, count);
     assert_eq!(rt; insert_at(&mut inserted, 0, ch), Some(Ok(())));
-    let wanted = format!(in alloc; "{ch}{rest}")?;
-    assert_text(rt, &inserted, wanted.as_str(), storage);
-    Ok(())
+    assert_inserted(rt, alloc, &inserted, (count, ch), storage)
 }
 
 #[test]
@@ -146,13 +145,16 @@ fn texts_outgrow_the_limit_in_the_middle_and_at_the_end(rt: HostRuntime) {
 /// Growths past the room at hand, one after the other.
 fn assert_goes_on_growing<S: StringMake + Drop>(rt: &impl Abort, alloc: Global) {
     let mut text: S = letters(rt, alloc, HEAP_ROOM, 31);
-    assert_eq!(rt; insert_at(&mut text, 0, 'c'), Some(Ok(())));
-    assert!(rt; text.push('b').is_ok());
-    assert!(rt; text.push_str("0123456789").is_ok());
-    assert_eq!(rt; insert_str_at(&mut text, 0, "0123456789"), Some(Ok(())));
-    assert!(rt; text.reserve(100).is_ok());
-    assert!(rt; text.reserve_exact(1000).is_ok());
-    assert!(rt; text.shrink_to_fit().is_ok());
+    let answers = [
+        insert_at(&mut text, 0, 'c') == Some(Ok(())),
+        text.push('b').is_ok(),
+        text.push_str("0123456789").is_ok(),
+        insert_str_at(&mut text, 0, "0123456789") == Some(Ok(())),
+        text.reserve(100).is_ok(),
+        text.reserve_exact(1000).is_ok(),
+        text.shrink_to_fit().is_ok(),
+    ];
+    assert_eq!(rt; answers, [true; 7]);
     let wanted = "0123456789caaaaaaaaaaaaaaaaaaaaaaaaaaaaaaab0123456789";
     assert_text(rt, &text, wanted, Storage::Heap);
     assert_eq!(rt; text.len(), 53);

@@ -3,6 +3,7 @@
 use inlinable_string::{Storage, StringExt, StringMake};
 use std::alloc::{AllocError, Global};
 use std::process::Abort;
+use std::test::Fail;
 
 /// Room that no text has inline: a text that is made with so much lies on the heap.
 pub const HEAP_ROOM: usize = 31;
@@ -42,12 +43,51 @@ pub fn letters<S: StringMake + Drop>(
 
 /// Asserts what the text is and where it lies, by all calls that look at it.
 pub fn assert_text<S: StringExt>(rt: &impl Abort, text: &S, content: &str, storage: Storage) {
-    assert_eq!(rt; text.as_str(), content);
-    assert_eq!(rt; text.as_bytes(), content.as_bytes());
-    assert_eq!(rt; text.len(), content.len());
-    assert_eq!(rt; text.is_empty(), content.is_empty());
-    assert_eq!(rt; text.storage(), storage, "at {content}");
+    assert_eq!(rt;
+        (
+            text.as_str(),
+            text.as_bytes(),
+            text.len(),
+            text.is_empty(),
+            text.storage()
+        ),
+        (
+            content,
+            content.as_bytes(),
+            content.len(),
+            content.is_empty(),
+            storage
+        )
+    );
     assert!(rt; text.capacity() >= content.len());
+}
+
+/// Asserts that the text is so many letters 'a' with a character behind them.
+pub fn assert_pushed<S: StringExt>(
+    rt: &impl Abort,
+    alloc: Global,
+    text: &S,
+    (count, ch): (usize, char),
+    storage: Storage,
+) -> Result<(), Fail> {
+    let rest = "a".repeat(alloc, count)?;
+    let wanted = format!(in alloc; "{rest}{ch}")?;
+    assert_text(rt, text, wanted.as_str(), storage);
+    Ok(())
+}
+
+/// Asserts that the text is so many letters 'a' with a character before them.
+pub fn assert_inserted<S: StringExt>(
+    rt: &impl Abort,
+    alloc: Global,
+    text: &S,
+    (count, ch): (usize, char),
+    storage: Storage,
+) -> Result<(), Fail> {
+    let rest = "a".repeat(alloc, count)?;
+    let wanted = format!(in alloc; "{ch}{rest}")?;
+    assert_text(rt, text, wanted.as_str(), storage);
+    Ok(())
 }
 
 /// Puts a character in; `None` where `idx` is no place of the text.

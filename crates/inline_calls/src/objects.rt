@@ -147,18 +147,26 @@ fn say_that_it_works(text: &mut dyn StringExt) -> Result<(), AllocError> {
 }
 
 #[test]
-fn texts_of_each_type_grow_through_a_reference_to_the_trait(rt: HostRuntime) {
-    let alloc = rt.alloc();
-    let mut string: String = text_of(&rt, alloc, 0, "this is a plain std::string::String");
+fn a_string_grows_through_a_reference_to_the_trait(rt: HostRuntime) {
+    let start = "this is a plain std::string::String";
+    let mut string: String = text_of(&rt, rt.alloc(), 0, start);
     assert!(rt; say_that_it_works(&mut string).is_ok());
     let wanted = "this is a plain std::string::Stringit works!";
     assert_text(&rt, &string, wanted, Storage::Heap);
-    let mut inline: InlinableString = text_of(&rt, alloc, 0, "inline");
+}
+
+#[test]
+fn an_inline_text_grows_through_a_reference_to_the_trait(rt: HostRuntime) {
+    let mut inline: InlinableString = text_of(&rt, rt.alloc(), 0, "inline");
     assert!(rt; say_that_it_works(&mut inline).is_ok());
     assert_text(&rt, &inline, "inlineit works!", Storage::Inline);
     assert_eq!(rt; StringExt::len(&inline), 15);
+}
+
+#[test]
+fn a_type_of_a_callers_own_grows_through_a_reference_to_the_trait(rt: HostRuntime) {
     let mut plain = Plain {
-        inner: text_of(&rt, alloc, 0, "plain"),
+        inner: text_of(&rt, rt.alloc(), 0, "plain"),
     };
     assert!(rt; say_that_it_works(&mut plain).is_ok());
     assert_text(&rt, &plain, "plainit works!", Storage::Heap);

@@ -1,5 +1,5 @@
 use Rattle.inlinable_string.proofs.Cut.{place_at_boundary}
-use Rattle.inline_vectors.proofs.texts.truncate_at.Goals as goal
+use Rattle.inline_calls.proofs.texts.truncate_at.Goals as goal
 
 pub truncate-requires : goal.truncate-requires
 truncate-requires g c =

@@ -1,0 +1,25 @@
+//! Tests over the public calls of `inlinable_string`, with the values that they must give.
+#![tactic(auto)]
+
+#[cfg(test)]
+mod carried;
+#[cfg(test)]
+mod cuts;
+#[cfg(test)]
+mod growths;
+#[cfg(test)]
+mod inline;
+#[cfg(test)]
+mod limits;
+#[cfg(test)]
+mod memory;
+#[cfg(test)]
+mod objects;
+#[cfg(test)]
+mod places;
+#[cfg(test)]
+mod refusals;
+#[cfg(test)]
+mod room;
+#[cfg(test)]
+mod texts;
