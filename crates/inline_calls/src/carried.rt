@@ -175,16 +175,20 @@ fn assert_shrunk<S: StringExt>(rt: &impl Abort, text: &mut S, storage: Storage) 
     assert!(rt; text.capacity() >= 3);
 }
 
+fn assert_shrunk_inline<S: StringMake + Drop>(rt: &impl Abort, alloc: Global) {
+    let mut made: S = text_of(rt, alloc, 100, "foo");
+    assert_shrunk(rt, &mut made, Storage::Inline);
+    assert_eq!(rt; made.capacity(), 30);
+    let mut reserved: S = text_of(rt, alloc, 0, "foo");
+    assert!(rt; reserved.reserve(100).is_ok());
+    assert_shrunk(rt, &mut reserved, Storage::Inline);
+    assert_eq!(rt; reserved.capacity(), 30);
+}
+
 #[test]
 fn a_shrunk_text_has_the_room_that_it_needs(rt: HostRuntime) {
     let alloc = rt.alloc();
     let mut string: String = text_of(&rt, alloc, 100, "foo");
     assert_shrunk(&rt, &mut string, Storage::Heap);
-    let made: InlinableString = text_of(&rt, alloc, 100, "foo");
-    let mut reserved: InlinableString = text_of(&rt, alloc, 0, "foo");
-    assert!(rt; reserved.reserve(100).is_ok());
-    for mut text in [made, reserved] {
-        assert_shrunk(&rt, &mut text, Storage::Inline);
-        assert_eq!(rt; text.capacity(), 30);
-    }
+    assert_shrunk_inline::<InlinableString>(&rt, alloc);
 }

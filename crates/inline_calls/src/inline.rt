@@ -357,30 +357,51 @@ fn each_place_is_told_by_the_test_and_taken_by_the_calls(rt: HostRuntime) {
     check_places::<300>(&rt);
 }
 
+/// A character whose bytes fill the rest of a text.
+fn check_fits<const N: usize>(rt: &impl Abort, ch: char, bytes: &[u8])
+    requires { N ≤ 300 }
+{
+    let count = bytes.len();
+    assert!(rt; count <= N);
+    let mut text = letters::<N>(rt, N - count);
+    let pushed = text.push(ch);
+    assert_eq!(rt;
+        (pushed, text.into_bytes()),
+        (Ok(()), letters_around(N - count, bytes)),
+        "{ch} at {N}"
+    );
+    let mut text = letters::<N>(rt, N - count);
+    let inserted = try_insert(&mut text, 0, ch);
+    assert_eq!(rt;
+        (inserted, text.into_bytes()),
+        (Some(Ok(())), letters_around(0, bytes)),
+        "{ch} at {N}"
+    );
+}
+
+/// A character of so many bytes, of which one finds no room.
+fn check_just_too_long<const N: usize>(rt: &impl Abort, ch: char, count: usize)
+    requires { N ≤ 300 }
+{
+    assert!(rt; count <= N + 1);
+    let kept = N + 1 - count;
+    let mut text = letters::<N>(rt, kept);
+    let refused = Err(NotEnoughSpaceError);
+    let answers = (text.push(ch), try_insert(&mut text, 0, ch));
+    assert_eq!(rt; answers, (refused, Some(refused)), "{ch} at {N}");
+    assert_eq!(rt; text.len(), kept);
+    assert!(rt; text.as_bytes().iter().all(|&byte| byte == b'a'));
+}
+
 fn check_edge<const N: usize>(rt: &impl Abort)
     requires { N ≤ 300 }
 {
     for (ch, bytes) in CHARACTERS {
-        let count = bytes.len();
-        if count <= N {
-            let joined = letters_around(N - count, bytes);
-            let mut text = letters::<N>(rt, N - count);
-            assert_eq!(rt; text.push(ch), Ok(()), "{ch} at {N}");
-            assert_eq!(rt; text.into_bytes(), joined, "{ch} at {N}");
-
-            let joined = letters_around(0, bytes);
-            let mut text = letters::<N>(rt, N - count);
-            assert_eq!(rt; try_insert(&mut text, 0, ch), Some(Ok(())), "{ch} at {N}");
-            assert_eq!(rt; text.into_bytes(), joined, "{ch} at {N}");
+        if bytes.len() <= N {
+            check_fits::<N>(rt, ch, bytes);
         }
-        if count <= N + 1 {
-            let kept = N + 1 - count;
-            let mut text = letters::<N>(rt, kept);
-            let refused = Err(NotEnoughSpaceError);
-            assert_eq!(rt; text.push(ch), refused, "{ch} at {N}");
-            assert_eq!(rt; try_insert(&mut text, 0, ch), Some(refused), "{ch} at {N}");
-            assert_eq!(rt; text.len(), kept);
-            assert!(rt; text.as_bytes().iter().all(|&byte| byte == b'a'));
+        if bytes.len() <= N + 1 {
+            check_just_too_long::<N>(rt, ch, bytes.len());
         }
     }
 }

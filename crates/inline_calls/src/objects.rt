@@ -84,8 +84,7 @@ impl StringExt for Plain {
     }
 }
 
-/// Gives each call of the trait once to an empty text, and past 30 bytes.
-fn assert_every_call<S: StringExt>(rt: &impl Abort, text: &mut S, short: Storage, shrunk: Storage) {
+fn assert_every_growth<S: StringExt>(rt: &impl Abort, text: &mut S, short: Storage) {
     assert_text(rt, text, "", short);
     assert!(rt; text.push('é').is_ok());
     assert_text(rt, text, "é", short);
@@ -95,19 +94,35 @@ fn assert_every_call<S: StringExt>(rt: &impl Abort, text: &mut S, short: Storage
     assert_text(rt, text, "éxfg", short);
     assert_eq!(rt; insert_str_at(text, 0, "ab"), Some(Ok(())));
     assert_text(rt, text, "abéxfg", short);
+}
+
+fn assert_every_cut<S: StringExt>(rt: &impl Abort, text: &mut S, short: Storage) {
     assert_eq!(rt; remove_at(text, 2), Some('é'));
     assert_text(rt, text, "abxfg", short);
     assert!(rt; truncate_at(text, 3));
     assert_text(rt, text, "abx", short);
     assert_eq!(rt; text.pop(), Some('x'));
     assert_text(rt, text, "ab", short);
-    assert_eq!(rt; text.replace_bytes(b"a"), Err(ReplaceError::WrongLength));
-    assert_eq!(rt;
+}
+
+fn assert_replaced<S: StringExt>(rt: &impl Abort, text: &mut S, short: Storage) {
+    let answers = [
+        text.replace_bytes(b"a"),
         text.replace_bytes(&[0xC3, 0x61]),
-        Err(ReplaceError::NotUtf8)
+        text.replace_bytes(b"yz"),
+    ];
+    assert_eq!(rt;
+        answers,
+        [
+            Err(ReplaceError::WrongLength),
+            Err(ReplaceError::NotUtf8),
+            Ok(())
+        ]
     );
-    assert_eq!(rt; text.replace_bytes(b"yz"), Ok(()));
     assert_text(rt, text, "yz", short);
+}
+
+fn assert_every_room<S: StringExt>(rt: &impl Abort, text: &mut S, short: Storage, shrunk: Storage) {
     assert!(rt; text.reserve(28).is_ok());
     assert_text(rt, text, "yz", short);
     assert!(rt; text.reserve_exact(29).is_ok());
@@ -117,6 +132,14 @@ fn assert_every_call<S: StringExt>(rt: &impl Abort, text: &mut S, short: Storage
     assert_text(rt, text, "yz", shrunk);
     text.clear();
     assert_text(rt, text, "", shrunk);
+}
+
+/// Gives each call of the trait once to an empty text, and past 30 bytes.
+fn assert_every_call<S: StringExt>(rt: &impl Abort, text: &mut S, short: Storage, shrunk: Storage) {
+    assert_every_growth(rt, text, short);
+    assert_every_cut(rt, text, short);
+    assert_replaced(rt, text, short);
+    assert_every_room(rt, text, short, shrunk);
 }
 
 #[test]
@@ -189,23 +212,33 @@ fn boxed_texts_of_several_types_stand_in_one_list(rt: HostRuntime) -> Result<(),
     let storages = [Storage::Heap, Storage::Inline, Storage::Heap, Storage::Heap];
     assert_eq!(rt; texts.len(), storages.len());
     for (text, storage) in texts.iter_mut().zip(storages) {
-        assert!(rt; text.push('y').is_ok());
-        assert_eq!(rt; text.as_str(), "xy");
-        assert_eq!(rt; text.pop(), Some('y'));
-        assert_eq!(rt; text.pop(), Some('x'));
-        assert_eq!(rt; text.pop(), None);
-        assert!(rt; text.is_empty());
-        assert_eq!(rt; text.storage(), storage);
-        assert!(rt; text.push_str("0123456789012345678901234567890").is_ok());
-        assert_eq!(rt; text.storage(), Storage::Heap);
-        assert_eq!(rt; text.len(), 31);
-        assert_eq!(rt;
-            text.as_bytes(),
-            b"0123456789012345678901234567890".as_slice()
-        );
-        assert!(rt; text.capacity() >= 31);
-        text.clear();
-        assert_eq!(rt; text.len(), 0);
+        assert_emptied_in_a_box(&rt, text, storage);
+        assert_filled_in_a_box(&rt, text);
     }
     Ok(())
+}
+
+/// Empties the text "x" by its end.
+fn assert_emptied_in_a_box(
+    rt: &impl Abort,
+    text: &mut Box<dyn StringExt + Drop>,
+    storage: Storage,
+) {
+    assert!(rt; text.push('y').is_ok());
+    assert_eq!(rt; text.as_str(), "xy");
+    assert_eq!(rt;
+        [text.pop(), text.pop(), text.pop()],
+        [Some('y'), Some('x'), None]
+    );
+    assert_eq!(rt; (text.is_empty(), text.storage()), (true, storage));
+}
+
+fn assert_filled_in_a_box(rt: &impl Abort, text: &mut Box<dyn StringExt + Drop>) {
+    let digits = "0123456789012345678901234567890";
+    assert!(rt; text.push_str(digits).is_ok());
+    assert_eq!(rt; text.as_bytes(), digits.as_bytes());
+    assert_eq!(rt; (text.len(), text.storage()), (31, Storage::Heap));
+    assert!(rt; text.capacity() >= 31);
+    text.clear();
+    assert_eq!(rt; text.len(), 0);
 }
