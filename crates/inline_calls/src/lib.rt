@@ -18,8 +18,6 @@ mod objects;
 #[cfg(test)]
 mod places;
 #[cfg(test)]
-mod refusals;
-#[cfg(test)]
 mod room;
 #[cfg(test)]
 mod texts;

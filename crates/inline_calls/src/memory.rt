@@ -324,23 +324,36 @@ fn at_300_the_first_300_bytes_take_no_memory(rt: HostRuntime) -> Result<(), Fail
     assert_filled_inline::<InlinableStringN<300>>(&rt, rt.alloc(), 300)
 }
 
-/// Promotes texts to 40 bytes while one block of `size` bytes can be had, and tells which went
-/// through: by `push`, by `insert_str` and by `reserve`.
-fn promoted_with_one_block(rt: &impl Abort, alloc: Global, size: usize) -> [bool; 3] {
-    let mut pushed: InlinableStringN<39> = letters(rt, alloc, 0, 39);
-    let mut inserted: InlinableString = letters(rt, alloc, 0, 30);
-    let mut reserved: InlinableString = letters(rt, alloc, 0, 30);
-    let mut answers = [false; 3];
-    for (i, answer) in answers.iter_mut().enumerate() {
+/// How many calls grow a text, or its room.
+const GROWTHS: usize = 6;
+
+/// Adds four bytes, or room for them, by one of the calls that do so.
+fn is_grown<S: StringExt>(text: &mut S, call: usize) -> bool {
+    match call {
+        0 => text.push('𝄞').is_ok(),
+        1 => text.push_str("𝄞").is_ok(),
+        2 => insert_at(text, 0, '𝄞') == Some(Ok(())),
+        3 => insert_str_at(text, 36, "𝄞") == Some(Ok(())),
+        4 => text.reserve(4).is_ok(),
+        _ => text.reserve_exact(4).is_ok(),
+    }
+}
+
+/// Takes a text of 36 bytes past its limit, while one block of `size` bytes can be had, by each
+/// call, and tells which went through.
+fn promoted_with_one_block<S: StringMake + Drop>(
+    rt: &impl Abort,
+    alloc: Global,
+    size: usize,
+) -> [bool; GROWTHS] {
+    let mut answers = [false; GROWTHS];
+    for (call, answer) in answers.iter_mut().enumerate() {
+        let mut text: S = letters(rt, alloc, 0, 36);
         let block: Result<Vec<u8>, _> = Vec::with_capacity(alloc, size);
         let block = block.expect(rt, "memory");
         let hoard = all_memory(rt, alloc);
         drop(block);
-        *answer = match i {
-            0 => pushed.push('b').is_ok(),
-            1 => insert_str_at(&mut inserted, 30, "0123456789") == Some(Ok(())),
-            _ => reserved.reserve(10).is_ok(),
-        };
+        *answer = is_grown(&mut text, call);
         drop(hoard);
     }
     answers
@@ -351,6 +364,8 @@ fn promoted_with_one_block(rt: &impl Abort, alloc: Global, size: usize) -> [bool
 #[test]
 fn a_promotion_asks_once_and_for_no_more_than_its_size(rt: HostRuntime) {
     let alloc = rt.alloc();
-    assert_eq!(rt; promoted_with_one_block(&rt, alloc, 40), [true; 3]);
-    assert_eq!(rt; promoted_with_one_block(&rt, alloc, 24), [false; 3]);
+    let granted = promoted_with_one_block::<InlinableStringN<39>>(&rt, alloc, 40);
+    assert_eq!(rt; granted, [true; GROWTHS]);
+    let refused = promoted_with_one_block::<InlinableStringN<39>>(&rt, alloc, 24);
+    assert_eq!(rt; refused, [false; GROWTHS]);
 }

@@ -134,12 +134,30 @@ fn assert_every_room<S: StringExt>(rt: &impl Abort, text: &mut S, short: Storage
     assert_text(rt, text, "", shrunk);
 }
 
+/// Shrinks the empty text before each growth, so that none finds room on the heap.
+fn assert_grows_without_room<S: StringExt>(rt: &impl Abort, text: &mut S) {
+    for round in 1..=4usize {
+        let grown = [
+            text.shrink_to_fit().is_ok() && text.push('é').is_ok(),
+            text.shrink_to_fit().is_ok() && text.push_str("0123456789").is_ok(),
+            text.shrink_to_fit().is_ok() && insert_at(text, 0, '€') == Some(Ok(())),
+            text.shrink_to_fit().is_ok() && insert_str_at(text, 0, "𝄞") == Some(Ok(())),
+            text.shrink_to_fit().is_ok() && text.reserve(50).is_ok(),
+            text.shrink_to_fit().is_ok() && text.reserve_exact(50).is_ok(),
+        ];
+        assert_eq!(rt; grown, [true; 6]);
+        assert_eq!(rt; text.len(), round.saturating_mul(19));
+    }
+    assert_eq!(rt; text.storage(), Storage::Heap);
+}
+
 /// Gives each call of the trait once to an empty text, and past 30 bytes.
 fn assert_every_call<S: StringExt>(rt: &impl Abort, text: &mut S, short: Storage, shrunk: Storage) {
     assert_every_growth(rt, text, short);
     assert_every_cut(rt, text, short);
     assert_replaced(rt, text, short);
     assert_every_room(rt, text, short, shrunk);
+    assert_grows_without_room(rt, text);
 }
 
 #[test]

@@ -6,6 +6,8 @@
 mod beside;
 pub mod plain;
 #[cfg(test)]
+mod refusals;
+#[cfg(test)]
 mod runs;
 #[cfg(test)]
 mod stored;

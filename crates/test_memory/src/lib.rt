@@ -7,7 +7,7 @@ use std::alloc::Global;
 
 /// How many blocks are held at most. Under the address sanitizer of `rt try` memory cannot be used
 /// up with so few.
-const MOST_BLOCKS: usize = 200_000;
+const MOST_BLOCKS: usize = 10_000;
 
 /// The first size that is asked for is 2 to this power.
 const LARGEST_SHIFT: u32 = 46;

@@ -1,12 +1,14 @@
 //! Each request for memory refused in turn, by `rt try --test --fail-alloc N`, which refuses the
 //! Nth of each test. These tests pass whichever of theirs is refused, and say `refused` where one
 //! was.
-use crate::texts::{HEAP_ROOM, insert_at, insert_str_at};
 use inlinable_string::{InlinableString, InlinableStringN, Storage, StringExt, StringMake};
 use std::alloc::{AllocError, Global};
 use std::process::Abort;
 use std::test::Fail;
 use test_memory::Refusals;
+
+/// Room that does not lie inline.
+const HEAP_ROOM: usize = 31;
 
 /// A call that may ask for memory, with what it adds.
 #[derive(Clone, Copy)]
@@ -19,14 +21,14 @@ enum Growth {
     ReserveExact(usize),
 }
 
-fn grow<S: StringExt>(text: &mut S, growth: Growth) -> Option<Result<(), AllocError>> {
+fn grow<S: StringExt>(text: &mut S, growth: Growth) -> Result<(), AllocError> {
     match growth {
-        Growth::Push(ch) => Some(text.push(ch)),
-        Growth::PushStr(string) => Some(text.push_str(string)),
-        Growth::InsertFirst(ch) => insert_at(text, 0, ch),
-        Growth::InsertStrFirst(string) => insert_str_at(text, 0, string),
-        Growth::Reserve(additional) => Some(text.reserve(additional)),
-        Growth::ReserveExact(additional) => Some(text.reserve_exact(additional)),
+        Growth::Push(ch) => text.push(ch),
+        Growth::PushStr(string) => text.push_str(string),
+        Growth::InsertFirst(ch) => text.insert(0, ch),
+        Growth::InsertStrFirst(string) => text.insert_str(0, string),
+        Growth::Reserve(additional) => text.reserve(additional),
+        Growth::ReserveExact(additional) => text.reserve_exact(additional),
     }
 }
 
@@ -57,10 +59,10 @@ fn assert_grown<S: StringMake + Drop>(
     let mut text: S = made(rt, alloc, refusals, room);
     text.push_str(content).expect(rt, "the room was asked for");
     let before = (content, storage, text.capacity());
-    if grow(&mut text, growth) != Some(Ok(())) {
+    if grow(&mut text, growth).is_err() {
         assert!(rt; refusals.meet(), "want of memory with no request refused");
         assert_eq!(rt; (text.as_str(), text.storage(), text.capacity()), before);
-        assert_eq!(rt; grow(&mut text, growth), Some(Ok(())));
+        assert!(rt; grow(&mut text, growth).is_ok());
     }
     assert_eq!(rt;
         (between(text.as_str(), front, back), text.storage()),
