@@ -1,5 +1,5 @@
 -- What a script is, and what it prints.
-use Rattle.std.specs.Prelude.{◌≡◌, ℕ, ◌+◌, ◌==◌, List, [], ◌∷◌, ◌++◌, length, codes, map, Option, Some, None}
+use Rattle.std.specs.Prelude.{◌≡◌, ℕ, ◌+◌, ◌≤◌, ◌==◌, List, [], ◌∷◌, ◌++◌, length, codes, map, Option, Some, None}
 use Rattle.std.specs.Borrow.{Bor}
 use Rattle.std.specs.List.{slice_split}
 use Rattle.std.specs.String.{string_bytes}
@@ -34,7 +34,7 @@ policy_of start.Heap = inlinable_policy 30
 policy_of start.Inline0 = inlinable_policy 0
 policy_of start.Inline8 = inlinable_policy 8
 
--- for how many bytes it is made
+-- for how many bytes it is made, at the least
 abbrev pub room_of : Start → ℕ
 room_of start.Heap = 31
 room_of other = 0
@@ -44,6 +44,7 @@ pub record IsMade (start : Start) (s : TextState) : Type 0 where
   pub text : s.text ≡ []
   pub storage : s.storage ≡ storage_when_made (policy_of start) (room_of start)
   pub policy : s.policy ≡ policy_of start
+  pub room : room_of start ≤ s.capacity
 
 -- the lines of the input, cut at each line feed
 abbrev pub lines_of : List ℕ → List (List ℕ)
