@@ -1,6 +1,7 @@
 -- What a script is, and what it prints.
 use Rattle.std.specs.Prelude.{◌≡◌, ℕ, ◌+◌, ◌≤◌, ◌==◌, List, [], ◌∷◌, ◌++◌, length, codes, map, Option, Some, None}
 use Rattle.std.specs.Borrow.{Bor}
+use Rattle.std.specs.Str.{IsUtf8}
 use Rattle.std.specs.List.{slice_split}
 use Rattle.std.specs.String.{string_bytes}
 use Rattle.std.specs.declared.string.String.{String}
@@ -13,6 +14,10 @@ use Rattle.inline_script.specs.Line.{IsLine}
 use Rattle.inline_script.specs.Output.{printed}
 use Rattle.inline_script.specs.declared.start.Start.{Start}
 use Rattle.inline_script.specs.declared.start.Start.TheVariants as start
+
+-- the most bytes that an input has
+abbrev pub most_bytes : ℕ
+most_bytes = 65536
 
 -- the argument word of a text
 abbrev pub word_of_start : Start → List ℕ
@@ -88,6 +93,8 @@ pub record PrintsFrom (start : Start) (commands : List Command) (output : List �
 pub record IsScript {Z : Type 0} (words : List (String Z)) (input output : List ℕ) : Type 0 where
   pub start : Start
   pub named : IsNamed words start
+  pub short : length input ≤ most_bytes
+  pub well_formed : IsUtf8 input
   pub commands : List Command
   pub asked : AskFor (lines_of input) commands
   pub run : PrintsFrom start commands output
