@@ -69,12 +69,3 @@ impl<T: Drop> From<AllocFailed<T>> for ScriptFault {
         ScriptFault::NoMemory
     }
 }
-
-/// Only memory can be wanting where text is put together.
-impl From<fmt::Error> for ScriptFault {
-    ghost from_gives = { λ _ fault. fault ≡ NoMemory };
-
-    fn from(_error: fmt::Error) -> ScriptFault {
-        ScriptFault::NoMemory
-    }
-}
