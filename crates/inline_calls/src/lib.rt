@@ -20,4 +20,6 @@ mod places;
 #[cfg(test)]
 mod room;
 #[cfg(test)]
+mod steps;
+#[cfg(test)]
 mod texts;

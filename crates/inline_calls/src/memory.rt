@@ -1,11 +1,17 @@
 //! Calls while every request for memory is refused: a test holds all memory that can be had, makes
 //! its calls, gives the memory back, and then asserts. One gives a block back before its calls, so
 //! that one request of that size is granted and the next one is refused.
+use crate::steps::Lies::{AsMade, OnHeap, Shrunk};
+use crate::steps::{Kind, Step, called, storage_of};
 use crate::texts::{
     HEAP_ROOM, assert_inserted, assert_pushed, assert_text, insert_at, insert_str_at, letters,
-    remove_at, text_of, truncate_at,
+    text_of,
 };
-use inlinable_string::inline_string::ReplaceError;
+use inlinable_string::run::Command::{
+    Clear, Insert, InsertStr, Pop, Push, PushStr, Remove, ReplaceBytes, Reserve, ReserveExact,
+    ShrinkToFit, Truncate,
+};
+use inlinable_string::run::Reply::{BadPlace, Char, Done, NoMemory, NotUtf8, WrongLength};
 use inlinable_string::{
     BoxableString, InlinableString, InlinableStringN, Storage, StringExt, StringMake,
 };
@@ -21,15 +27,59 @@ fn all_memory(rt: &impl Abort, alloc: Global) -> Hoard {
 
 const FULL: &str = "aaaaaaaaaaaaaaaaaaaaaaaaaaaaaa";
 
+/// Plays the steps while no memory can be had.
+fn assert_steps_without_memory<S: StringExt>(
+    rt: &impl Abort,
+    alloc: Global,
+    text: &mut S,
+    kind: Kind,
+    steps: &[Step],
+) {
+    let hoard = all_memory(rt, alloc);
+    let mut first_wrong = None;
+    for (i, &(command, reply, content, lies)) in steps.iter().enumerate() {
+        let given = called(text, command);
+        let is_right = given == reply
+            && text.as_str() == content
+            && text.storage() == storage_of(kind, lies);
+        if !is_right && first_wrong.is_none() {
+            first_wrong = Some((i, given));
+        }
+    }
+    drop(hoard);
+    assert_eq!(rt; first_wrong, None);
+    if let Some(&(_, _, content, lies)) = steps.last() {
+        assert_text(rt, text, content, storage_of(kind, lies));
+    }
+}
+
+/// A text that lies on the heap always, made new.
+const STRING: Kind = Kind {
+    limit: None,
+    room: None,
+};
+
+/// An inline-or-heap text, made new.
+const INLINE: Kind = Kind {
+    limit: Some(30),
+    room: None,
+};
+
+/// An inline-or-heap text that was made on the heap.
+const INLINE_ON_THE_HEAP: Kind = Kind {
+    limit: Some(30),
+    room: HEAP_ROOM,
+};
+
 fn assert_added_without_memory<S: StringMake + Drop>(
     rt: &impl Abort,
     alloc: Global,
     (count, ch): (usize, char),
 ) -> Result<(), Fail> {
     let hoard = all_memory(rt, alloc);
-    let mut pushed: S = letters(rt, alloc, 0, count);
+    let mut pushed: S = letters(rt, alloc, None, count);
     let pushes = pushed.push(ch).is_ok();
-    let mut inserted: S = letters(rt, alloc, 0, count);
+    let mut inserted: S = letters(rt, alloc, None, count);
     let inserts = insert_at(&mut inserted, 0, ch) == Some(Ok(()));
     drop(hoard);
     assert!(rt; pushes && inserts, "at {ch}");
@@ -51,7 +101,7 @@ fn assert_refused_past_30_bytes<S: StringMake + Drop>(
     alloc: Global,
     (count, ch): (usize, char),
 ) -> Result<(), Fail> {
-    let mut text: S = letters(rt, alloc, 0, count);
+    let mut text: S = letters(rt, alloc, None, count);
     let hoard = all_memory(rt, alloc);
     let refused = [
         text.push(ch).is_err(),
@@ -84,121 +134,114 @@ fn a_character_past_30_bytes_is_refused_and_changes_nothing(rt: HostRuntime) -> 
     Ok(())
 }
 
-/// Each growth and reservation past the room at hand.
+/// Each growth and reservation past the room at hand. A place is tested before them.
 fn assert_all_refused<S: StringExt>(
     rt: &impl Abort,
     alloc: Global,
     text: &mut S,
+    kind: Kind,
     content: &str,
-    storage: Storage,
 ) {
     let capacity = text.capacity();
-    let hoard = all_memory(rt, alloc);
-    let answers = [
-        text.push('𝄞').is_err(),
-        text.push_str("0123").is_err(),
-        matches!(insert_at(text, 1, '𝄞'), Some(Err(_))),
-        matches!(insert_str_at(text, 1, "0123"), Some(Err(_))),
-        text.reserve(31).is_err(),
-        text.reserve_exact(31).is_err(),
-        text.reserve(usize::MAX).is_err(),
-        text.reserve_exact(usize::MAX).is_err(),
+    let steps = [
+        (Push('𝄞'), NoMemory, content, AsMade),
+        (PushStr("0123"), NoMemory, content, AsMade),
+        (Insert(1, '𝄞'), NoMemory, content, AsMade),
+        (InsertStr(1, "0123"), NoMemory, content, AsMade),
+        (Reserve(31), NoMemory, content, AsMade),
+        (ReserveExact(31), NoMemory, content, AsMade),
+        (Reserve(usize::MAX), NoMemory, content, AsMade),
+        (ReserveExact(usize::MAX), NoMemory, content, AsMade),
+        (Insert(40, 'a'), BadPlace, content, AsMade),
     ];
-    let place_first = insert_at(text, 40, 'a').is_none();
-    drop(hoard);
-    assert_eq!(rt; answers, [true; 8]);
-    assert!(rt; place_first);
-    assert_text(rt, text, content, storage);
-    assert_eq!(rt; text.capacity(), capacity);
+    assert_steps_without_memory(rt, alloc, text, kind, &steps);
+    assert!(rt; text.capacity() == capacity);
 }
 
 fn assert_made_and_all_refused<S: StringMake + Drop>(
     rt: &impl Abort,
     alloc: Global,
-    room: usize,
+    kind: Kind,
     content: &str,
-    storage: Storage,
 ) {
-    let mut text: S = text_of(rt, alloc, room, content);
-    assert_all_refused(rt, alloc, &mut text, content, storage);
+    let mut text: S = text_of(rt, alloc, kind.room, content);
+    assert_all_refused(rt, alloc, &mut text, kind, content);
 }
 
 #[test]
 fn what_outgrows_the_room_at_hand_is_refused_and_changes_nothing(rt: HostRuntime) {
     let alloc = rt.alloc();
     for content in [FULL, "aaaaaaaaaaaaaaaaaaaaaaaaaaa"] {
-        assert_made_and_all_refused::<InlinableString>(&rt, alloc, 0, content, Storage::Inline);
-        let mut text = BoxableString(text_of(&rt, alloc, 0, content));
-        assert_all_refused(&rt, alloc, &mut text, content, Storage::Inline);
+        assert_made_and_all_refused::<InlinableString>(&rt, alloc, INLINE, content);
+        let mut text = BoxableString(text_of(&rt, alloc, None, content));
+        assert_all_refused(&rt, alloc, &mut text, INLINE, content);
     }
     let over = "aaaaaaaaaaaaaaaaaaaaaaaaaaaaaaa";
-    assert_made_and_all_refused::<InlinableString>(&rt, alloc, HEAP_ROOM, over, Storage::Heap);
-    assert_made_and_all_refused::<String>(&rt, alloc, HEAP_ROOM, over, Storage::Heap);
+    assert_made_and_all_refused::<InlinableString>(&rt, alloc, INLINE_ON_THE_HEAP, over);
+    let kind = Kind {
+        limit: None,
+        room: HEAP_ROOM,
+    };
+    assert_made_and_all_refused::<String>(&rt, alloc, kind, over);
 }
+
+const INLINE_STEPS: &[&[Step]] = &[
+    &[
+        (PushStr(FULL), Done, FULL, AsMade),
+        (PushStr(""), Done, FULL, AsMade),
+        (InsertStr(30, ""), Done, FULL, AsMade),
+    ],
+    &[
+        (PushStr("foo"), Done, "foo", AsMade),
+        (Reserve(27), Done, "foo", AsMade),
+        (ReserveExact(27), Done, "foo", AsMade),
+        (Reserve(28), NoMemory, "foo", AsMade),
+    ],
+    &[
+        (Reserve(30), Done, "", AsMade),
+        (InsertStr(0, "abc"), Done, "abc", AsMade),
+        (Remove(1), Char('b'), "ac", AsMade),
+        (Insert(2, 'é'), Done, "acé", AsMade),
+        (ShrinkToFit, Done, "acé", AsMade),
+        (Clear, Done, "", AsMade),
+    ],
+];
 
 #[test]
 fn an_inline_text_is_reserved_and_edited_without_memory(rt: HostRuntime) {
     let alloc = rt.alloc();
-    let hoard = all_memory(&rt, alloc);
-    let mut full: InlinableString = letters(&rt, alloc, 0, 30);
-    let nothing_pushed = full.push_str("").is_ok();
-    let nothing_inserted = insert_str_at(&mut full, 30, "");
-    let mut foo: InlinableString = text_of(&rt, alloc, 0, "foo");
-    let reserved = foo.reserve(27).is_ok();
-    let reserved_exactly = foo.reserve_exact(27).is_ok();
-    let one_more = foo.reserve(28).is_err();
-    let mut text = InlinableString::new(alloc);
-    let all_reserved = text.reserve(30).is_ok();
-    let inserted_str = insert_str_at(&mut text, 0, "abc");
-    let removed = remove_at(&mut text, 1);
-    let inserted = insert_at(&mut text, 2, 'é');
-    let shrunk = text.shrink_to_fit().is_ok();
-    let is_edited = text.as_str() == "acé";
-    text.clear();
-    drop(hoard);
-    assert!(rt; nothing_pushed);
-    assert_eq!(rt; nothing_inserted, Some(Ok(())));
-    assert_text(&rt, &full, FULL, Storage::Inline);
-    assert!(rt; reserved && reserved_exactly && one_more);
-    assert_text(&rt, &foo, "foo", Storage::Inline);
-    assert!(rt; all_reserved);
-    assert_eq!(rt; inserted_str, Some(Ok(())));
-    assert_eq!(rt; removed, Some('b'));
-    assert_eq!(rt; inserted, Some(Ok(())));
-    assert!(rt; shrunk && is_edited);
-    assert_text(&rt, &text, "", Storage::Inline);
+    for &steps in INLINE_STEPS {
+        let mut text = InlinableString::new(alloc);
+        assert_steps_without_memory(&rt, alloc, &mut text, INLINE, steps);
+    }
 }
 
 /// Fills the room that a text was made with, or that was reserved.
 fn assert_filled<S: StringMake + Drop>(
     rt: &impl Abort,
     alloc: Global,
-    room: usize,
+    room: Option<usize>,
     (count, additional): (usize, usize),
     added: &[&str],
 ) {
-    let mut text: S = letters(rt, alloc, room, count);
-    let mut exact: S = letters(rt, alloc, room, count);
-    assert!(rt; additional == 0 || text.reserve(additional).is_ok());
-    assert!(rt; additional == 0 || exact.reserve_exact(additional).is_ok());
-    let hoard = all_memory(rt, alloc);
-    let mut all_fit = true;
-    let mut wanted = count;
-    for string in added {
-        all_fit &= text.push_str(string).is_ok();
-        all_fit &= exact.push_str(string).is_ok();
-        wanted = wanted.saturating_add(string.len());
-    }
-    drop(hoard);
-    assert!(rt; all_fit, "{count} and {additional}");
-    for text in [&text, &exact] {
-        assert_eq!(rt; text.len(), wanted);
-        assert_eq!(rt; text.storage(), Storage::Heap);
-        assert!(rt;
-            added
-                .last()
-                .is_some_and(|last| text.as_str().ends_with(last))
+    for command in [Reserve(additional), ReserveExact(additional)] {
+        let mut text: S = letters(rt, alloc, room, count);
+        assert!(rt; additional == 0 || called(&mut text, command) == Done);
+        let hoard = all_memory(rt, alloc);
+        let mut all_fit = true;
+        let mut wanted = count;
+        for string in added {
+            all_fit &= called(&mut text, PushStr(string)) == Done;
+            wanted = wanted.saturating_add(string.len());
+        }
+        drop(hoard);
+        assert_eq!(rt;
+            (all_fit, text.len(), text.storage()),
+            (true, wanted, Storage::Heap),
+            "{count} and {additional}"
         );
+        let last = added.last().unwrap_or(&"");
+        assert!(rt; text.as_str().ends_with(last));
     }
 }
 
@@ -207,10 +250,10 @@ fn reserved_room_is_filled_without_memory(rt: HostRuntime) {
     let alloc = rt.alloc();
     let ten = "0123456789";
     for (room, reserved, added) in [
-        (0, (3, 100), [ten; 10].as_slice()),
-        (0, (3, 50), [ten; 5].as_slice()),
-        (0, (28, 4), ["𝄞"].as_slice()),
-        (40, (0, 0), [ten; 4].as_slice()),
+        (None, (3, 100), [ten; 10].as_slice()),
+        (None, (3, 50), [ten; 5].as_slice()),
+        (None, (28, 4), ["𝄞"].as_slice()),
+        (Some(40), (0, 0), [ten; 4].as_slice()),
         (HEAP_ROOM, (0, 10), ["012345", "6789"].as_slice()),
     ] {
         assert_filled::<InlinableString>(&rt, alloc, room, reserved, added);
@@ -218,84 +261,73 @@ fn reserved_room_is_filled_without_memory(rt: HostRuntime) {
     }
 }
 
-fn assert_cut_without_memory<S: StringMake + Drop>(rt: &impl Abort, alloc: Global) {
-    let mut text: S = text_of(rt, alloc, 0, "");
-    assert!(rt; text.reserve(10).is_ok());
-    let hoard = all_memory(rt, alloc);
-    let cut = truncate_at(&mut text, 5);
-    let pushed = text.push_str("0123456789").is_ok();
-    let last = text.pop();
-    let first = remove_at(&mut text, 0);
-    drop(hoard);
-    assert_eq!(rt;
-        (cut, pushed, last, first),
-        (false, true, Some('9'), Some('0'))
-    );
-    assert_text(rt, &text, "12345678", Storage::Heap);
-}
-
 #[test]
 fn a_cut_takes_no_memory_and_neither_does_a_bad_place(rt: HostRuntime) {
-    assert_cut_without_memory::<String>(&rt, rt.alloc());
+    let mut text: String = text_of(&rt, rt.alloc(), None, "");
+    assert!(rt; StringExt::reserve(&mut text, 10).is_ok());
+    let steps = [
+        (Truncate(5), BadPlace, "", AsMade),
+        (PushStr("0123456789"), Done, "0123456789", AsMade),
+        (Pop, Char('9'), "012345678", AsMade),
+        (Remove(0), Char('0'), "12345678", AsMade),
+    ];
+    assert_steps_without_memory(&rt, rt.alloc(), &mut text, STRING, &steps);
 }
 
-fn assert_replaced<S: StringMake + Drop>(rt: &impl Abort, alloc: Global, room: usize) {
-    let mut text: S = text_of(rt, alloc, room, "hello");
-    let hoard = all_memory(rt, alloc);
-    let replaced = text.replace_bytes(b"olleh");
-    let is_reversed = text.as_str() == "olleh";
-    let long = text.replace_bytes(b"olleho");
-    let bad = text.replace_bytes(b"olle\xFF");
-    let accented = text.replace_bytes("hél\u{7F}".as_bytes());
-    drop(hoard);
-    assert_eq!(rt; replaced, Ok(()));
-    assert!(rt; is_reversed);
-    assert_eq!(rt; long, Err(ReplaceError::WrongLength));
-    assert_eq!(rt; bad, Err(ReplaceError::NotUtf8));
-    assert_eq!(rt; accented, Ok(()));
-    assert_text(rt, &text, "hél\u{7F}", Storage::Heap);
+fn assert_replaced<S: StringMake + Drop>(rt: &impl Abort, alloc: Global, kind: Kind) {
+    let mut text: S = text_of(rt, alloc, kind.room, "hello");
+    let steps = [
+        (ReplaceBytes(b"olleh"), Done, "olleh", AsMade),
+        (ReplaceBytes(b"olleho"), WrongLength, "olleh", AsMade),
+        (ReplaceBytes(b"olle\xFF"), NotUtf8, "olleh", AsMade),
+        (ReplaceBytes(b"h\xC3\xA9l\x7F"), Done, "hél\u{7F}", AsMade),
+    ];
+    assert_steps_without_memory(rt, alloc, &mut text, kind, &steps);
 }
 
 #[test]
 fn bytes_on_the_heap_are_replaced_without_memory(rt: HostRuntime) {
-    let alloc = rt.alloc();
-    assert_replaced::<String>(&rt, alloc, 0);
-    assert_replaced::<InlinableString>(&rt, alloc, HEAP_ROOM);
-}
-
-fn assert_comes_back_without_memory<S: StringMake + Drop>(rt: &impl Abort, alloc: Global) {
-    let mut text: S = letters(rt, alloc, 0, 31);
-    let hoard = all_memory(rt, alloc);
-    let last = text.pop();
-    let shrunk = text.shrink_to_fit().is_ok();
-    drop(hoard);
-    assert_eq!(rt; (last, shrunk), (Some('a'), true));
-    assert_text(rt, &text, FULL, Storage::Inline);
+    assert_replaced::<String>(&rt, rt.alloc(), STRING);
+    assert_replaced::<InlinableString>(&rt, rt.alloc(), INLINE_ON_THE_HEAP);
 }
 
 #[test]
 fn a_text_comes_back_inline_without_memory(rt: HostRuntime) {
-    assert_comes_back_without_memory::<InlinableString>(&rt, rt.alloc());
+    let mut text: InlinableString = letters(&rt, rt.alloc(), None, 31);
+    let steps = [
+        (Pop, Char('a'), FULL, OnHeap),
+        (ShrinkToFit, Done, FULL, Shrunk),
+    ];
+    assert_steps_without_memory(&rt, rt.alloc(), &mut text, INLINE, &steps);
+}
+
+/// Makes a text while no memory can be had; one that is made lies inline.
+fn assert_made<S: StringMake + Drop>(
+    rt: &impl Abort,
+    alloc: Global,
+    capacity: usize,
+    is_granted: bool,
+) {
+    let hoard = all_memory(rt, alloc);
+    let made: Result<S, _> = S::with_capacity(alloc, capacity);
+    drop(hoard);
+    assert!(rt; made.is_ok() == is_granted, "at {capacity}");
+    if let Ok(text) = made {
+        assert_text(rt, &text, "", Storage::Inline);
+    }
 }
 
 #[test]
 fn a_text_is_made_without_memory_where_its_room_is_inline(rt: HostRuntime) {
     let alloc = rt.alloc();
     for (capacity, is_granted) in [(0, true), (1, true), (30, true), (31, false), (40, false)] {
-        let hoard = all_memory(&rt, alloc);
-        let made = InlinableString::with_capacity(alloc, capacity);
-        drop(hoard);
-        assert_eq!(rt; made.is_ok(), is_granted, "at {capacity}");
-        if let Ok(text) = made {
-            assert_text(&rt, &text, "", Storage::Inline);
-        }
+        assert_made::<InlinableString>(&rt, alloc, capacity, is_granted);
     }
+    assert_made::<InlinableStringN<0>>(&rt, alloc, 1, false);
+    assert_made::<String>(&rt, alloc, 1, false);
     let hoard = all_memory(&rt, alloc);
-    let zero = InlinableStringN::<0>::with_capacity(alloc, 1).is_err();
-    let string = <String as StringMake>::with_capacity(alloc, 1).is_err();
-    let new: String = text_of(&rt, alloc, 0, "");
+    let new: String = text_of(&rt, alloc, None, "");
     drop(hoard);
-    assert!(rt; zero && string);
     assert_text(&rt, &new, "", Storage::Heap);
 }
 
@@ -305,7 +337,7 @@ fn assert_filled_inline<S: StringMake + Drop>(
     limit: usize,
 ) -> Result<(), Fail> {
     let hoard = all_memory(rt, alloc);
-    let mut text: S = letters(rt, alloc, 0, limit);
+    let mut text: S = letters(rt, alloc, None, limit);
     let one_more = text.push('a').is_err();
     drop(hoard);
     assert!(rt; one_more);
@@ -348,7 +380,7 @@ fn promoted_with_one_block<S: StringMake + Drop>(
 ) -> [bool; GROWTHS] {
     let mut answers = [false; GROWTHS];
     for (call, answer) in answers.iter_mut().enumerate() {
-        let mut text: S = letters(rt, alloc, 0, 36);
+        let mut text: S = letters(rt, alloc, None, 36);
         let block: Result<Vec<u8>, _> = Vec::with_capacity(alloc, size);
         let block = block.expect(rt, "memory");
         let hoard = all_memory(rt, alloc);

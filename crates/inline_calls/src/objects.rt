@@ -1,10 +1,15 @@
 //! Texts as objects: through a reference to the trait, in a box, and a type of a caller's own.
 ghost use Rattle.inlinable_string.specs.Values.{string_state};
 
-use crate::texts::{
-    HEAP_ROOM, assert_text, insert_at, insert_str_at, remove_at, text_of, truncate_at,
-};
+use crate::steps::Lies::{AsMade, OnHeap, Shrunk};
+use crate::steps::{Kind, Step, assert_steps, called};
+use crate::texts::{HEAP_ROOM, assert_text, text_of};
 use inlinable_string::inline_string::ReplaceError;
+use inlinable_string::run::Command::{
+    self, Clear, Insert, InsertStr, Pop, Push, PushStr, Remove, ReplaceBytes, Reserve,
+    ReserveExact, ShrinkToFit, Truncate,
+};
+use inlinable_string::run::Reply::{Char, Done, NotUtf8, WrongLength};
 use inlinable_string::{BoxableString, InlinableString, Storage, StringExt};
 use std::alloc::AllocError;
 use std::process::Abort;
@@ -84,100 +89,86 @@ impl StringExt for Plain {
     }
 }
 
-fn assert_every_growth<S: StringExt>(rt: &impl Abort, text: &mut S, short: Storage) {
-    assert_text(rt, text, "", short);
-    assert!(rt; text.push('é').is_ok());
-    assert_text(rt, text, "é", short);
-    assert!(rt; text.push_str("fg").is_ok());
-    assert_text(rt, text, "éfg", short);
-    assert_eq!(rt; insert_at(text, 2, 'x'), Some(Ok(())));
-    assert_text(rt, text, "éxfg", short);
-    assert_eq!(rt; insert_str_at(text, 0, "ab"), Some(Ok(())));
-    assert_text(rt, text, "abéxfg", short);
-}
+/// Each call of the trait, given to an empty text, and past 30 bytes.
+const EVERY_CALL: &[Step] = &[
+    (PushStr(""), Done, "", AsMade),
+    (Push('é'), Done, "é", AsMade),
+    (PushStr("fg"), Done, "éfg", AsMade),
+    (Insert(2, 'x'), Done, "éxfg", AsMade),
+    (InsertStr(0, "ab"), Done, "abéxfg", AsMade),
+    // Cuts.
+    (Remove(2), Char('é'), "abxfg", AsMade),
+    (Truncate(3), Done, "abx", AsMade),
+    (Pop, Char('x'), "ab", AsMade),
+    // Replacements.
+    (ReplaceBytes(b"a"), WrongLength, "ab", AsMade),
+    (ReplaceBytes(&[0xC3, 0x61]), NotUtf8, "ab", AsMade),
+    (ReplaceBytes(b"yz"), Done, "yz", AsMade),
+    // Room.
+    (Reserve(28), Done, "yz", AsMade),
+    (ReserveExact(29), Done, "yz", OnHeap),
+    (ShrinkToFit, Done, "yz", Shrunk),
+    (Clear, Done, "", Shrunk),
+];
 
-fn assert_every_cut<S: StringExt>(rt: &impl Abort, text: &mut S, short: Storage) {
-    assert_eq!(rt; remove_at(text, 2), Some('é'));
-    assert_text(rt, text, "abxfg", short);
-    assert!(rt; truncate_at(text, 3));
-    assert_text(rt, text, "abx", short);
-    assert_eq!(rt; text.pop(), Some('x'));
-    assert_text(rt, text, "ab", short);
-}
+/// Growths by 19 bytes, and shrinks, so that none finds room on the heap.
+const GROWTHS: &[Command] = &[
+    ShrinkToFit,
+    Push('é'),
+    ShrinkToFit,
+    PushStr("0123456789"),
+    ShrinkToFit,
+    Insert(0, '€'),
+    ShrinkToFit,
+    InsertStr(0, "𝄞"),
+    ShrinkToFit,
+    Reserve(50),
+    ShrinkToFit,
+    ReserveExact(50),
+];
 
-fn assert_replaced<S: StringExt>(rt: &impl Abort, text: &mut S, short: Storage) {
-    let answers = [
-        text.replace_bytes(b"a"),
-        text.replace_bytes(&[0xC3, 0x61]),
-        text.replace_bytes(b"yz"),
-    ];
-    assert_eq!(rt;
-        answers,
-        [
-            Err(ReplaceError::WrongLength),
-            Err(ReplaceError::NotUtf8),
-            Ok(())
-        ]
-    );
-    assert_text(rt, text, "yz", short);
-}
-
-fn assert_every_room<S: StringExt>(rt: &impl Abort, text: &mut S, short: Storage, shrunk: Storage) {
-    assert!(rt; text.reserve(28).is_ok());
-    assert_text(rt, text, "yz", short);
-    assert!(rt; text.reserve_exact(29).is_ok());
-    assert_text(rt, text, "yz", Storage::Heap);
-    assert!(rt; text.capacity() >= 31);
-    assert!(rt; text.shrink_to_fit().is_ok());
-    assert_text(rt, text, "yz", shrunk);
-    text.clear();
-    assert_text(rt, text, "", shrunk);
-}
-
-/// Shrinks the empty text before each growth, so that none finds room on the heap.
+/// Begins with the empty text.
 fn assert_grows_without_room<S: StringExt>(rt: &impl Abort, text: &mut S) {
     for round in 1..=4usize {
-        let grown = [
-            text.shrink_to_fit().is_ok() && text.push('é').is_ok(),
-            text.shrink_to_fit().is_ok() && text.push_str("0123456789").is_ok(),
-            text.shrink_to_fit().is_ok() && insert_at(text, 0, '€') == Some(Ok(())),
-            text.shrink_to_fit().is_ok() && insert_str_at(text, 0, "𝄞") == Some(Ok(())),
-            text.shrink_to_fit().is_ok() && text.reserve(50).is_ok(),
-            text.shrink_to_fit().is_ok() && text.reserve_exact(50).is_ok(),
-        ];
-        assert_eq!(rt; grown, [true; 6]);
-        assert_eq!(rt; text.len(), round.saturating_mul(19));
+        for &command in GROWTHS {
+            assert!(rt; called(text, command) == Done);
+        }
+        assert_eq!(rt;
+            (text.len(), text.storage()),
+            (round.saturating_mul(19), Storage::Heap)
+        );
     }
-    assert_eq!(rt; text.storage(), Storage::Heap);
 }
 
-/// Gives each call of the trait once to an empty text, and past 30 bytes.
-fn assert_every_call<S: StringExt>(rt: &impl Abort, text: &mut S, short: Storage, shrunk: Storage) {
-    assert_every_growth(rt, text, short);
-    assert_every_cut(rt, text, short);
-    assert_replaced(rt, text, short);
-    assert_every_room(rt, text, short, shrunk);
+fn assert_every_call<S: StringExt>(rt: &impl Abort, text: &mut S, kind: Kind) {
+    assert_steps(rt, text, kind, EVERY_CALL);
     assert_grows_without_room(rt, text);
 }
 
 #[test]
 fn a_type_of_a_callers_own_is_edited_as_a_string_is(rt: HostRuntime) {
     let alloc = rt.alloc();
+    let kind = Kind {
+        limit: None,
+        room: None,
+    };
     let mut plain = Plain {
         inner: String::new(alloc),
     };
-    assert_every_call(&rt, &mut plain, Storage::Heap, Storage::Heap);
-    let mut string = String::new(alloc);
-    assert_every_call(&rt, &mut string, Storage::Heap, Storage::Heap);
+    assert_every_call(&rt, &mut plain, kind);
+    assert_every_call(&rt, &mut String::new(alloc), kind);
 }
 
 #[test]
 fn a_boxable_text_is_edited_as_the_text_in_it_is(rt: HostRuntime) {
-    let alloc = rt.alloc();
-    let mut inline = BoxableString(text_of(&rt, alloc, 0, ""));
-    assert_every_call(&rt, &mut inline, Storage::Inline, Storage::Inline);
-    let mut heap = BoxableString(text_of(&rt, alloc, HEAP_ROOM, ""));
-    assert_every_call(&rt, &mut heap, Storage::Heap, Storage::Inline);
+    for room in [None, HEAP_ROOM] {
+        let kind = Kind {
+            limit: Some(30),
+            room,
+        };
+        let mut boxable = BoxableString(text_of(&rt, rt.alloc(), room, ""));
+        assert_every_call(&rt, &mut boxable, kind);
+    }
 }
 
 /// Pushes through a reference to the trait.
@@ -190,7 +181,7 @@ fn say_that_it_works(text: &mut dyn StringExt) -> Result<(), AllocError> {
 #[test]
 fn a_string_grows_through_a_reference_to_the_trait(rt: HostRuntime) {
     let start = "this is a plain std::string::String";
-    let mut string: String = text_of(&rt, rt.alloc(), 0, start);
+    let mut string: String = text_of(&rt, rt.alloc(), None, start);
     assert!(rt; say_that_it_works(&mut string).is_ok());
     let wanted = "this is a plain std::string::Stringit works!";
     assert_text(&rt, &string, wanted, Storage::Heap);
@@ -198,39 +189,40 @@ fn a_string_grows_through_a_reference_to_the_trait(rt: HostRuntime) {
 
 #[test]
 fn an_inline_text_grows_through_a_reference_to_the_trait(rt: HostRuntime) {
-    let mut inline: InlinableString = text_of(&rt, rt.alloc(), 0, "inline");
+    let mut inline: InlinableString = text_of(&rt, rt.alloc(), None, "inline");
     assert!(rt; say_that_it_works(&mut inline).is_ok());
     assert_text(&rt, &inline, "inlineit works!", Storage::Inline);
-    assert_eq!(rt; StringExt::len(&inline), 15);
 }
 
 #[test]
 fn a_type_of_a_callers_own_grows_through_a_reference_to_the_trait(rt: HostRuntime) {
     let mut plain = Plain {
-        inner: text_of(&rt, rt.alloc(), 0, "plain"),
+        inner: text_of(&rt, rt.alloc(), None, "plain"),
     };
     assert!(rt; say_that_it_works(&mut plain).is_ok());
     assert_text(&rt, &plain, "plainit works!", Storage::Heap);
 }
 
+/// Where a `String`, a boxable text made new and one made on the heap, and a caller's own text lie.
+const STORAGES: &[Storage] = &[Storage::Heap, Storage::Inline, Storage::Heap, Storage::Heap];
+
 #[test]
 fn boxed_texts_of_several_types_stand_in_one_list(rt: HostRuntime) -> Result<(), Fail> {
     let alloc = rt.alloc();
     let mut texts: Vec<Box<dyn StringExt + Drop>> = Vec::new(alloc);
-    let string: String = text_of(&rt, alloc, 0, "x");
+    let string: String = text_of(&rt, alloc, None, "x");
     texts.push(Box::new(alloc, string)?)?;
-    for room in [0, HEAP_ROOM] {
+    for room in [None, HEAP_ROOM] {
         let text = BoxableString(text_of(&rt, alloc, room, "x"));
         texts.push(Box::new(alloc, text)?)?;
     }
     let plain = Plain {
-        inner: text_of(&rt, alloc, 0, "x"),
+        inner: text_of(&rt, alloc, None, "x"),
     };
     texts.push(Box::new(alloc, plain)?)?;
-    let storages = [Storage::Heap, Storage::Inline, Storage::Heap, Storage::Heap];
-    assert_eq!(rt; texts.len(), storages.len());
-    for (text, storage) in texts.iter_mut().zip(storages) {
-        assert_emptied_in_a_box(&rt, text, storage);
+    assert!(rt; texts.len() == STORAGES.len());
+    for (text, storage) in texts.iter_mut().zip(STORAGES) {
+        assert_emptied_in_a_box(&rt, text, *storage);
         assert_filled_in_a_box(&rt, text);
     }
     Ok(())
@@ -242,21 +234,23 @@ fn assert_emptied_in_a_box(
     text: &mut Box<dyn StringExt + Drop>,
     storage: Storage,
 ) {
-    assert!(rt; text.push('y').is_ok());
-    assert_eq!(rt; text.as_str(), "xy");
-    assert_eq!(rt;
-        [text.pop(), text.pop(), text.pop()],
-        [Some('y'), Some('x'), None]
-    );
-    assert_eq!(rt; (text.is_empty(), text.storage()), (true, storage));
+    let is_pushed = text.push('y').is_ok();
+    assert_eq!(rt; (is_pushed, text.as_str()), (true, "xy"));
+    for last in [Some('y'), Some('x'), None] {
+        assert!(rt; text.pop() == last);
+    }
+    assert!(rt; text.is_empty() && text.storage() == storage);
 }
 
 fn assert_filled_in_a_box(rt: &impl Abort, text: &mut Box<dyn StringExt + Drop>) {
     let digits = "0123456789012345678901234567890";
     assert!(rt; text.push_str(digits).is_ok());
     assert_eq!(rt; text.as_bytes(), digits.as_bytes());
-    assert_eq!(rt; (text.len(), text.storage()), (31, Storage::Heap));
-    assert!(rt; text.capacity() >= 31);
+    let has_room = text.capacity() >= 31;
+    assert_eq!(rt;
+        (has_room, text.len(), text.storage()),
+        (true, 31, Storage::Heap)
+    );
     text.clear();
-    assert_eq!(rt; text.len(), 0);
+    assert!(rt; text.len() == 0);
 }

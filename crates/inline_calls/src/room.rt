@@ -1,147 +1,86 @@
 //! Room: when a reservation goes to the heap, what it is good for, and when a text comes back.
-use crate::texts::{HEAP_ROOM, assert_text, text_of};
-use inlinable_string::{InlinableString, Storage, StringExt, StringMake};
+use crate::steps::Lies::{AsMade, OnHeap, Shrunk};
+use crate::steps::{Step, assert_each, assert_everywhere};
+use inlinable_string::run::Command::{Pop, Push, PushStr, Reserve, ReserveExact, ShrinkToFit};
+use inlinable_string::run::Reply::{Char, Done, NoMemory};
+use inlinable_string::{InlinableString, StringMake};
 use std::alloc::Global;
-use std::process::Abort;
+use std::test::Fail;
 
-/// Asserts that a reservation is granted or not, and that there is the room where it is.
-fn assert_room<S: StringExt>(
-    rt: &impl Abort,
-    text: &S,
-    additional: usize,
-    answer: bool,
-    is_granted: bool,
-) {
-    let has_room = text.capacity().saturating_sub(text.len()) >= additional;
-    assert_eq!(rt;
-        (answer, !is_granted || has_room),
-        (is_granted, true),
-        "{additional}"
-    );
-}
-
-fn assert_reserved<S: StringMake + Drop>(
-    rt: &impl Abort,
-    alloc: Global,
-    room: usize,
-    short: Storage,
-) {
-    for (content, additional, is_granted, wanted) in [
-        ("foo", 0, true, short),
-        ("foo", 27, true, short),
-        ("foo", 28, true, Storage::Heap),
-        ("", 30, true, short),
-        ("", 31, true, Storage::Heap),
-        ("a", usize::MAX, false, short),
-        ("a", usize::MAX - 1, false, short),
-    ] {
-        let mut text: S = text_of(rt, alloc, room, content);
-        let answer = text.reserve(additional).is_ok();
-        assert_room(rt, &text, additional, answer, is_granted);
-        assert_text(rt, &text, content, wanted);
-        let mut text: S = text_of(rt, alloc, room, content);
-        let answer = text.reserve_exact(additional).is_ok();
-        assert_room(rt, &text, additional, answer, is_granted);
-        assert_text(rt, &text, content, wanted);
-    }
-}
-
+/// That there is the room is asserted after each reservation that is granted.
 #[test]
 fn a_reservation_stays_inline_up_to_a_sum_of_30(rt: HostRuntime) {
-    let alloc = rt.alloc();
-    assert_reserved::<InlinableString>(&rt, alloc, 0, Storage::Inline);
-    assert_reserved::<InlinableString>(&rt, alloc, HEAP_ROOM, Storage::Heap);
-    assert_reserved::<String>(&rt, alloc, 0, Storage::Heap);
+    for (content, additional, reply, lies) in [
+        ("foo", 0, Done, AsMade),
+        ("foo", 27, Done, AsMade),
+        ("foo", 28, Done, OnHeap),
+        ("", 30, Done, AsMade),
+        ("", 31, Done, OnHeap),
+        ("a", usize::MAX, NoMemory, AsMade),
+        ("a", usize::MAX - 1, NoMemory, AsMade),
+    ] {
+        for command in [Reserve(additional), ReserveExact(additional)] {
+            let step = (command, reply, content, lies);
+            assert_everywhere(&rt, rt.alloc(), content, &[step]);
+        }
+    }
 }
 
-fn assert_filled_after_a_reservation<S: StringMake + Drop>(
-    rt: &impl Abort,
-    alloc: Global,
-    room: usize,
-) {
-    let mut text: S = text_of(rt, alloc, room, "foo");
-    assert!(rt; text.reserve(100).is_ok());
-    assert_text(rt, &text, "foo", Storage::Heap);
-    for _ in 0..10u8 {
-        assert!(rt; text.push_str("0123456789").is_ok());
+/// Reserves room for 100 bytes more than "foo" has, fills it, and shrinks the text.
+fn filled<'a>(alloc: Global, whole: &'a str) -> Result<Vec<Step<'a>>, Fail> {
+    let mut steps: Vec<Step<'a>> = Vec::new(alloc);
+    steps.push((Reserve(100), Done, "foo", OnHeap))?;
+    for len in [13, 23, 33, 43, 53, 63, 73, 83, 93, 103] {
+        let content = whole.get(..len).unwrap_or("");
+        steps.push((PushStr("0123456789"), Done, content, OnHeap))?;
     }
-    assert_eq!(rt; text.len(), 103);
-    // Whatever it answers.
-    let _ = text.shrink_to_fit();
-    assert_eq!(rt; (text.len(), text.storage()), (103, Storage::Heap));
-    assert!(rt; text.as_str().starts_with("foo0123456789"));
+    steps.push((ShrinkToFit, Done, whole, OnHeap))?;
+    Ok(steps)
 }
 
 #[test]
-fn a_long_text_stays_on_the_heap_when_it_is_shrunk(rt: HostRuntime) {
+fn a_long_text_stays_on_the_heap_when_it_is_shrunk(rt: HostRuntime) -> Result<(), Fail> {
     let alloc = rt.alloc();
-    assert_filled_after_a_reservation::<InlinableString>(&rt, alloc, 0);
-    assert_filled_after_a_reservation::<InlinableString>(&rt, alloc, HEAP_ROOM);
-    assert_filled_after_a_reservation::<String>(&rt, alloc, 0);
-}
-
-fn assert_comes_back_at_30_bytes<S: StringMake + Drop>(
-    rt: &impl Abort,
-    alloc: Global,
-    room: usize,
-) {
-    let long = "aaaaaaaaaaaaaaaaaaaaaaaaaaaaaaa";
-    let full = "aaaaaaaaaaaaaaaaaaaaaaaaaaaaaa";
-    let mut text: S = text_of(rt, alloc, room, long);
-    assert!(rt; text.shrink_to_fit().is_ok());
-    assert_text(rt, &text, long, Storage::Heap);
-    assert_eq!(rt; text.pop(), Some('a'));
-    assert_text(rt, &text, full, Storage::Heap);
-    assert!(rt; text.shrink_to_fit().is_ok());
-    assert_text(rt, &text, full, Storage::Inline);
-    assert_eq!(rt; text.capacity(), 30);
-    assert!(rt; text.push('b').is_ok());
-    assert_text(rt, &text, "aaaaaaaaaaaaaaaaaaaaaaaaaaaaaab", Storage::Heap);
+    let digits = "0123456789".repeat(alloc, 10)?;
+    let whole = format!(in alloc; "foo{digits}")?;
+    let steps = filled(alloc, whole.as_str())?;
+    assert_everywhere(&rt, alloc, "foo", steps.as_slice());
+    Ok(())
 }
 
 #[test]
 fn a_text_comes_back_inline_when_it_is_shrunk_at_30_bytes(rt: HostRuntime) {
-    let alloc = rt.alloc();
-    for room in [0, HEAP_ROOM] {
-        assert_comes_back_at_30_bytes::<InlinableString>(&rt, alloc, room);
-    }
+    let long = "aaaaaaaaaaaaaaaaaaaaaaaaaaaaaaa";
+    let full = "aaaaaaaaaaaaaaaaaaaaaaaaaaaaaa";
+    let steps = [
+        (ShrinkToFit, Done, long, OnHeap),
+        (Pop, Char('a'), full, OnHeap),
+        (ShrinkToFit, Done, full, Shrunk),
+        (Push('b'), Done, "aaaaaaaaaaaaaaaaaaaaaaaaaaaaaab", OnHeap),
+    ];
+    assert_everywhere(&rt, rt.alloc(), long, &steps);
 }
+
+/// A short text that is shrunk comes back inline, and a `String`, however short, does not.
+const SHRUNK: &[(&str, &[Step])] = &[
+    ("", &[(ShrinkToFit, Done, "", Shrunk)]),
+    ("foo", &[(ShrinkToFit, Done, "foo", Shrunk)]),
+    (
+        "aaaaaaaaaaaaaaaaaaaaaaaaaaaaaa",
+        &[(ShrinkToFit, Done, "aaaaaaaaaaaaaaaaaaaaaaaaaaaaaa", Shrunk)],
+    ),
+];
 
 #[test]
 fn a_string_stays_on_the_heap_however_short_it_is_shrunk(rt: HostRuntime) {
-    let alloc = rt.alloc();
-    for content in ["", "foo", "aaaaaaaaaaaaaaaaaaaaaaaaaaaaaa"] {
-        let mut text: String = text_of(&rt, alloc, HEAP_ROOM, content);
-        assert!(rt; StringExt::shrink_to_fit(&mut text).is_ok());
-        assert_text(&rt, &text, content, Storage::Heap);
-    }
+    assert_each(&rt, rt.alloc(), SHRUNK);
 }
 
-fn assert_made<S: StringMake + Drop>(
-    rt: &impl Abort,
-    alloc: Global,
-    capacity: usize,
-    storage: Storage,
-) {
-    let made: Result<S, _> = S::with_capacity(alloc, capacity);
-    let text = made.expect(rt, "memory");
-    assert_text(rt, &text, "", storage);
-    assert!(rt; text.capacity() >= capacity);
-}
-
+/// Each kind of text is made with room for 0, 10, 30, 31 and 100 bytes.
 #[test]
 fn a_text_is_made_inline_with_room_for_up_to_30_bytes(rt: HostRuntime) {
     let alloc = rt.alloc();
-    for (capacity, short) in [
-        (0, Storage::Inline),
-        (10, Storage::Inline),
-        (30, Storage::Inline),
-        (31, Storage::Heap),
-        (100, Storage::Heap),
-    ] {
-        assert_made::<InlinableString>(&rt, alloc, capacity, short);
-        assert_made::<String>(&rt, alloc, capacity, Storage::Heap);
-    }
+    assert_everywhere(&rt, alloc, "", &[]);
     assert!(rt; InlinableString::with_capacity(alloc, usize::MAX).is_err());
     assert!(rt; <String as StringMake>::with_capacity(alloc, usize::MAX).is_err());
 }

@@ -6,23 +6,23 @@ use std::process::Abort;
 use std::test::Fail;
 
 /// Room that no text has inline: a text that is made with so much lies on the heap.
-pub const HEAP_ROOM: usize = 31;
+pub const HEAP_ROOM: Option<usize> = Some(31);
 
 /// 53 and 54 bytes with one byte 0x0A and 24 spaces between them, as in the tests of the crate.
 pub const LONG: &str = "this is a really long string that is much larger than
                         INLINE_STRING_CAPACITY and so cannot be stored inline.";
 
-/// The text with this content, made with room for `room` bytes, or new where that is 0.
+/// The text with this content, made with room for `room` bytes, or new where that is `None`.
 pub fn text_of<S: StringMake + Drop>(
     rt: &impl Abort,
     alloc: Global,
-    room: usize,
+    room: Option<usize>,
     content: &str,
 ) -> S {
-    let mut text = S::new(alloc);
-    if room > 0 {
-        text = S::with_capacity(alloc, room).expect(rt, "memory");
-    }
+    let mut text = match room {
+        Some(room) => S::with_capacity(alloc, room).expect(rt, "memory"),
+        None => S::new(alloc),
+    };
     text.push_str(content).expect(rt, "memory");
     text
 }
@@ -31,7 +31,7 @@ pub fn text_of<S: StringMake + Drop>(
 pub fn letters<S: StringMake + Drop>(
     rt: &impl Abort,
     alloc: Global,
-    room: usize,
+    room: Option<usize>,
     count: usize,
 ) -> S {
     let mut text: S = text_of(rt, alloc, room, "");

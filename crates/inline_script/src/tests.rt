@@ -41,7 +41,7 @@ fn answer<R: Read>(
 /// A script that is accepted: what it shows, its word, its lines, and what it prints.
 type Accepted = (&'static str, &'static str, &'static str, &'static str);
 
-const ACCEPTED: [Accepted; 21] = [
+const ACCEPTED: &[Accepted] = &[
     ("no line", "inline", "", "text \nlength 0\nstorage inline\n"),
     (
         "no line, with no room inline",
@@ -168,7 +168,7 @@ const ACCEPTED: [Accepted; 21] = [
 #[test]
 fn accepted_scripts_print_each_reply_and_the_text(rt: HostRuntime) -> Result<(), Fail> {
     let alloc = rt.alloc();
-    for (name, word, lines, output) in ACCEPTED {
+    for &(name, word, lines, output) in ACCEPTED {
         let mut input = lines.as_bytes();
         let (result, out) = answer(alloc, &[word], &mut input)?;
         assert_eq!(rt; result, Ok(()), "{name}");
@@ -177,41 +177,43 @@ fn accepted_scripts_print_each_reply_and_the_text(rt: HostRuntime) -> Result<(),
     Ok(())
 }
 
+/// Inputs that are no script, and their faults.
+const REJECTED: &[(&[u8], ScriptFault)] = &[
+    (b"pop\npush ab\n", ScriptFault::BadLine(2)),
+    (b"truncate 18446744073709551616\n", ScriptFault::BadLine(1)),
+    (b"truncate 000000000000000000000\n", ScriptFault::BadLine(1)),
+    (b"truncate +1\n", ScriptFault::BadLine(1)),
+    (b"truncate -0\n", ScriptFault::BadLine(1)),
+    (b"truncate \n", ScriptFault::BadLine(1)),
+    (b"truncate\n", ScriptFault::BadLine(1)),
+    (b"remove 1 \n", ScriptFault::BadLine(1)),
+    (b"reserve  1\n", ScriptFault::BadLine(1)),
+    (b"reserve_exact 0x1\n", ScriptFault::BadLine(1)),
+    (b"insert 0\n", ScriptFault::BadLine(1)),
+    (b"insert 0 \n", ScriptFault::BadLine(1)),
+    (b"insert 0 ab\n", ScriptFault::BadLine(1)),
+    (b"insert a b\n", ScriptFault::BadLine(1)),
+    (b"insert_str 0\n", ScriptFault::BadLine(1)),
+    (b"insert_str +0 a\n", ScriptFault::BadLine(1)),
+    (b"pop\nreplace_bytes 6\n", ScriptFault::BadLine(2)),
+    (b"replace_bytes 6g\n", ScriptFault::BadLine(1)),
+    (b"replace_bytes\n", ScriptFault::BadLine(1)),
+    (b"\npop \n", ScriptFault::BadLine(2)),
+    (b"push \n", ScriptFault::BadLine(1)),
+    (b"push_str\n", ScriptFault::BadLine(1)),
+    (b"pop\r\n", ScriptFault::BadLine(1)),
+    (b"\xef\xbb\xbfpop\n", ScriptFault::BadLine(1)),
+    (b"POP\n", ScriptFault::BadLine(1)),
+    (b"clear \n", ScriptFault::BadLine(1)),
+    (b"shrink_to_fit 1\n", ScriptFault::BadLine(1)),
+    (b"\xff", ScriptFault::NotUtf8),
+    (b"pop\n\xc3", ScriptFault::NotUtf8),
+];
+
 #[test]
 fn rejected_scripts_name_their_fault_and_print_nothing(rt: HostRuntime) -> Result<(), Fail> {
     let alloc = rt.alloc();
-    let cases: [(&[u8], ScriptFault); 29] = [
-        (b"pop\npush ab\n", ScriptFault::BadLine(2)),
-        (b"truncate 18446744073709551616\n", ScriptFault::BadLine(1)),
-        (b"truncate 000000000000000000000\n", ScriptFault::BadLine(1)),
-        (b"truncate +1\n", ScriptFault::BadLine(1)),
-        (b"truncate -0\n", ScriptFault::BadLine(1)),
-        (b"truncate \n", ScriptFault::BadLine(1)),
-        (b"truncate\n", ScriptFault::BadLine(1)),
-        (b"remove 1 \n", ScriptFault::BadLine(1)),
-        (b"reserve  1\n", ScriptFault::BadLine(1)),
-        (b"reserve_exact 0x1\n", ScriptFault::BadLine(1)),
-        (b"insert 0\n", ScriptFault::BadLine(1)),
-        (b"insert 0 \n", ScriptFault::BadLine(1)),
-        (b"insert 0 ab\n", ScriptFault::BadLine(1)),
-        (b"insert a b\n", ScriptFault::BadLine(1)),
-        (b"insert_str 0\n", ScriptFault::BadLine(1)),
-        (b"insert_str +0 a\n", ScriptFault::BadLine(1)),
-        (b"pop\nreplace_bytes 6\n", ScriptFault::BadLine(2)),
-        (b"replace_bytes 6g\n", ScriptFault::BadLine(1)),
-        (b"replace_bytes\n", ScriptFault::BadLine(1)),
-        (b"\npop \n", ScriptFault::BadLine(2)),
-        (b"push \n", ScriptFault::BadLine(1)),
-        (b"push_str\n", ScriptFault::BadLine(1)),
-        (b"pop\r\n", ScriptFault::BadLine(1)),
-        (b"\xef\xbb\xbfpop\n", ScriptFault::BadLine(1)),
-        (b"POP\n", ScriptFault::BadLine(1)),
-        (b"clear \n", ScriptFault::BadLine(1)),
-        (b"shrink_to_fit 1\n", ScriptFault::BadLine(1)),
-        (b"\xff", ScriptFault::NotUtf8),
-        (b"pop\n\xc3", ScriptFault::NotUtf8),
-    ];
-    for (bytes, fault) in cases {
+    for &(bytes, fault) in REJECTED {
         let mut input = bytes;
         let (result, out) = answer(alloc, &["inline"], &mut input)?;
         assert_eq!(rt; result, Err(fault), "at {bytes:?}");

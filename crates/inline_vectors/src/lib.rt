@@ -1,14 +1,8 @@
-//! What stands beside `inlinable_string`: its definitions as a plain program, rows that the prover
-//! computes from them, and tests over its runs, with the plain program beside them.
+//! What stands beside `inlinable_string`: its definitions as a plain program, what that says of a
+//! run of the real code, and rows that the prover computes from the definitions. The tests that use
+//! it stand in crates above.
 #![tactic(auto)]
 
-#[cfg(test)]
-mod beside;
 pub mod plain;
-#[cfg(test)]
-mod refusals;
-#[cfg(test)]
-mod runs;
-#[cfg(test)]
-mod stored;
+pub mod verdict;
 pub mod worked;

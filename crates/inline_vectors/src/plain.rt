@@ -132,6 +132,3 @@ pub fn follow(
     }
     Ok(Some(plain))
 }
-
-#[cfg(test)]
-mod tests;

@@ -1,83 +1,89 @@
 //! Which bytes take the place of a text's: as many as it has, and UTF-8.
 ghost use Rattle.std.specs.Prelude.{◌≤◌};
 
-use super::{letters, letters_around, text_of};
-use inlinable_string::inline_string::ReplaceError;
-use inlinable_string::{InlineString, InlineStringN};
+use super::edits::Answer::{self, Done, NotUtf8, WrongLength};
+use super::edits::Edit::ReplaceBytes;
+use super::edits::{Step, apply, check_each};
+use super::{letters, letters_around};
 use std::process::Abort;
 
-/// Gives the bytes to a text, and asserts the answer and the text after it.
-fn check_answer<const N: usize>(
-    rt: &impl Abort,
-    text: &mut InlineStringN<N>,
-    bytes: &[u8],
-    answer: Result<(), ReplaceError>,
-    left: &str,
-) {
-    assert_eq!(rt; text.replace_bytes(bytes), answer);
-    assert_eq!(rt; text.as_str(), left);
-}
+const REPLACED: &[(&str, &[Step])] = &[
+    (
+        "hello",
+        &[(ReplaceBytes(&[111, 108, 108, 101, 104]), Done, "olleh")],
+    ),
+    (
+        "é",
+        &[
+            (ReplaceBytes(&[0xFF]), WrongLength, "é"),
+            (ReplaceBytes(&[0xC3, 0x61]), NotUtf8, "é"),
+            (ReplaceBytes(&[0x61, 0x62]), Done, "ab"),
+        ],
+    ),
+];
 
 #[test]
 fn bytes_take_the_place_of_those_of_the_text(rt: HostRuntime) {
-    let mut text = InlineString::from("hello");
-    let reversed = [111, 108, 108, 101, 104];
-    check_answer(&rt, &mut text, &reversed, Ok(()), "olleh");
-
-    let mut text = InlineString::from("é");
-    let wrong_length = Err(ReplaceError::WrongLength);
-    check_answer(&rt, &mut text, &[0xFF], wrong_length, "é");
-    let not_utf8 = Err(ReplaceError::NotUtf8);
-    check_answer(&rt, &mut text, &[0xC3, 0x61], not_utf8, "é");
-    check_answer(&rt, &mut text, &[0x61, 0x62], Ok(()), "ab");
+    check_each::<30>(&rt, REPLACED);
 }
+
+const WRONG_LENGTH: &[(&str, &[Step])] = &[
+    (
+        "",
+        &[
+            (ReplaceBytes(b"a"), WrongLength, ""),
+            (ReplaceBytes(b"\xFF"), WrongLength, ""),
+        ],
+    ),
+    (
+        "a",
+        &[
+            (ReplaceBytes(b""), WrongLength, "a"),
+            (ReplaceBytes(b"\xC3\xA9"), WrongLength, "a"),
+        ],
+    ),
+    (
+        "é",
+        &[
+            (ReplaceBytes(b"a"), WrongLength, "é"),
+            (ReplaceBytes(b"\xC3"), WrongLength, "é"),
+            (ReplaceBytes(b"\xFF\xFF\xFF"), WrongLength, "é"),
+        ],
+    ),
+    (
+        "aé€𝄞",
+        &[(ReplaceBytes(b"0123456789a"), WrongLength, "aé€𝄞")],
+    ),
+];
 
 #[test]
 fn the_number_of_bytes_is_tested_before_they_are(rt: HostRuntime) {
-    let wrong: [(&str, &[u8]); 8] = [
-        ("", b"a"),
-        ("", b"\xFF"),
-        ("a", b""),
-        ("a", b"\xC3\xA9"),
-        ("é", b"a"),
-        ("é", b"\xC3"),
-        ("é", b"\xFF\xFF\xFF"),
-        ("aé€𝄞", b"0123456789a"),
+    check_each::<30>(&rt, WRONG_LENGTH);
+    let steps = [
+        (ReplaceBytes(b"a"), WrongLength, ""),
+        (ReplaceBytes(b""), Done, ""),
     ];
-    let answer = Err(ReplaceError::WrongLength);
-    for (string, bytes) in wrong {
-        let mut text = text_of::<30>(&rt, string);
-        check_answer(&rt, &mut text, bytes, answer, string);
-    }
-    let mut text = InlineStringN::<0>::new();
-    check_answer(&rt, &mut text, b"a", answer, "");
-    check_answer(&rt, &mut text, b"", Ok(()), "");
+    check_each::<0>(&rt, &[("", &steps)]);
 }
 
 /// Puts bytes in the place of as many letters that fill a text: from `at` on those of `sequence`,
 /// letters else.
-fn check_replaced_at<const N: usize>(
-    rt: &impl Abort,
-    sequence: &[u8],
-    at: usize,
-    answer: Result<(), ReplaceError>,
-)
+fn check_replaced_at<const N: usize>(rt: &impl Abort, sequence: &[u8], at: usize, answer: Answer)
     requires { N ≤ 300 }
 {
-    assert!(rt; sequence.len() <= N && at <= N - sequence.len());
-    let bytes = letters_around(at, sequence);
+    let bytes: [u8; N] = letters_around(rt, at, sequence);
     let mut text = letters::<N>(rt, N);
-    let given = text.replace_bytes(&bytes);
-    let left = if answer.is_ok() { bytes } else { [b'a'; N] };
+    let given = apply(&mut text, ReplaceBytes(&bytes));
+    let left = if answer == Done { bytes } else { [b'a'; N] };
     assert_eq!(rt;
-        (given, &text.into_bytes()[..]),
-        (answer, left.as_slice()),
+        (given, text.into_bytes()),
+        (answer, left),
         "{sequence:?} from {at}"
     );
 }
 
 /// At both ends of a text, and in its middle.
-fn check_replaced(rt: &impl Abort, sequence: &[u8], answer: Result<(), ReplaceError>) {
+fn check_replaced(rt: &impl Abort, sequence: &[u8], answer: Answer) {
     for at in [0, 1] {
         check_replaced_at::<5>(rt, sequence, at, answer);
     }
@@ -88,7 +94,7 @@ fn check_replaced(rt: &impl Abort, sequence: &[u8], answer: Result<(), ReplaceEr
 }
 
 /// The byte ranges of a character's UTF-8, from its first byte on.
-const RANGES: [&[(u8, u8)]; 9] = [
+const RANGES: &[&[(u8, u8)]] = &[
     &[(0x00, 0x7F)],
     &[(0xC2, 0xDF), (0x80, 0xBF)],
     &[(0xE0, 0xE0), (0xA0, 0xBF), (0x80, 0xBF)],
@@ -117,15 +123,15 @@ fn sequence_of(ranges: &[(u8, u8)], takes_last: bool, changed: Option<(usize, u8
 
 #[test]
 fn bytes_at_the_ends_of_each_range_are_taken(rt: HostRuntime) {
-    for ranges in RANGES {
+    for &ranges in RANGES {
         assert!(rt; ranges.len() <= 4);
         for takes_last in [false, true] {
             let sequence = sequence_of(ranges, takes_last, None);
-            check_replaced(&rt, &sequence[..ranges.len()], Ok(()));
+            check_replaced(&rt, &sequence[..ranges.len()], Done);
             for (i, &(first, last)) in ranges.iter().enumerate() {
                 for byte in [first, last] {
                     let sequence = sequence_of(ranges, takes_last, Some((i, byte)));
-                    check_replaced(&rt, &sequence[..ranges.len()], Ok(()));
+                    check_replaced(&rt, &sequence[..ranges.len()], Done);
                 }
             }
         }
@@ -134,20 +140,19 @@ fn bytes_at_the_ends_of_each_range_are_taken(rt: HostRuntime) {
 
 #[test]
 fn bytes_just_outside_of_a_range_are_refused(rt: HostRuntime) {
-    let refused = Err(ReplaceError::NotUtf8);
-    for ranges in RANGES {
+    for &ranges in RANGES {
         assert!(rt; ranges.len() <= 4);
         for takes_last in [false, true] {
             for (i, &(first, last)) in ranges.iter().enumerate().skip(1) {
                 for byte in [first.wrapping_sub(1), last.wrapping_add(1)] {
                     let sequence = sequence_of(ranges, takes_last, Some((i, byte)));
-                    check_replaced(&rt, &sequence[..ranges.len()], refused);
+                    check_replaced(&rt, &sequence[..ranges.len()], NotUtf8);
                 }
             }
             // The sequence ends too early.
             for end in 1..ranges.len() {
                 let sequence = sequence_of(ranges, takes_last, None);
-                check_replaced(&rt, &sequence[..end], refused);
+                check_replaced(&rt, &sequence[..end], NotUtf8);
             }
         }
     }
@@ -155,10 +160,9 @@ fn bytes_just_outside_of_a_range_are_refused(rt: HostRuntime) {
 
 #[test]
 fn a_byte_that_begins_no_character_is_refused(rt: HostRuntime) {
-    let refused = Err(ReplaceError::NotUtf8);
     for byte in (0x80..=0xC1).chain(0xF5..=0xFF) {
         for sequence in [[byte, b'a', b'a', b'a'], [byte, 0x80, 0x80, 0x80]] {
-            check_replaced(&rt, &sequence, refused);
+            check_replaced(&rt, &sequence, NotUtf8);
         }
     }
 }
@@ -189,13 +193,13 @@ fn ill_formed_bytes_of_every_kind_are_refused(rt: HostRuntime) {
         b"\xF0\x9D\xC3\xA9",
     ];
     for sequence in sequences {
-        check_replaced(&rt, sequence, Err(ReplaceError::NotUtf8));
+        check_replaced(&rt, sequence, NotUtf8);
     }
-    check_replaced_at::<4>(&rt, b"\xF4\x90\x80\x80", 0, Err(ReplaceError::NotUtf8));
-    check_replaced_at::<4>(&rt, b"\xF4\x8F\xBF\xBF", 0, Ok(()));
-    check_replaced_at::<3>(&rt, b"\xED\xA0\x80", 0, Err(ReplaceError::NotUtf8));
-    check_replaced_at::<3>(&rt, b"\xED\x9F\xBF", 0, Ok(()));
-    check_replaced_at::<1>(&rt, b"\x80", 0, Err(ReplaceError::NotUtf8));
-    check_replaced_at::<300>(&rt, b"\xF0\x9D\x84", 297, Err(ReplaceError::NotUtf8));
-    check_replaced_at::<300>(&rt, b"\xF0\x9D\x84\x9E", 296, Ok(()));
+    check_replaced_at::<4>(&rt, b"\xF4\x90\x80\x80", 0, NotUtf8);
+    check_replaced_at::<4>(&rt, b"\xF4\x8F\xBF\xBF", 0, Done);
+    check_replaced_at::<3>(&rt, b"\xED\xA0\x80", 0, NotUtf8);
+    check_replaced_at::<3>(&rt, b"\xED\x9F\xBF", 0, Done);
+    check_replaced_at::<1>(&rt, b"\x80", 0, NotUtf8);
+    check_replaced_at::<300>(&rt, b"\xF0\x9D\x84", 297, NotUtf8);
+    check_replaced_at::<300>(&rt, b"\xF0\x9D\x84\x9E", 296, Done);
 }

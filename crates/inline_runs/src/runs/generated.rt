@@ -2,9 +2,7 @@
 ghost use Rattle.std.specs.Prelude.{◌<◌, ◌≤◌, length};
 
 use super::made;
-use crate::beside::{HEAP, Policy, Seen, Verdict, before, inlinable, judged, seen_of, seen_of_dyn};
-use crate::plain::room::PlainText;
-use crate::plain::text::{edit, size_of};
+use crate::beside::before;
 use inlinable_string::run::Command::{
     self, Clear, Insert, InsertStr, Pop, Push, PushStr, Remove, ReplaceBytes, Reserve,
     ReserveExact, ShrinkToFit, Truncate,
@@ -14,6 +12,11 @@ use inlinable_string::run::Reply::{
 };
 use inlinable_string::run::{run, run_dyn};
 use inlinable_string::{InlinableString, InlinableStringN, Storage, StringExt, StringMake};
+use inline_vectors::plain::room::PlainText;
+use inline_vectors::plain::text::{edit, size_of};
+use inline_vectors::verdict::{
+    HEAP, Policy, Seen, Verdict, inlinable, judged, seen_of, seen_of_dyn,
+};
 use std::alloc::{AllocError, Global};
 use std::process::Abort;
 use std::test::Fail;

@@ -1,5 +1,5 @@
 use Rattle.inlinable_string.proofs.Cut.{place_at_boundary, boundary_at_place}
-use Rattle.inline_calls.proofs.inline.is_place.Goals as goal
+use Rattle.inline_calls.proofs.inline.edits.is_place.Goals as goal
 
 pub returns : goal.returns
 returns g c =

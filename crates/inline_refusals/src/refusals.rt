@@ -1,11 +1,13 @@
 //! Each request for memory refused in turn, by `rt try --test --fail-alloc N`, which refuses the
 //! Nth of each test. These tests pass whichever of theirs is refused, and say `refused` where one
-//! was.
+//! was. `.ci/refusals` builds them anew for each N, so no test makes more than a few requests.
 use inlinable_string::{InlinableString, InlinableStringN, Storage, StringExt, StringMake};
 use std::alloc::{AllocError, Global};
 use std::process::Abort;
 use std::test::Fail;
 use test_memory::Refusals;
+
+mod runs;
 
 /// Room that does not lie inline.
 const HEAP_ROOM: usize = 31;
@@ -48,13 +50,19 @@ fn made<S: StringMake + Drop>(
     }
 }
 
+/// The room that a text is made with, its content, and where it lies then.
+type Start = (usize, &'static str, Storage);
+
+/// A growth, and what it puts before the text and after it.
+type Added = (Growth, &'static str, &'static str);
+
 /// Grows a text that fills its room, again if it is refused; after a refusal it is as before.
 fn assert_grown<S: StringMake + Drop>(
     rt: &impl Abort,
     alloc: Global,
     refusals: &mut Refusals,
-    (room, content, storage): (usize, &str, Storage),
-    (growth, front, back): (Growth, &str, &str),
+    (room, content, storage): Start,
+    (growth, front, back): Added,
 ) {
     let mut text: S = made(rt, alloc, refusals, room);
     text.push_str(content).expect(rt, "the room was asked for");
@@ -75,46 +83,36 @@ fn between<'a>(whole: &'a str, front: &str, back: &str) -> Option<&'a str> {
     whole.strip_prefix(front)?.strip_suffix(back)
 }
 
-/// The same of each of these growths.
-fn assert_each_grown<S: StringMake + Drop>(
-    rt: &impl Abort,
-    alloc: Global,
-    refusals: &mut Refusals,
-    text: (usize, &str, Storage),
-    growths: &[(Growth, &str, &str)],
-) {
-    for growth in growths {
-        assert_grown::<S>(rt, alloc, refusals, text, *growth);
-    }
-}
+const INLINE: Start = (0, "aaaaaaaaaaaaaaaaaaaaaaaaaaaaaa", Storage::Inline);
 
-const FULL: &str = "aaaaaaaaaaaaaaaaaaaaaaaaaaaaaa";
+const ON_HEAP: Start = (HEAP_ROOM, "aaaaaaaaaaaaaaaaaaaaaaaaaaaaaaa", Storage::Heap);
 
-const OVER: &str = "aaaaaaaaaaaaaaaaaaaaaaaaaaaaaaa";
-
-/// Each growth, and what it puts before the text and after it.
-const GROWTHS: [(Growth, &str, &str); 4] = [
+const PUSHES: &[Added] = &[
     (Growth::Push('é'), "", "é"),
     (Growth::PushStr("bc"), "", "bc"),
+];
+
+const INSERTIONS: &[Added] = &[
     (Growth::InsertFirst('é'), "é", ""),
     (Growth::InsertStrFirst("bc"), "bc", ""),
 ];
 
-const RESERVATIONS: [(Growth, &str, &str); 2] = [
+const RESERVATIONS: &[Added] = &[
     (Growth::Reserve(100), "", ""),
     (Growth::ReserveExact(100), "", ""),
 ];
 
-#[test]
-fn a_refused_promotion_leaves_the_text_inline(rt: HostRuntime) -> Result<(), Fail> {
-    let alloc = rt.alloc();
+/// Grows a text of its own in each of these ways.
+fn check<S: StringMake + Drop>(
+    rt: &(impl Abort + Print),
+    alloc: Global,
+    start: Start,
+    ways: &[Added],
+) -> Result<(), Fail> {
     let mut refusals = Refusals::none();
-    let inline = (0, FULL, Storage::Inline);
-    for growths in [GROWTHS.as_slice(), RESERVATIONS.as_slice()] {
-        assert_each_grown::<InlinableString>(&rt, alloc, &mut refusals, inline, growths);
+    for added in ways {
+        assert_grown::<S>(rt, alloc, &mut refusals, start, *added);
     }
-    let none = (0, "", Storage::Inline);
-    assert_grown::<InlinableStringN<0>>(&rt, alloc, &mut refusals, none, GROWTHS[0]);
     if refusals.has_met {
         println!(rt; "refused")?;
     }
@@ -122,40 +120,53 @@ fn a_refused_promotion_leaves_the_text_inline(rt: HostRuntime) -> Result<(), Fai
 }
 
 #[test]
-fn a_refused_growth_on_the_heap_leaves_the_text(rt: HostRuntime) -> Result<(), Fail> {
-    let alloc = rt.alloc();
-    let mut refusals = Refusals::none();
-    let heap = (HEAP_ROOM, OVER, Storage::Heap);
-    assert_each_grown::<InlinableString>(&rt, alloc, &mut refusals, heap, &GROWTHS);
-    if refusals.has_met {
-        println!(rt; "refused")?;
-    }
-    Ok(())
+fn a_push_that_promotes(rt: HostRuntime) -> Result<(), Fail> {
+    check::<InlinableString>(&rt, rt.alloc(), INLINE, PUSHES)
 }
 
 #[test]
-fn a_refused_growth_of_a_string_leaves_the_text(rt: HostRuntime) -> Result<(), Fail> {
-    let alloc = rt.alloc();
-    let mut refusals = Refusals::none();
-    let heap = (HEAP_ROOM, OVER, Storage::Heap);
-    assert_each_grown::<String>(&rt, alloc, &mut refusals, heap, &GROWTHS);
-    if refusals.has_met {
-        println!(rt; "refused")?;
-    }
-    Ok(())
+fn an_insertion_that_promotes(rt: HostRuntime) -> Result<(), Fail> {
+    check::<InlinableString>(&rt, rt.alloc(), INLINE, INSERTIONS)
 }
 
 #[test]
-fn a_refused_reservation_on_the_heap_leaves_the_text(rt: HostRuntime) -> Result<(), Fail> {
-    let alloc = rt.alloc();
-    let mut refusals = Refusals::none();
-    let heap = (HEAP_ROOM, OVER, Storage::Heap);
-    assert_each_grown::<InlinableString>(&rt, alloc, &mut refusals, heap, &RESERVATIONS);
-    assert_each_grown::<String>(&rt, alloc, &mut refusals, heap, &RESERVATIONS);
-    if refusals.has_met {
-        println!(rt; "refused")?;
-    }
-    Ok(())
+fn a_reservation_that_promotes(rt: HostRuntime) -> Result<(), Fail> {
+    check::<InlinableString>(&rt, rt.alloc(), INLINE, RESERVATIONS)
+}
+
+#[test]
+fn a_push_to_a_text_that_has_no_inline_room(rt: HostRuntime) -> Result<(), Fail> {
+    check::<InlinableStringN<0>>(&rt, rt.alloc(), (0, "", Storage::Inline), PUSHES)
+}
+
+#[test]
+fn a_push_on_the_heap(rt: HostRuntime) -> Result<(), Fail> {
+    check::<InlinableString>(&rt, rt.alloc(), ON_HEAP, PUSHES)
+}
+
+#[test]
+fn an_insertion_on_the_heap(rt: HostRuntime) -> Result<(), Fail> {
+    check::<InlinableString>(&rt, rt.alloc(), ON_HEAP, INSERTIONS)
+}
+
+#[test]
+fn a_reservation_on_the_heap(rt: HostRuntime) -> Result<(), Fail> {
+    check::<InlinableString>(&rt, rt.alloc(), ON_HEAP, RESERVATIONS)
+}
+
+#[test]
+fn a_push_to_a_string(rt: HostRuntime) -> Result<(), Fail> {
+    check::<String>(&rt, rt.alloc(), ON_HEAP, PUSHES)
+}
+
+#[test]
+fn an_insertion_into_a_string(rt: HostRuntime) -> Result<(), Fail> {
+    check::<String>(&rt, rt.alloc(), ON_HEAP, INSERTIONS)
+}
+
+#[test]
+fn a_reservation_in_a_string(rt: HostRuntime) -> Result<(), Fail> {
+    check::<String>(&rt, rt.alloc(), ON_HEAP, RESERVATIONS)
 }
 
 #[test]
@@ -168,7 +179,7 @@ fn a_text_is_made_on_the_heap_once_memory_is_there(rt: HostRuntime) -> Result<()
     let string: String = made(&rt, alloc, &mut refusals, HEAP_ROOM);
     assert!(rt; StringExt::capacity(&string) >= HEAP_ROOM);
     let mut inline: InlinableString = made(&rt, alloc, &mut refusals, 30);
-    assert!(rt; inline.push_str(FULL).is_ok());
+    assert!(rt; inline.push_str(INLINE.1).is_ok());
     assert_eq!(rt; inline.storage(), Storage::Inline);
     if refusals.has_met {
         println!(rt; "refused")?;

@@ -32,7 +32,7 @@ pub const A31: &str = "aaaaaaaaaaaaaaaaaaaaaaaaaaaaaaa";
 pub const DIGITS: &str = "0123456789";
 
 /// Rows on texts of which 30 bytes may lie inline.
-pub const AT_30: [Row; 36] = [
+pub const AT_30: &[Row] = &[
     (None, "", &[], ""),
     // Cuts and removals.
     (
@@ -338,7 +338,7 @@ pub const AT_30: [Row; 36] = [
 ];
 
 /// Rows on texts of which no byte may lie inline.
-pub const AT_0: [Row; 3] = [
+pub const AT_0: &[Row] = &[
     (
         None,
         "",
@@ -354,10 +354,10 @@ pub const AT_0: [Row; 3] = [
 ];
 
 /// A row on texts of which three bytes may lie inline.
-pub const AT_3: [Row; 1] = [(None, "", &[(Push('𝄞'), Done, Heap)], "𝄞")];
+pub const AT_3: &[Row] = &[(None, "", &[(Push('𝄞'), Done, Heap)], "𝄞")];
 
 /// A row on texts of which four bytes may lie inline.
-pub const AT_4: [Row; 1] = [(
+pub const AT_4: &[Row] = &[(
     None,
     "",
     &[(Push('𝄞'), Done, Inline), (Push('a'), Done, Heap)],

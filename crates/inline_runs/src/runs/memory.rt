@@ -1,8 +1,7 @@
 //! Runs with every request for memory refused from the first command on, or from a later one.
 use super::made;
 use super::rows::{A26, A27, A28, A30, DIGITS};
-use crate::beside::{HEAP, Policy, after, before, inlinable, run_beside, seen_of};
-use crate::plain::room::PlainText;
+use crate::beside::{after, before, run_beside};
 use Storage::{Heap, Inline};
 use inlinable_string::run::Command::{
     self, Clear, Insert, InsertStr, Pop, Push, PushStr, Remove, Reserve, ReserveExact, ShrinkToFit,
@@ -11,6 +10,8 @@ use inlinable_string::run::Command::{
 use inlinable_string::run::Reply::{self, BadPlace, Char, Done, NoMemory};
 use inlinable_string::run::run;
 use inlinable_string::{InlinableString, InlinableStringN, Storage, StringExt, StringMake};
+use inline_vectors::plain::room::PlainText;
+use inline_vectors::verdict::{HEAP, Policy, inlinable, seen_of};
 use std::alloc::Global;
 use std::process::Abort;
 use std::test::Fail;
@@ -40,7 +41,7 @@ struct Row {
 /// The most commands of a row.
 const MOST_COMMANDS: usize = 12;
 
-const AT_30: [Row; 15] = [
+const AT_30: &[Row] = &[
     Row {
         capacity: None,
         start: A26,
@@ -222,7 +223,7 @@ const AT_30: [Row; 15] = [
 ];
 
 /// A row on a `String`.
-const ON_A_STRING: [Row; 1] = [Row {
+const ON_A_STRING: &[Row] = &[Row {
     capacity: None,
     start: "",
     granted: Some(Reserve(10)),
@@ -271,6 +272,46 @@ fn prepare<S: StringMake + Drop>(
     }
 }
 
+/// The text of each row, as memory begins to be refused.
+fn prepare_each<S: StringMake + Drop>(
+    rt: &impl Abort,
+    alloc: Global,
+    policy: Policy,
+    rows: &[Row],
+) -> Vec<Prepared<S>> {
+    let mut runs: Vec<Prepared<S>> = Vec::new(alloc);
+    for row in rows {
+        let next = prepare(rt, alloc, policy, *row);
+        assert!(rt; runs.push(next).is_ok());
+    }
+    runs
+}
+
+/// Asserts what a row tells of its run, and that the plain program agrees.
+fn check_run<S: StringExt + Drop>(
+    rt: &impl Abort,
+    alloc: Global,
+    policy: Policy,
+    row: Row,
+    run_of: Prepared<S>,
+) {
+    let Prepared {
+        text,
+        start,
+        replies,
+    } = run_of;
+    let (told, count) = (row.replies.len(), row.refused.len());
+    assert!(rt; told <= count && count <= MOST_COMMANDS);
+    assert!(rt; &replies[..told] == row.replies, "{replies:?}");
+    let end = seen_of(&text);
+    assert!(rt;
+        end.string == row.end && end.storage == row.storage,
+        "{replies:?}"
+    );
+    assert!(rt; end.storage == Heap || end.capacity == policy.limit);
+    after(rt, alloc, start, row.refused, &replies[..count], end);
+}
+
 /// Runs each row while all memory is held, and asserts what it tells once the memory is given back.
 fn check_refused<S: StringMake + Drop>(
     rt: &impl Abort,
@@ -278,38 +319,15 @@ fn check_refused<S: StringMake + Drop>(
     policy: Policy,
     rows: &[Row],
 ) {
-    let mut runs: Vec<Prepared<S>> = Vec::new(alloc);
-    for row in rows {
-        assert!(rt; row.refused.len() <= MOST_COMMANDS);
-        assert!(rt; row.replies.len() <= row.refused.len());
-        let next = prepare(rt, alloc, policy, *row);
-        assert!(rt; runs.push(next).is_ok());
-    }
+    let mut runs: Vec<Prepared<S>> = prepare_each(rt, alloc, policy, rows);
     let hoard = all_memory(rt, alloc);
     for (run_of, row) in runs.iter_mut().zip(rows) {
         run_of.give(row.refused);
     }
     drop(hoard);
-    for (i, (run_of, row)) in runs.into_iter().zip(rows).enumerate() {
-        let Prepared {
-            text,
-            start,
-            replies,
-        } = run_of;
-        let count = row.refused.len();
-        assert!(rt; row.replies.len() <= count && count <= MOST_COMMANDS);
-        let told = &replies[..row.replies.len()];
-        assert!(rt; told == row.replies, "{replies:?} in row {i}");
-        let end = seen_of(&text);
-        assert_eq!(rt;
-            (end.string, end.storage),
-            (row.end, row.storage),
-            "in row {i}"
-        );
-        if end.storage == Inline {
-            assert_eq!(rt; end.capacity, policy.limit, "in row {i}");
-        }
-        after(rt, alloc, start, row.refused, &replies[..count], end);
+    assert!(rt; runs.len() == rows.len());
+    for (run_of, row) in runs.into_iter().zip(rows) {
+        check_run(rt, alloc, policy, *row, run_of);
     }
 }
 
@@ -317,13 +335,13 @@ fn check_refused<S: StringMake + Drop>(
 fn an_inline_or_heap_text_asks_for_no_memory_that_its_rules_spare(
     rt: HostRuntime,
 ) -> Result<(), Fail> {
-    check_refused::<InlinableString>(&rt, rt.alloc(), inlinable(30), &AT_30);
+    check_refused::<InlinableString>(&rt, rt.alloc(), inlinable(30), AT_30);
     Ok(())
 }
 
 #[test]
 fn a_string_asks_for_no_memory_that_was_reserved(rt: HostRuntime) -> Result<(), Fail> {
-    check_refused::<String>(&rt, rt.alloc(), HEAP, &ON_A_STRING);
+    check_refused::<String>(&rt, rt.alloc(), HEAP, ON_A_STRING);
     Ok(())
 }
 

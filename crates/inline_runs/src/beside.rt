@@ -1,87 +1,13 @@
 //! Runs of the code with the plain program beside them.
 ghost use Rattle.std.specs.Prelude.{◌≡◌, length};
 
-use crate::plain::room::PlainText;
-use crate::plain::{agrees, follow, plain_from};
+use inlinable_string::StringExt;
 use inlinable_string::run::{Command, Reply, run, run_dyn};
-use inlinable_string::{Storage, StringExt};
-use std::alloc::{AllocError, Global};
+use inline_vectors::plain::plain_from;
+use inline_vectors::plain::room::PlainText;
+use inline_vectors::verdict::{Policy, Seen, Verdict, judged, seen_of, seen_of_dyn};
+use std::alloc::Global;
 use std::process::Abort;
-
-/// What decides where a text lies: whether shrinking brings it back from the heap, and how many
-/// bytes lie inline at most.
-#[derive(Clone, Copy)]
-pub struct Policy {
-    pub demotes: bool,
-    pub limit: usize,
-}
-
-/// That of a `String`.
-pub const HEAP: Policy = Policy {
-    demotes: false,
-    limit: 0,
-};
-
-/// That of an inline-or-heap text.
-pub const fn inlinable(limit: usize) -> Policy {
-    Policy {
-        demotes: true,
-        limit,
-    }
-}
-
-/// What the calls of a text show of it.
-#[derive(Clone, Copy)]
-pub struct Seen<'a> {
-    pub string: &'a str,
-    pub storage: Storage,
-    pub capacity: usize,
-}
-
-pub fn seen_of<S: StringExt>(text: &S) -> Seen<'_> {
-    Seen {
-        string: text.as_str(),
-        storage: text.storage(),
-        capacity: text.capacity(),
-    }
-}
-
-pub fn seen_of_dyn(text: &dyn StringExt) -> Seen<'_> {
-    Seen {
-        string: text.as_str(),
-        storage: text.storage(),
-        capacity: text.capacity(),
-    }
-}
-
-/// What the plain program says of a run.
-#[derive(Clone, Copy, Debug, PartialEq, Eq)]
-pub enum Verdict {
-    Agrees,
-    /// A reply is not legal in its turn.
-    IllegalReply,
-    /// Another text, another storage, or less room than is certain.
-    OtherEnd,
-}
-
-/// What the plain program says of commands with their replies, from a start, where a text is so
-/// after them.
-pub fn judged(
-    alloc: Global,
-    start: PlainText,
-    commands: &[Command],
-    replies: &[Reply],
-    end: Seen<'_>,
-) -> Result<Verdict, AllocError> {
-    let Some(plain) = follow(alloc, start, commands, replies)? else {
-        return Ok(Verdict::IllegalReply);
-    };
-    if agrees(alloc, &plain, end.string, end.storage, end.capacity)? {
-        Ok(Verdict::Agrees)
-    } else {
-        Ok(Verdict::OtherEnd)
-    }
-}
 
 /// The plain program's text at a text as it is before a run.
 pub fn before(rt: &impl Abort, alloc: Global, start: Seen<'_>, policy: Policy) -> PlainText {

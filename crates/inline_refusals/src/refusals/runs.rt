@@ -1,9 +1,4 @@
-//! Each request for memory refused in turn, in runs over all commands: these tests pass whichever
-//! request of theirs is refused, and say `refused` where they met the refusal. At most one request
-//! of a test is refused, and `.ci/refusals` says which.
-use super::rows::{A30, DIGITS};
-use crate::beside::{HEAP, Policy, Seen, Verdict, inlinable, judged, seen_of, seen_of_dyn};
-use crate::plain::plain_from;
+//! Each request for memory refused in turn, in runs over all commands.
 use inlinable_string::run::Command::{
     self, Clear, Insert, InsertStr, Pop, Push, PushStr, Remove, ReplaceBytes, Reserve,
     ReserveExact, ShrinkToFit, Truncate,
@@ -13,13 +8,17 @@ use inlinable_string::run::Reply::{
 };
 use inlinable_string::run::{run, run_dyn};
 use inlinable_string::{InlinableString, InlinableStringN, Storage, StringExt, StringMake};
+use inline_vectors::plain::plain_from;
+use inline_vectors::verdict::{
+    HEAP, Policy, Seen, Verdict, inlinable, judged, seen_of, seen_of_dyn,
+};
 use std::alloc::{AllocError, Global};
 use std::process::Abort;
 use std::test::Fail;
 use test_memory::Refusals;
 
 /// Commands of each kind on a new text.
-const COMMANDS: [Command<'static>; 20] = [
+const COMMANDS: &[Command<'static>] = &[
     PushStr("aaaaaaaaaaaaaaaaaaaaaaaaaaa"),
     Insert(27, '€'),
     Insert(28, 'x'),
@@ -29,7 +28,7 @@ const COMMANDS: [Command<'static>; 20] = [
     Remove(30),
     ReserveExact(18446744073709551615),
     Reserve(100),
-    PushStr(DIGITS),
+    PushStr("0123456789"),
     InsertStr(1, "é"),
     InsertStr(2, "é"),
     Remove(0),
@@ -44,7 +43,7 @@ const COMMANDS: [Command<'static>; 20] = [
 
 /// The replies to them where no request is refused. That for room past what a `usize` counts is for
 /// want of memory all the same.
-const REPLIES: [Reply; 20] = [
+const REPLIES: &[Reply] = &[
     Done,
     Done,
     BadPlace,
@@ -146,13 +145,13 @@ fn check_refused(
 fn meets_refusal<S: StringMake + Drop>(rt: &impl Abort, alloc: Global, policy: Policy) -> bool {
     let mut text = S::new(alloc);
     let mut replies = [BadPlace; 20];
-    run(&mut text, &COMMANDS, &mut replies);
+    run(&mut text, COMMANDS, &mut replies);
     let end = seen_of(&text);
-    check_refused(rt, alloc, policy, &COMMANDS, &replies, &REPLIES, end)
+    check_refused(rt, alloc, policy, COMMANDS, &replies, REPLIES, end)
 }
 
 #[test]
-fn of_a_run_on_an_inline_or_heap_text(rt: HostRuntime) -> Result<(), Fail> {
+fn a_run_on_an_inline_or_heap_text(rt: HostRuntime) -> Result<(), Fail> {
     if meets_refusal::<InlinableString>(&rt, rt.alloc(), inlinable(30)) {
         println!(rt; "refused")?;
     }
@@ -160,7 +159,7 @@ fn of_a_run_on_an_inline_or_heap_text(rt: HostRuntime) -> Result<(), Fail> {
 }
 
 #[test]
-fn of_a_run_on_a_text_with_a_small_limit(rt: HostRuntime) -> Result<(), Fail> {
+fn a_run_on_a_text_with_a_small_limit(rt: HostRuntime) -> Result<(), Fail> {
     if meets_refusal::<InlinableStringN<8>>(&rt, rt.alloc(), inlinable(8)) {
         println!(rt; "refused")?;
     }
@@ -168,12 +167,12 @@ fn of_a_run_on_a_text_with_a_small_limit(rt: HostRuntime) -> Result<(), Fail> {
 }
 
 #[test]
-fn of_a_run_on_a_string_behind_a_dyn(rt: HostRuntime) -> Result<(), Fail> {
+fn a_run_on_a_string_behind_a_dyn(rt: HostRuntime) -> Result<(), Fail> {
     let mut text = <String as StringMake>::new(rt.alloc());
     let mut replies = [BadPlace; 20];
-    run_dyn(&mut text, &COMMANDS, &mut replies);
+    run_dyn(&mut text, COMMANDS, &mut replies);
     let end = seen_of_dyn(&text);
-    if check_refused(&rt, rt.alloc(), HEAP, &COMMANDS, &replies, &REPLIES, end) {
+    if check_refused(&rt, rt.alloc(), HEAP, COMMANDS, &replies, REPLIES, end) {
         println!(rt; "refused")?;
     }
     Ok(())
@@ -209,11 +208,13 @@ fn check_one_refused(rt: &impl Abort, replies: [Reply; 4], end: Seen<'_>) {
     assert_eq!(rt; end.storage, Storage::Heap);
 }
 
+const A30: &str = "aaaaaaaaaaaaaaaaaaaaaaaaaaaaaa";
+
 /// 32 bytes.
 const A29_EURO: &str = "aaaaaaaaaaaaaaaaaaaaaaaaaaaaa€";
 
 #[test]
-fn of_a_promotion_in_a_run(rt: HostRuntime) -> Result<(), Fail> {
+fn a_promotion_in_a_run(rt: HostRuntime) -> Result<(), Fail> {
     if meets_refusal_at_promotion::<InlinableString>(&rt, rt.alloc(), inlinable(30)) {
         println!(rt; "refused")?;
     }

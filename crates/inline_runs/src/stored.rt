@@ -1,8 +1,9 @@
 //! The scripts of the stored cases, with the plain program beside the code. Their outputs are
 //! compared by the replay; here it is the replies, the text, where it lies and its room.
-use crate::beside::{inlinable, run_beside};
+use crate::beside::run_beside;
 use inlinable_string::run::{Command, Reply};
 use inlinable_string::{InlinableString, StringMake};
+use inline_vectors::verdict::inlinable;
 use std::alloc::{AllocError, Global};
 use std::process::Abort;
 use std::test::Fail;

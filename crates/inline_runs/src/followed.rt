@@ -1,19 +1,19 @@
 //! Runs whose replies and texts are known from outside.
-use crate::plain::room::PlainText;
-use crate::plain::{agrees, follow, plain_from};
 use inlinable_string::Storage;
 use inlinable_string::run::{Command, Reply};
+use inline_vectors::plain::room::PlainText;
+use inline_vectors::plain::{agrees, follow, plain_from};
 use std::alloc::{AllocError, Global};
 use std::test::Fail;
 
 /// The third reply, where the text lies after it, and whether the replies are legal.
-const THIRDS: [(Reply, Storage, bool); 3] = [
+const THIRDS: &[(Reply, Storage, bool)] = &[
     (Reply::Done, Storage::Heap, true),
     (Reply::NoMemory, Storage::Inline, true),
     (Reply::BadPlace, Storage::Inline, false),
 ];
 
-const SIX_COMMANDS: [Command<'static>; 6] = [
+const SIX_COMMANDS: &[Command<'static>] = &[
     Command::PushStr("aaaaaaaaaaaaaaaaaaaaaaaaaaa"),
     Command::PushStr("€"),
     Command::PushStr("b"),
@@ -24,7 +24,7 @@ const SIX_COMMANDS: [Command<'static>; 6] = [
 
 #[test]
 fn follows_six_commands(rt: HostRuntime) -> Result<(), Fail> {
-    for (third, storage, legal) in THIRDS {
+    for &(third, storage, legal) in THIRDS {
         let replies = [
             Reply::Done,
             Reply::Done,
@@ -33,7 +33,7 @@ fn follows_six_commands(rt: HostRuntime) -> Result<(), Fail> {
             Reply::Done,
             Reply::Char('a'),
         ];
-        let end = followed(rt.alloc(), "", &SIX_COMMANDS, &replies)?;
+        let end = followed(rt.alloc(), "", SIX_COMMANDS, &replies)?;
         let agree = is_at(rt.alloc(), &end, "aaaaaaaaaaaaaaaaaaaaaaaaaa", storage, 26)?;
         assert_eq!(rt; agree, legal, "after {third:?}");
     }
@@ -41,7 +41,7 @@ fn follows_six_commands(rt: HostRuntime) -> Result<(), Fail> {
 }
 
 /// Commands of each kind on the text "a", which lies inline.
-const COMMANDS: [Command<'static>; 18] = [
+const COMMANDS: &[Command<'static>] = &[
     Command::Push('é'),
     Command::Insert(1, '€'),
     Command::Remove(2),
@@ -88,7 +88,7 @@ const REPLIES: [Reply; 18] = [
 const LONG: usize = 9;
 
 /// To a command, by its index, another reply, and whether all are legal then.
-const OTHERS: [(usize, Reply, bool); 20] = [
+const OTHERS: &[(usize, Reply, bool)] = &[
     (0, Reply::NoMemory, false),
     (1, Reply::NoMemory, false),
     (2, Reply::Char('€'), false),
@@ -115,14 +115,14 @@ const OTHERS: [(usize, Reply, bool); 20] = [
 fn follows_all_commands(rt: HostRuntime) -> Result<(), Fail> {
     let long = followed(rt.alloc(), "a", &COMMANDS[..LONG], &REPLIES[..LONG])?;
     assert!(rt; is_at(rt.alloc(), &long, "aéfoobar", Storage::Heap, 9)?);
-    let whole = followed(rt.alloc(), "a", &COMMANDS, &REPLIES)?;
+    let whole = followed(rt.alloc(), "a", COMMANDS, &REPLIES)?;
     assert!(rt; is_at(rt.alloc(), &whole, "olleh", Storage::Inline, 5)?);
-    for (index, reply, legal) in OTHERS {
+    for &(index, reply, legal) in OTHERS {
         let mut replies = REPLIES;
         if let Some(other) = replies.get_mut(index) {
             *other = reply;
         }
-        let end = followed(rt.alloc(), "a", &COMMANDS, &replies)?;
+        let end = followed(rt.alloc(), "a", COMMANDS, &replies)?;
         let agree = is_at(rt.alloc(), &end, "olleh", Storage::Inline, 5)?;
         assert_eq!(rt; agree, legal, "{reply:?} to command {index}");
         assert_eq!(rt; end.is_some(), legal, "{reply:?} to command {index}");

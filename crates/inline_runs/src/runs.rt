@@ -1,9 +1,7 @@
 //! Rows by `run` and `run_dyn`, with memory that is never refused.
 ghost use Rattle.std.specs.Prelude.{◌≤◌, length};
 
-use crate::beside::{
-    HEAP, Policy, Seen, inlinable, run_beside, run_dyn_beside, seen_of, seen_of_dyn,
-};
+use crate::beside::{run_beside, run_dyn_beside};
 use inlinable_string::run::Command::{
     self, Clear, Insert, InsertStr, Pop, Push, PushStr, Remove, ReplaceBytes, Reserve,
     ReserveExact, ShrinkToFit, Truncate,
@@ -12,6 +10,7 @@ use inlinable_string::run::Reply::{
     self, BadPlace, Char, Done, NoChar, NoMemory, NotUtf8, WrongLength,
 };
 use inlinable_string::{InlinableString, InlinableStringN, Storage, StringExt, StringMake};
+use inline_vectors::verdict::{HEAP, Policy, Seen, inlinable, seen_of, seen_of_dyn};
 use std::alloc::Global;
 use std::process::Abort;
 use std::test::Fail;
@@ -20,7 +19,6 @@ mod each;
 mod generated;
 mod memory;
 mod own;
-mod refusals;
 mod rows;
 
 use Storage::{Heap, Inline};
@@ -153,7 +151,7 @@ fn check_rows<S: StringMake + Drop>(
 #[test]
 fn each_row_on_every_kind_of_text(rt: HostRuntime) -> Result<(), Fail> {
     let alloc = rt.alloc();
-    let rows = AT_30.as_slice();
+    let rows = AT_30;
     check_rows::<InlinableString>(&rt, alloc, inlinable(30), 30, rows);
     check_rows::<InlinableStringN<0>>(&rt, alloc, inlinable(0), 30, rows);
     check_rows::<InlinableStringN<8>>(&rt, alloc, inlinable(8), 30, rows);
@@ -165,13 +163,13 @@ fn each_row_on_every_kind_of_text(rt: HostRuntime) -> Result<(), Fail> {
 #[test]
 fn each_row_on_a_text_behind_a_dyn(rt: HostRuntime) -> Result<(), Fail> {
     let alloc = rt.alloc();
-    for row in AT_30 {
+    for &row in AT_30 {
         let mut text: InlinableString = made(&rt, alloc, row.0);
         check_row_dyn(&rt, alloc, &mut text, inlinable(30), 30, row);
         let mut text: String = made(&rt, alloc, row.0);
         check_row_dyn(&rt, alloc, &mut text, HEAP, 30, row);
     }
-    for row in AT_0 {
+    for &row in AT_0 {
         let mut text: InlinableStringN<0> = made(&rt, alloc, row.0);
         check_row_dyn(&rt, alloc, &mut text, inlinable(0), 0, row);
     }
@@ -181,9 +179,9 @@ fn each_row_on_a_text_behind_a_dyn(rt: HostRuntime) -> Result<(), Fail> {
 #[test]
 fn small_limits_are_kept_to_the_byte(rt: HostRuntime) -> Result<(), Fail> {
     let alloc = rt.alloc();
-    check_rows::<InlinableStringN<0>>(&rt, alloc, inlinable(0), 0, &AT_0);
-    check_rows::<InlinableStringN<3>>(&rt, alloc, inlinable(3), 3, &AT_3);
-    check_rows::<InlinableStringN<4>>(&rt, alloc, inlinable(4), 4, &AT_4);
+    check_rows::<InlinableStringN<0>>(&rt, alloc, inlinable(0), 0, AT_0);
+    check_rows::<InlinableStringN<3>>(&rt, alloc, inlinable(3), 3, AT_3);
+    check_rows::<InlinableStringN<4>>(&rt, alloc, inlinable(4), 4, AT_4);
     Ok(())
 }
 
@@ -218,7 +216,7 @@ fn a_hundred_insertions_at_the_front(rt: HostRuntime) -> Result<(), Fail> {
 }
 
 /// To an offset: whether it is a place of "aé€𝄞", and what begins there.
-const OFFSETS: [(usize, bool, Option<char>); 13] = [
+const OFFSETS: &[(usize, bool, Option<char>)] = &[
     (0, true, Some('a')),
     (1, true, Some('é')),
     (2, false, None),
@@ -240,7 +238,7 @@ fn check_offsets<S: StringMake + Drop>(
     policy: Policy,
     capacity: Option<usize>,
 ) {
-    for (offset, is_place, begins) in OFFSETS {
+    for &(offset, is_place, begins) in OFFSETS {
         let placed = if is_place { Done } else { BadPlace };
         let taken = match begins {
             Some(c) => Char(c),
