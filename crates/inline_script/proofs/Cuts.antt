@@ -1,5 +1,5 @@
 -- Texts that are cut at a mark.
-use Rattle.std.proofs.Common.{◌≡◌, ◌≢◌, refl, sym, ap, subst, ◌∙◌, ℕ, ◌<◌, ◌≤◌, ◌==◌, suc, zero, List, [], ◌∷◌, ◌++◌, length, slice_index, Bool, true, false, arith, get_or, Option, Some, None, IfSome, IfNone, Bor}
+use Rattle.std.proofs.Common.{◌≡◌, ◌≢◌, refl, sym, ap, subst, ◌∙◌, ℕ, ◌<◌, ◌==◌, suc, zero, List, [], ◌∷◌, ◌++◌, length, Bool, false, arith, get_or, Option, Some, None, IfSome, IfNone, Bor}
 use Rattle.std.specs.List.{position_or_len, before_first, after_first}
 use Rattle.std.specs.Str.Iter.{LacksByte}
 use Rattle.std.specs.Str.Parse.{AllDigits}

@@ -1,4 +1,5 @@
 mod Pieces
 mod Cuts
 mod Lines
+mod OneCommand
 mod Scripts

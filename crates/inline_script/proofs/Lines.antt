@@ -8,7 +8,7 @@ use Rattle.inline_script.specs.Line.{IsCharText, IsFirstCut, IsLine, IsNumberTex
 use Rattle.inline_script.proofs.Cuts.{digits_lack_space, has_mark, lacks-from_position, same_cut}
 
 -- a line ends with its word, or goes on with a space
-tail_forms : (command : Command) (tail : List ℕ) → IsTail command tail
+pub tail_forms : (command : Command) (tail : List ℕ) → IsTail command tail
     → (tail ≡ []) ⊎ ((rest : List ℕ) × (tail ≡ space ∷ rest))
 tail_forms (Push c) tail is = inr (is.0, is.1)
 tail_forms (PushStr string) tail is = inr (string.now, is)
@@ -23,7 +23,7 @@ tail_forms (Reserve n) tail is = inr (is.0, is.1)
 tail_forms (ReserveExact n) tail is = inr (is.0, is.1)
 tail_forms ShrinkToFit tail is = inl is
 
-word_lacks_space : (command : Command) → LacksByte space (word_of command)
+pub word_lacks_space : (command : Command) → LacksByte space (word_of command)
 word_lacks_space (Push c) = lacks-from_position space (codes "push") refl
 word_lacks_space (PushStr string) = lacks-from_position space (codes "push_str") refl
 word_lacks_space (Insert place c) = lacks-from_position space (codes "insert") refl

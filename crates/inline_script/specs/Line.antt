@@ -43,6 +43,21 @@ word_of (Reserve n) = codes "reserve"
 word_of (ReserveExact n) = codes "reserve_exact"
 word_of ShrinkToFit = codes "shrink_to_fit"
 
+-- its arguments: each as its bytes, or as its one character or number
+abbrev pub arguments_of : Command → List (List ℕ)
+arguments_of (Push c) = (c ∷ []) ∷ []
+arguments_of (PushStr string) = string.now ∷ []
+arguments_of (Insert place c) = (place ∷ []) ∷ (c ∷ []) ∷ []
+arguments_of (InsertStr place string) = (place ∷ []) ∷ string.now ∷ []
+arguments_of (Truncate place) = (place ∷ []) ∷ []
+arguments_of Pop = []
+arguments_of (Remove place) = (place ∷ []) ∷ []
+arguments_of Clear = []
+arguments_of (ReplaceBytes bytes) = bytes.now ∷ []
+arguments_of (Reserve n) = (n ∷ []) ∷ []
+arguments_of (ReserveExact n) = (n ∷ []) ∷ []
+arguments_of ShrinkToFit = []
+
 -- a space, and digits that are written for the number
 abbrev pub IsNumberTail : ℕ → List ℕ → Type 0
 IsNumberTail number tail =

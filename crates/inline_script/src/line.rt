@@ -2,7 +2,7 @@
 ghost use Rattle.std.specs.Prelude.{◌≡◌, ◌≢◌, ℕ, ◌+◌, ◌≤◌, ◌∷◌, ◌++◌, List, [], IfNone, IfSome, IsErr, Ok, codes, length};
 ghost use Rattle.hex.specs.Hex.{decode_of};
 ghost use Rattle.inlinable_string.specs.declared.run.Command.{Command};
-ghost use Rattle.inline_script.specs.Line.{IsCharText, IsLine, IsNumberText, IsTail, space, word_of};
+ghost use Rattle.inline_script.specs.Line.{arguments_of, IsCharText, IsLine, IsNumberText, IsTail, space, word_of};
 
 use crate::cut::cut_at;
 use inlinable_string::run::Command;
@@ -32,6 +32,12 @@ pub fn command_of<'a>(line: &'a str, room: &'a mut [u8]) -> Option<(Command<'a>,
         },
     }
 }
+
+/// A law: two commands that a line asks for have the same word and the same arguments.
+pub fn a_line_asks_for_one_command()
+    ensures { (line : List ℕ) (one other : Command) → IsLine line one → IsLine line other
+        → (word_of one ≡ word_of other) × (arguments_of one ≡ arguments_of other) }
+{}
 
 /// The command of a line that has no space.
 fn command_alone(word: &str) -> Option<Command<'static>>

@@ -1,9 +1,11 @@
 //! Rows by `run_each`, and by `run` and `run_dyn` on a text of a caller's own.
+use super::memory::all_memory;
 use super::own::{EightBytes, OnHeap};
+use super::rows::A30;
 use crate::beside::{after, before, run_beside, run_dyn_beside};
 use Storage::{Heap, Inline};
-use inlinable_string::run::Command::{self, Pop, PushStr, Remove, Truncate};
-use inlinable_string::run::Reply::{self, BadPlace, Char, Done, NoChar, NoMemory};
+use inlinable_string::run::Command::{self, Pop, Push, PushStr, Remove, Truncate};
+use inlinable_string::run::Reply::{self, BadPlace, Char, Done, NoChar, NoMemory, NotUtf8};
 use inlinable_string::run::run_each;
 use inlinable_string::{
     BoxableString, InlinableString, InlinableStringN, Storage, StringExt, StringMake,
@@ -81,11 +83,19 @@ fn check_ends(
     }
 }
 
+/// Whether memory can be had while commands are given.
+#[derive(Clone, Copy)]
+enum Memory {
+    Ample,
+    Refused,
+}
+
 /// Gives the commands to each text with the plain program beside it, and asserts all replies, and
 /// the texts and where they lie after them.
 fn check_each(
     rt: &impl Abort,
     alloc: Global,
+    memory: Memory,
     texts: &mut Texts,
     policies: &[Policy],
     commands: &[Command],
@@ -95,11 +105,17 @@ fn check_each(
     assert!(rt; texts.len() == policies.len() && texts.len() == ends.len());
     let starts = starts_of(rt, alloc, texts, policies);
     assert!(rt; starts.len() == ends.len());
-    let mut room = [NoMemory; 16];
+    // No text here has this reply.
+    let mut room = [NotUtf8; 16];
     let count = texts.len().checked_mul(commands.len());
     let count = count.expect(rt, "a number of replies");
     assert!(rt; count <= room.len());
+    let hoard = match memory {
+        Memory::Ample => None,
+        Memory::Refused => Some(all_memory(rt, alloc)),
+    };
     run_each(texts, commands, &mut room[..count]);
+    drop(hoard);
     let replies = &room[..count];
     assert!(rt; replies == wanted, "{replies:?}");
     check_ends(rt, alloc, starts, texts, commands, replies, ends);
@@ -116,9 +132,27 @@ fn boxed_texts_of_each_storage_have_a_run_each(rt: HostRuntime) -> Result<(), Fa
     push_to_each(&mut texts, &["x"; 3])?;
     let policies = [HEAP, inlinable(30), inlinable(30)];
     let before = [("x", Heap), ("x", Inline), ("x", Heap)];
-    check_each(&rt, alloc, &mut texts, &policies, &[], &[], &before);
+    check_each(
+        &rt,
+        alloc,
+        Memory::Ample,
+        &mut texts,
+        &policies,
+        &[],
+        &[],
+        &before,
+    );
     let after = [("", Heap), ("", Inline), ("", Heap)];
-    check_each(&rt, alloc, &mut texts, &policies, COMMANDS, THRICE, &after);
+    check_each(
+        &rt,
+        alloc,
+        Memory::Ample,
+        &mut texts,
+        &policies,
+        COMMANDS,
+        THRICE,
+        &after,
+    );
     Ok(())
 }
 
@@ -165,6 +199,7 @@ fn unlike_texts_have_unlike_replies(rt: HostRuntime) -> Result<(), Fail> {
     check_each(
         &rt,
         alloc,
+        Memory::Ample,
         &mut texts,
         &policies,
         commands,
@@ -185,7 +220,56 @@ fn boxed_texts_of_a_callers_own_have_a_run_each(rt: HostRuntime) -> Result<(), F
     push_to_each(&mut texts, &["x"; 3])?;
     let policies = [inlinable(8), inlinable(8), HEAP];
     let after = [("", Inline), ("", Heap), ("", Heap)];
-    check_each(&rt, alloc, &mut texts, &policies, COMMANDS, THRICE, &after);
+    check_each(
+        &rt,
+        alloc,
+        Memory::Ample,
+        &mut texts,
+        &policies,
+        COMMANDS,
+        THRICE,
+        &after,
+    );
+    Ok(())
+}
+
+/// A `String`, a full text, a short one, and one on the heap with room.
+const REFUSED_STARTS: &[&str] = &["", A30, "x", "x"];
+
+const REFUSED_REPLIES: &[Reply] = &[
+    NoMemory,
+    NoChar,
+    NoMemory,
+    Char('a'),
+    Done,
+    Char('b'),
+    Done,
+    Char('b'),
+];
+
+const REFUSED_ENDS: &[(&str, Storage)] = &[
+    ("", Heap),
+    ("aaaaaaaaaaaaaaaaaaaaaaaaaaaaa", Inline),
+    ("x", Inline),
+    ("x", Heap),
+];
+
+#[test]
+fn each_text_is_refused_memory_by_itself(rt: HostRuntime) -> Result<(), Fail> {
+    let alloc = rt.alloc();
+    let mut texts: Texts = Vec::new(alloc);
+    texts.push(Box::new(alloc, <String as StringMake>::new(alloc))?)?;
+    texts.push(Box::new(alloc, BoxableString(InlinableString::new(alloc)))?)?;
+    texts.push(Box::new(alloc, BoxableString(InlinableString::new(alloc)))?)?;
+    let heap = InlinableString::with_capacity(alloc, 31)?;
+    texts.push(Box::new(alloc, BoxableString(heap))?)?;
+    push_to_each(&mut texts, REFUSED_STARTS)?;
+    let policies = [HEAP, inlinable(30), inlinable(30), inlinable(30)];
+    let (commands, wanted, ends) = ([Push('b'), Pop], REFUSED_REPLIES, REFUSED_ENDS);
+    let memory = Memory::Refused;
+    check_each(
+        &rt, alloc, memory, &mut texts, &policies, &commands, wanted, ends,
+    );
     Ok(())
 }
 
@@ -193,8 +277,17 @@ fn boxed_texts_of_a_callers_own_have_a_run_each(rt: HostRuntime) -> Result<(), F
 fn no_texts_take_any_commands_and_no_replies(rt: HostRuntime) -> Result<(), Fail> {
     let alloc = rt.alloc();
     let mut texts: Texts = Vec::new(alloc);
-    check_each(&rt, alloc, &mut texts, &[], COMMANDS, &[], &[]);
-    check_each(&rt, alloc, &mut texts, &[], &[], &[], &[]);
+    check_each(
+        &rt,
+        alloc,
+        Memory::Ample,
+        &mut texts,
+        &[],
+        COMMANDS,
+        &[],
+        &[],
+    );
+    check_each(&rt, alloc, Memory::Ample, &mut texts, &[], &[], &[], &[]);
     assert!(rt; texts.is_empty());
     Ok(())
 }

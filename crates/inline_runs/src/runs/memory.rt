@@ -18,7 +18,7 @@ use std::test::Fail;
 use test_memory::Hoard;
 
 /// All memory that can be had.
-fn all_memory(rt: &impl Abort, alloc: Global) -> Hoard {
+pub fn all_memory(rt: &impl Abort, alloc: Global) -> Hoard {
     Hoard::take(alloc).expect(rt, "memory cannot be used up here")
 }
 
