@@ -24,7 +24,7 @@ const ADDED: &str = "0123456789";
 fn text_at<const N: usize>(rt: &impl Abort, string: &str, start: usize) -> InlineStringN<N> {
     let mut text = InlineStringN::new();
     for _ in 0..start {
-        assert_eq!(rt; apply(&mut text, Push('<')), Done);
+        assert!(rt; apply(&mut text, Push('<')) == Done);
     }
     // The start moves only where a byte stays behind the one that is taken out.
     let needs_byte = string.is_empty() && 0 < start;
@@ -33,10 +33,10 @@ fn text_at<const N: usize>(rt: &impl Abort, string: &str, start: usize) -> Inlin
         Done
     );
     for _ in 0..start {
-        assert_eq!(rt; apply(&mut text, Remove(0)), Char('<'));
+        assert!(rt; apply(&mut text, Remove(0)) == Char('<'));
     }
     if needs_byte {
-        assert_eq!(rt; apply(&mut text, Pop), Char('>'));
+        assert!(rt; apply(&mut text, Pop) == Char('>'));
     }
     assert_eq!(rt; (text.as_str(), text.start), (string, start));
     text
@@ -47,10 +47,10 @@ fn check_done<const N: usize>(rt: &impl Abort, rows: &[(&str, usize, Edit, &str,
 {
     for (i, &(before, start, edit, after, new_start)) in rows.iter().enumerate() {
         let mut text = text_at::<N>(rt, before, start);
-        assert_eq!(rt; apply(&mut text, edit), Done, "in row {i}");
+        let answer = apply(&mut text, edit);
         assert_eq!(rt;
-            (text.as_str(), text.start),
-            (after, new_start),
+            (answer, text.as_str(), text.start),
+            (Done, after, new_start),
             "in row {i}"
         );
     }
@@ -61,10 +61,10 @@ fn check_removed<const N: usize>(rt: &impl Abort, rows: &[(&str, usize, usize, c
 {
     for (i, &(before, start, idx, ch, after, new_start)) in rows.iter().enumerate() {
         let mut text = text_at::<N>(rt, before, start);
-        assert_eq!(rt; apply(&mut text, Remove(idx)), Char(ch), "in row {i}");
+        let answer = apply(&mut text, Remove(idx));
         assert_eq!(rt;
-            (text.as_str(), text.start),
-            (after, new_start),
+            (answer, text.as_str(), text.start),
+            (Char(ch), after, new_start),
             "in row {i}"
         );
     }
@@ -75,8 +75,12 @@ fn check_refused<const N: usize>(rt: &impl Abort, rows: &[(&str, usize, Edit, An
 {
     for (i, &(before, start, edit, answer)) in rows.iter().enumerate() {
         let mut text = text_at::<N>(rt, before, start);
-        assert_eq!(rt; apply(&mut text, edit), answer, "in row {i}");
-        assert_eq!(rt; (text.as_str(), text.start), (before, start), "in row {i}");
+        let given = apply(&mut text, edit);
+        assert_eq!(rt;
+            (given, text.as_str(), text.start),
+            (answer, before, start),
+            "in row {i}"
+        );
     }
 }
 
@@ -90,8 +94,12 @@ fn check_in_turn<const N: usize>(
 {
     let mut text = text_at::<N>(rt, string, 0);
     for (i, &(edit, answer, after, start)) in steps.iter().enumerate() {
-        assert_eq!(rt; apply(&mut text, edit), answer, "in step {i}");
-        assert_eq!(rt; (text.as_str(), text.start), (after, start), "in step {i}");
+        let given = apply(&mut text, edit);
+        assert_eq!(rt;
+            (given, text.as_str(), text.start),
+            (answer, after, start),
+            "in step {i}"
+        );
     }
 }
 
