@@ -42,15 +42,16 @@ impl ScriptFault {
 
 impl fmt::Display for ScriptFault {
     fn fmt<W: fmt::Write>(&self, f: &mut fmt::Formatter<W>) -> fmt::Result {
-        match self {
-            ScriptFault::BadArgument => write!(f, "bad argument"),
-            ScriptFault::TooLong => write!(f, "input too long"),
-            ScriptFault::NotUtf8 => write!(f, "input is not utf-8"),
-            ScriptFault::BadLine(number) => write!(f, "line {number}: bad command"),
-            ScriptFault::NoMemory => write!(f, "no memory"),
-            ScriptFault::Read => write!(f, "read fault"),
-            ScriptFault::Write => write!(f, "write fault"),
-        }
+        let line = match self {
+            ScriptFault::BadArgument => "bad argument",
+            ScriptFault::TooLong => "input too long",
+            ScriptFault::NotUtf8 => "input is not utf-8",
+            ScriptFault::BadLine(number) => return write!(f, "line {number}: bad command"),
+            ScriptFault::NoMemory => "no memory",
+            ScriptFault::Read => "read fault",
+            ScriptFault::Write => "write fault",
+        };
+        f.write_str(line)
     }
 }
 

@@ -8,6 +8,20 @@ use std::process::Abort;
 use std::test::Fail;
 use test_memory::Hoard;
 
+/// The answer to a script, and how many bytes of the room it wrote.
+pub fn written_into(
+    alloc: Global,
+    words: &[String],
+    lines: &[u8],
+    room: &mut [u8],
+) -> (Result<(), ScriptFault>, usize) {
+    let size = room.len();
+    let mut left = room;
+    let mut input = lines;
+    let answer = script(alloc, words, &mut input, &mut left);
+    (answer, size.saturating_sub(left.len()))
+}
+
 /// The answer to a script while no memory can be had, and how many bytes it wrote.
 fn without_memory(
     rt: &impl Abort,
@@ -16,15 +30,10 @@ fn without_memory(
     lines: &[u8],
 ) -> Result<(Result<(), ScriptFault>, usize), Fail> {
     let words = [String::from_str(alloc, word)?];
-    let mut cells = [0; 64];
-    let size = cells.len();
-    let mut room = cells.as_mut_slice();
-    let mut input = lines;
     let hoard = Hoard::take(alloc).expect(rt, "all memory");
-    let result = script(alloc, &words, &mut input, &mut room);
-    let written = size.saturating_sub(room.len());
+    let answer = written_into(alloc, &words, lines, &mut [0; 64]);
     drop(hoard);
-    Ok((result, written))
+    Ok(answer)
 }
 
 #[test]

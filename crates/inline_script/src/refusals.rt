@@ -3,7 +3,7 @@
 //! refused, and `.ci/refusals` says which.
 
 use crate::fault::ScriptFault;
-use crate::script::script;
+use crate::memory::written_into;
 use std::alloc::Global;
 use std::process::Abort;
 use std::test::Fail;
@@ -32,26 +32,31 @@ fn word_of(rt: &impl Abort, alloc: Global, script: &Script, refusals: &mut Refus
     again.expect(rt, "at most one request is refused")
 }
 
-/// Runs a script, and once more where it was refused memory outside of the run.
+/// Runs a script, and once more where it was refused memory outside of the run. Answers how many
+/// bytes it wrote.
+fn accepted(
+    rt: &impl Abort,
+    alloc: Global,
+    of: &Script,
+    room: &mut [u8],
+    refusals: &mut Refusals,
+) -> usize {
+    let words = [word_of(rt, alloc, of, refusals)];
+    let mut answer = written_into(alloc, &words, of.lines, room);
+    if answer.0 == Err(ScriptFault::NoMemory) {
+        assert_first(rt, refusals);
+        assert!(rt; answer.1 == 0);
+        answer = written_into(alloc, &words, of.lines, room);
+    }
+    assert!(rt; answer.0 == Ok(()));
+    answer.1
+}
+
 fn check(rt: &(impl Abort + Print), alloc: Global, of: &Script) -> Result<(), Fail> {
     let mut refusals = Refusals::none();
-    let words = [word_of(rt, alloc, of, &mut refusals)];
     let mut cells = [0; 128];
-    let size = cells.len();
-    let mut room = cells.as_mut_slice();
-    let mut input = of.lines;
-    let mut result = script(alloc, &words, &mut input, &mut room);
-    let mut left = room.len();
-    if result == Err(ScriptFault::NoMemory) {
-        assert_first(rt, &mut refusals);
-        assert_eq!(rt; left, size);
-        let mut room = cells.as_mut_slice();
-        let mut input = of.lines;
-        result = script(alloc, &words, &mut input, &mut room);
-        left = room.len();
-    }
-    assert_eq!(rt; result, Ok(()));
-    let written = cells.get(..size.saturating_sub(left)).unwrap_or(&[]);
+    let count = accepted(rt, alloc, of, &mut cells, &mut refusals);
+    let written = cells.get(..count).unwrap_or(&[]);
     if of.refused.contains(&written) {
         assert_first(rt, &mut refusals);
     } else {

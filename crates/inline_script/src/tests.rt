@@ -6,7 +6,9 @@ use crate::fault::ScriptFault;
 use crate::input::MOST_BYTES;
 use crate::script::script;
 use std::alloc::Global;
+use std::fmt::Debug;
 use std::io::{ErrorKind, Read};
+use std::process::Abort;
 use std::test::Fail;
 use streams::{Endless, Failure, Narrow, OneByOne};
 
@@ -26,16 +28,38 @@ fn words(alloc: Global, texts: &[&str]) -> Result<Vec<String>, Fail> {
     Ok(words)
 }
 
-/// The answer to a script, and what it wrote.
-fn answer<R: Read>(
-    alloc: Global,
+/// Asserts what a script answers and what it writes; `name` tells it from others.
+fn assert_answer<R: Read>(
+    rt: &(impl Abort + AllocGlobal),
+    name: &impl Debug,
     texts: &[&str],
     input: &mut R,
-) -> Result<(Result<(), ScriptFault>, Vec<u8>), Fail> {
-    let words = words(alloc, texts)?;
-    let mut out = Vec::new(alloc);
-    let result = script(alloc, words.as_slice(), input, &mut out);
-    Ok((result, out))
+    wanted: (Result<(), ScriptFault>, &[u8]),
+) -> Result<(), Fail> {
+    let words = words(rt.alloc(), texts)?;
+    let mut out = Vec::new(rt.alloc());
+    let answer = script(rt.alloc(), words.as_slice(), input, &mut out);
+    assert_eq!(rt; (answer, out.as_slice()), wanted, "{name:?}");
+    Ok(())
+}
+
+/// Asserts that a script of the word `inline` is accepted, and what it writes.
+fn assert_accepted<R: Read>(
+    rt: &(impl Abort + AllocGlobal),
+    input: &mut R,
+    output: &[u8],
+) -> Result<(), Fail> {
+    assert_answer(rt, &"accepted", &["inline"], input, (Ok(()), output))
+}
+
+/// Asserts that a script of the word `inline` has this fault, and writes nothing.
+fn assert_rejected<R: Read>(
+    rt: &(impl Abort + AllocGlobal),
+    name: &impl Debug,
+    input: &mut R,
+    fault: ScriptFault,
+) -> Result<(), Fail> {
+    assert_answer(rt, name, &["inline"], input, (Err(fault), b""))
 }
 
 /// A script that is accepted: what it shows, its word, its lines, and what it prints.
@@ -167,12 +191,9 @@ const ACCEPTED: &[Accepted] = &[
 
 #[test]
 fn accepted_scripts_print_each_reply_and_the_text(rt: HostRuntime) -> Result<(), Fail> {
-    let alloc = rt.alloc();
     for &(name, word, lines, output) in ACCEPTED {
         let mut input = lines.as_bytes();
-        let (result, out) = answer(alloc, &[word], &mut input)?;
-        assert_eq!(rt; result, Ok(()), "{name}");
-        assert_eq!(rt; out.as_slice(), output.as_bytes(), "{name}");
+        assert_answer(&rt, &name, &[word], &mut input, (Ok(()), output.as_bytes()))?;
     }
     Ok(())
 }
@@ -212,12 +233,9 @@ const REJECTED: &[(&[u8], ScriptFault)] = &[
 
 #[test]
 fn rejected_scripts_name_their_fault_and_print_nothing(rt: HostRuntime) -> Result<(), Fail> {
-    let alloc = rt.alloc();
     for &(bytes, fault) in REJECTED {
         let mut input = bytes;
-        let (result, out) = answer(alloc, &["inline"], &mut input)?;
-        assert_eq!(rt; result, Err(fault), "at {bytes:?}");
-        assert!(rt; out.is_empty(), "at {bytes:?}");
+        assert_rejected(&rt, &bytes, &mut input, fault)?;
     }
     Ok(())
 }
@@ -225,85 +243,69 @@ fn rejected_scripts_name_their_fault_and_print_nothing(rt: HostRuntime) -> Resul
 /// One line of so many bytes, whose digits need all the room that there is for bytes.
 #[test]
 fn the_longest_line_of_bytes_is_accepted(rt: HostRuntime) -> Result<(), Fail> {
-    let alloc = rt.alloc();
-    let mut line = vec![in alloc; b'6'; MOST_BYTES]?;
+    let mut line = vec![in rt.alloc(); b'6'; MOST_BYTES]?;
     let word = b"replace_bytes ";
     assert!(rt; word.len() <= line.len());
     line.as_mut_slice()[..word.len()].copy_from_slice(word);
     let mut input = line.as_slice();
-    let (result, out) = answer(alloc, &["inline"], &mut input)?;
-    assert_eq!(rt; result, Ok(()));
-    let output: &[u8] = b"wrong length\ntext \nlength 0\nstorage inline\n";
-    assert_eq!(rt; out.as_slice(), output);
-    Ok(())
+    let output = b"wrong length\ntext \nlength 0\nstorage inline\n";
+    assert_accepted(&rt, &mut input, output)
 }
 
 #[test]
-fn the_longest_input_is_accepted_and_a_longer_one_is_not(rt: HostRuntime) -> Result<(), Fail> {
-    let alloc = rt.alloc();
-    let longest = vec![in alloc; b'\n'; MOST_BYTES]?;
-    assert_eq!(rt; longest.len(), 65_536);
+fn the_longest_input_is_accepted(rt: HostRuntime) -> Result<(), Fail> {
+    assert!(rt; MOST_BYTES == 65_536);
+    let longest = vec![in rt.alloc(); b'\n'; MOST_BYTES]?;
     let mut input = longest.as_slice();
-    let (result, out) = answer(alloc, &["inline"], &mut input)?;
-    assert_eq!(rt; result, Ok(()));
-    assert_eq!(rt; out.as_slice(), EMPTY.as_bytes());
-    // Too long comes before not UTF-8.
+    assert_accepted(&rt, &mut input, EMPTY.as_bytes())
+}
+
+#[test]
+fn a_longer_input_is_too_long_even_where_it_is_not_utf8(rt: HostRuntime) -> Result<(), Fail> {
     for byte in [b'\n', 0xff] {
-        let longer = vec![in alloc; byte; MOST_BYTES + 1]?;
+        let longer = vec![in rt.alloc(); byte; MOST_BYTES + 1]?;
         let mut input = longer.as_slice();
-        let (result, out) = answer(alloc, &["inline"], &mut input)?;
-        assert_eq!(rt; result, Err(ScriptFault::TooLong));
-        assert!(rt; out.is_empty());
+        assert_rejected(&rt, &byte, &mut input, ScriptFault::TooLong)?;
     }
     Ok(())
 }
 
+/// Argument words that are not one word that names a text.
+const BAD_WORDS: &[&[&str]] = &[
+    &["stack"],
+    &[],
+    &["inline", "inline"],
+    &["inline "],
+    &["Inline"],
+    &["inline1"],
+    &["heap", "8"],
+    &[""],
+];
+
 #[test]
 fn nothing_is_read_after_a_bad_argument(rt: HostRuntime) -> Result<(), Fail> {
-    let alloc = rt.alloc();
-    let cases: [&[&str]; 8] = [
-        &["stack"],
-        &[],
-        &["inline", "inline"],
-        &["inline "],
-        &["Inline"],
-        &["inline1"],
-        &["heap", "8"],
-        &[""],
-    ];
-    for texts in cases {
+    for &texts in BAD_WORDS {
         let mut input = OneByOne::failing_at(SCRIPT, 1);
-        let (result, out) = answer(alloc, texts, &mut input)?;
-        assert_eq!(rt; result, Err(ScriptFault::BadArgument), "at {texts:?}");
-        assert_eq!(rt; input.reads, 0, "at {texts:?}");
-        assert!(rt; out.is_empty(), "at {texts:?}");
+        let wanted = (Err(ScriptFault::BadArgument), b"".as_slice());
+        assert_answer(&rt, &texts, texts, &mut input, wanted)?;
+        assert!(rt; input.reads == 0, "at {texts:?}");
     }
     Ok(())
 }
 
 #[test]
 fn input_in_single_bytes_is_the_same_input(rt: HostRuntime) -> Result<(), Fail> {
-    let alloc = rt.alloc();
     let mut at_once = SCRIPT;
-    let (result, out) = answer(alloc, &["inline"], &mut at_once)?;
-    assert_eq!(rt; result, Ok(()));
-    assert_eq!(rt; out.as_slice(), OUTPUT);
-    let mut one_by_one = OneByOne::new(SCRIPT);
-    let (result, out) = answer(alloc, &["inline"], &mut one_by_one)?;
-    assert_eq!(rt; result, Ok(()));
-    assert_eq!(rt; out.as_slice(), OUTPUT);
-    Ok(())
+    assert_accepted(&rt, &mut at_once, OUTPUT)?;
+    assert_accepted(&rt, &mut OneByOne::new(SCRIPT), OUTPUT)
 }
 
 #[test]
 fn a_failed_read_is_a_fault_and_prints_nothing(rt: HostRuntime) -> Result<(), Fail> {
-    let alloc = rt.alloc();
     for read in [1, 2] {
         let mut input = OneByOne::failing_at(SCRIPT, read);
-        let (result, out) = answer(alloc, &["inline"], &mut input)?;
-        assert_eq!(rt; result, Err(ScriptFault::Read));
-        assert_eq!(rt; input.reads, read);
-        assert!(rt; out.is_empty());
+        assert_rejected(&rt, &read, &mut input, ScriptFault::Read)?;
+        assert!(rt; input.reads == read);
     }
     Ok(())
 }
@@ -311,61 +313,81 @@ fn a_failed_read_is_a_fault_and_prints_nothing(rt: HostRuntime) -> Result<(), Fa
 #[test]
 fn input_without_an_end_is_too_long(rt: HostRuntime) -> Result<(), Fail> {
     let mut input = Endless { given: 0 };
-    let (result, out) = answer(rt.alloc(), &["inline"], &mut input)?;
-    assert_eq!(rt; result, Err(ScriptFault::TooLong));
-    assert_eq!(rt; input.given, 65_537);
-    assert!(rt; out.is_empty());
+    assert_rejected(&rt, &"without an end", &mut input, ScriptFault::TooLong)?;
+    assert!(rt; input.given == 65_537);
     Ok(())
+}
+
+/// Asserts what a script answers and writes where this write fails, and answers whether there was
+/// such a write.
+fn assert_failed_at(
+    rt: &(impl Abort + AllocGlobal),
+    words: &[String],
+    write: usize,
+    failure: Failure,
+) -> bool {
+    let mut cells = [0; 64];
+    let mut out = Narrow::failing_at(&mut cells, write, failure);
+    let mut input = SCRIPT;
+    let answer = script(rt.alloc(), words, &mut input, &mut out);
+    let (taken, has_failed) = (out.taken, out.has_failed());
+    let written = cells.get(..taken).unwrap_or(&[]);
+    let wanted = if has_failed {
+        Err(ScriptFault::Write)
+    } else {
+        Ok(())
+    };
+    assert!(rt; answer == wanted, "{failure:?} at {write}");
+    assert!(rt; OUTPUT.starts_with(written), "{failure:?} at {write}");
+    assert!(rt;
+        has_failed == (taken < OUTPUT.len()),
+        "{failure:?} at {write}"
+    );
+    has_failed
+}
+
+/// So many writes of the output fail, one at a time.
+fn failures_of(rt: &(impl Abort + AllocGlobal), words: &[String], failure: Failure) -> u8 {
+    let mut failures = 0u8;
+    for write in 1..=OUTPUT.len() {
+        if assert_failed_at(rt, words, write, failure) {
+            failures = failures.saturating_add(1);
+        }
+    }
+    failures
 }
 
 #[test]
 fn a_failed_write_is_a_fault_after_a_part_of_the_output(rt: HostRuntime) -> Result<(), Fail> {
-    let alloc = rt.alloc();
-    let words = words(alloc, &["inline"])?;
+    let words = words(rt.alloc(), &["inline"])?;
     for failure in [
         Failure::Error(ErrorKind::Other),
         Failure::Error(ErrorKind::Interrupted),
         Failure::NoByte,
     ] {
-        let mut failures = 0u8;
-        for write in 1..=OUTPUT.len() {
-            let mut cells = [0; 64];
-            let mut out = Narrow::failing_at(&mut cells, write, failure);
-            let mut input = SCRIPT;
-            let result = script(alloc, words.as_slice(), &mut input, &mut out);
-            let (taken, has_failed) = (out.taken, out.has_failed());
-            let written = cells.get(..taken).unwrap_or(&[]);
-            if has_failed {
-                failures = failures.saturating_add(1);
-                assert_eq!(rt; result, Err(ScriptFault::Write), "{failure:?} at {write}");
-                assert!(rt; taken < OUTPUT.len(), "{failure:?} at {write}");
-                assert!(rt; OUTPUT.starts_with(written), "{failure:?} at {write}");
-            } else {
-                assert_eq!(rt; result, Ok(()), "{failure:?} at {write}");
-                assert_eq!(rt; written, OUTPUT, "{failure:?} at {write}");
-            }
-        }
         // The output has six lines, and a write takes three bytes at most.
+        let failures = failures_of(&rt, words.as_slice(), failure);
         assert!(rt; failures >= 15, "{failures} failures");
     }
     Ok(())
 }
 
+/// Each fault, the line that it is shown as, and the status that the program ends with.
+const FAULTS: &[(ScriptFault, &str, u8)] = &[
+    (ScriptFault::BadArgument, "bad argument", 2),
+    (ScriptFault::TooLong, "input too long", 2),
+    (ScriptFault::NotUtf8, "input is not utf-8", 2),
+    (ScriptFault::BadLine(10), "line 10: bad command", 2),
+    (ScriptFault::NoMemory, "no memory", 1),
+    (ScriptFault::Read, "read fault", 1),
+    (ScriptFault::Write, "write fault", 1),
+];
+
 #[test]
 fn each_fault_has_its_line_and_its_status(rt: HostRuntime) -> Result<(), Fail> {
-    let alloc = rt.alloc();
-    for (fault, line, status) in [
-        (ScriptFault::BadArgument, "bad argument", 2),
-        (ScriptFault::TooLong, "input too long", 2),
-        (ScriptFault::NotUtf8, "input is not utf-8", 2),
-        (ScriptFault::BadLine(10), "line 10: bad command", 2),
-        (ScriptFault::NoMemory, "no memory", 1),
-        (ScriptFault::Read, "read fault", 1),
-        (ScriptFault::Write, "write fault", 1),
-    ] {
-        let shown = format!(in alloc; "{fault}")?;
-        assert_eq!(rt; shown.as_str(), line);
-        assert_eq!(rt; fault.status(), status, "{line}");
+    for &(fault, line, status) in FAULTS {
+        let shown = format!(in rt.alloc(); "{fault}")?;
+        assert_eq!(rt; (shown.as_str(), fault.status()), (line, status));
     }
     Ok(())
 }
