@@ -3,22 +3,15 @@
 //! The argument says which text the script begins with; the script comes from standard input.
 #![tactic(auto)]
 
-mod cut;
-mod fault;
-mod input;
-mod line;
 #[cfg(test)]
 mod memory;
-mod output;
 #[cfg(test)]
 mod refusals;
-mod script;
-mod start;
 #[cfg(test)]
 mod tests;
 
-use crate::fault::ScriptFault;
-use crate::script::script;
+use script_language::ScriptFault;
+use script_language::script::script;
 use std::env::Env;
 use std::process::ExitCode;
 use std::{env, io};

@@ -1,8 +1,8 @@
 //! Scripts with every request for memory refused: a test holds all the memory that can be had
 //! while its call runs.
 
-use crate::fault::ScriptFault;
-use crate::script::script;
+use script_language::ScriptFault;
+use script_language::script::script;
 use std::alloc::Global;
 use std::process::Abort;
 use std::test::Fail;

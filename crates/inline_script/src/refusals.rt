@@ -2,8 +2,8 @@
 //! refused, and say `refused` where they met the refusal. At most one request of a test is
 //! refused, and `.ci/refusals` says which.
 
-use crate::fault::ScriptFault;
 use crate::memory::written_into;
+use script_language::ScriptFault;
 use std::alloc::Global;
 use std::process::Abort;
 use std::test::Fail;

@@ -2,9 +2,8 @@
 
 mod streams;
 
-use crate::fault::ScriptFault;
-use crate::input::MOST_BYTES;
-use crate::script::script;
+use script_language::script::script;
+use script_language::{MOST_BYTES, ScriptFault};
 use std::alloc::Global;
 use std::fmt::Debug;
 use std::io::{ErrorKind, Read};

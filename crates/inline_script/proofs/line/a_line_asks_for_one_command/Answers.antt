@@ -1,5 +1,0 @@
-use Rattle.inline_script.proofs.OneCommand.{one_command}
-use Rattle.inline_script.proofs.line.a_line_asks_for_one_command.Goals as goal
-
-pub returns : goal.returns
-returns c = one_command

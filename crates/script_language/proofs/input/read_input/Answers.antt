@@ -1,0 +1,23 @@
+use Rattle.std.proofs.Common.{rules, ◌<◌, take, take_all, length-take-le, sym, subst, ap, ◌∙◌}
+use Rattle.std.proofs.lemmas.List.{take-append-le}
+use Rattle.std.proofs.KnownBytes.{Consumes-whole}
+use Rattle.script_language.proofs.Pieces.{input_is_longer}
+use Rattle.script_language.proofs.input.read_input.Goals as goal
+
+pub returns-clause-whole : goal.returns-clause-whole
+returns-clause-whole g c =
+    let filled = c.in_ok-length.ensures in
+    let room = c.fill.new.room in
+    let size = c.in_ok-bytes.bytes.len in
+    let kept = take-append-le size room _ (search rules) ∙ take_all size room (search rules) in
+    Consumes-whole _ _ _ _ filled.bytes (filled.end (search rules))
+    (c.truncate.ensures.items ∙ ap (take c.in_ok-length.length) kept)
+
+pub returns-then-length-gt-MOST_BYTES-clause-too_long :
+    goal.returns-then-length-gt-MOST_BYTES-clause-too_long
+returns-then-length-gt-MOST_BYTES-clause-too_long g c is =
+    let filled = c.in_ok-length.ensures in
+    let room = c.fill.new.room in
+    let count = sym (length-take-le c.in_ok-length.length room filled.bound) in
+    let more = subst (λ n. 65536 < n) count c.if-length-gt-MOST_BYTES.true in
+    input_is_longer 65536 _ _ _ filled.bytes more

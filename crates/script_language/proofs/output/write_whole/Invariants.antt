@@ -1,0 +1,11 @@
+-- What no longer stands in the rest was written.
+use Rattle.std.proofs.Common.{◌≡◌, ℕ, List, ◌++◌, length}
+use Rattle.std.specs.Io.KnownBytes.{Appends}
+use Rattle.script_language.proofs.output.write_whole.Given as goal
+
+abbrev pub invariant-loop-rest : goal.invariant-loop-rest
+invariant-loop-rest g l = (done : List ℕ) × (l.initial.rest ≡ done ++ l.rest)
+    × Appends (g.W.Write.contents l.initial.out) (g.W.Write.contents l.out) done
+
+abbrev pub decreases-loop-rest : goal.decreases-loop-rest
+decreases-loop-rest g l = length l.rest

@@ -1,0 +1,30 @@
+use Rattle.std.proofs.Common.{rules, ◌≡◌, ap, length, arith, []}
+use Rattle.script_language.proofs.Scripts.{IsNextLine, ask_more, ask_no_more, read_line}
+use Rattle.script_language.proofs.script.commands_of.Goals as goal
+use Rattle.script_language.proofs.script.commands_of.Goals.{then-not-is_empty+in-Some-command_of+in_ok-push, else-not-is_empty}
+
+pub loop-rest-preserved : goal.loop-rest-preserved
+loop-rest-preserved c =
+    let before = c.loop-rest.invariant in
+    let line = c.first_line.result.0.now in
+    let next : IsNextLine c.loop-rest.rest c.first_line.result.1 line = record {
+      text = c.in-Some.text;
+      is = c.in-Some.is;
+      first = c.first_line.ensures.line;
+      size = c.first_line.ensures.size;
+    } in
+    elim c.if-not-is_empty.branch [
+      | then-not-is_empty+in-Some-command_of+in_ok-push w ↦
+          let found = w.in-Some-command_of.ensures in
+          let bytes : ¬ (line ≡ []) = λ none. search (rules, ap length none) in
+          let more = ask_more before.done _ line _ before.asked bytes found.some in
+          read_line _ _ _ _ _ _ _ _ line before next
+          (rw w.commands-is (rw (w.push.ensures.items) (rw w.in_ok-push.was more)))
+          (rw w.left-is found.left)
+      | else-not-is_empty w ↦
+          let none : length line ≡ 0 = search rules in
+          let more = ask_no_more before.done _ line before.asked none in
+          read_line _ _ _ _ _ _ _ _ line before next
+          (rw w.commands-is more)
+          (rw w.left-is (omega arith))
+    ]

@@ -1,0 +1,85 @@
+//! Prints what a run gave. It takes no memory.
+ghost use Rattle.std.specs.Prelude.{◌≡◌, IfErr, OnOk};
+ghost use Rattle.std.specs.Io.KnownBytes.{Appends};
+ghost use Rattle.script_language.specs.Output.{labelled_line, printed, reply_line, storage_name};
+
+use crate::fault::ScriptFault;
+use inlinable_string::run::Reply;
+use inlinable_string::{Storage, StringExt};
+use itoa::Buffer;
+use std::io::Write;
+
+/// Prints a line for each reply, and then the text, its length and its storage.
+pub fn print<S: StringExt, W: Write>(
+    out: &mut W,
+    replies: &[Reply],
+    text: &S,
+) -> Result<(), ScriptFault>
+    ensures written { OnOk result (Appends (W.contents out.old) (W.contents out.new)
+        (printed replies.now (S.state text.now))) }
+    ensures fault { IfErr result (λ fault. fault ≡ ScriptFault.Write) }
+{
+    for reply in replies {
+        print_reply(out, *reply)?;
+    }
+    print_line(out, b"text ", text.as_bytes())?;
+    let mut digits = Buffer::new();
+    print_line(out, b"length ", digits.format(text.len()).as_bytes())?;
+    print_line(out, b"storage ", storage_name(text.storage()))
+}
+
+fn print_reply<W: Write>(out: &mut W, reply: Reply) -> Result<(), ScriptFault>
+    ensures written { OnOk result (Appends (W.contents out.old) (W.contents out.new)
+        (reply_line reply)) }
+    ensures fault { IfErr result (λ fault. fault ≡ ScriptFault.Write) }
+{
+    match reply {
+        Reply::Done => write_whole(out, b"done\n"),
+        Reply::Char(character) => {
+            let mut bytes = [0; 4];
+            print_line(out, b"char ", character.encode_utf8(&mut bytes).as_bytes())
+        }
+        Reply::NoChar => write_whole(out, b"none\n"),
+        Reply::BadPlace => write_whole(out, b"bad place\n"),
+        Reply::NotUtf8 => write_whole(out, b"not utf-8\n"),
+        Reply::WrongLength => write_whole(out, b"wrong length\n"),
+        Reply::NoMemory => write_whole(out, b"no memory\n"),
+    }
+}
+
+fn storage_name(storage: Storage) -> &'static [u8]
+    ensures { result.now ≡ storage_name storage }
+{
+    match storage {
+        Storage::Inline => b"inline",
+        Storage::Heap => b"heap",
+    }
+}
+
+fn print_line<W: Write>(out: &mut W, label: &[u8], value: &[u8]) -> Result<(), ScriptFault>
+    ensures written { OnOk result (Appends (W.contents out.old) (W.contents out.new)
+        (labelled_line label.now value.now)) }
+    ensures fault { IfErr result (λ fault. fault ≡ ScriptFault.Write) }
+{
+    write_whole(out, label)?;
+    write_whole(out, value)?;
+    write_whole(out, b"\n")
+}
+
+/// Writes all of the bytes.
+///
+/// Every failed write is a fault, an interrupted one too, and so is one that takes no byte: so
+/// writing ends.
+fn write_whole<W: Write>(out: &mut W, bytes: &[u8]) -> Result<(), ScriptFault>
+    ensures written { OnOk result (Appends (W.contents out.old) (W.contents out.new) bytes.now) }
+    ensures fault { IfErr result (λ fault. fault ≡ ScriptFault.Write) }
+{
+    let mut rest = bytes;
+    while !rest.is_empty() {
+        match out.write(rest) {
+            Ok(0) | Err(_) => return Err(ScriptFault::Write),
+            Ok(count) => rest = &rest[count..],
+        }
+    }
+    Ok(())
+}
