@@ -1,7 +1,7 @@
 //! Where the text starts in its array, which nothing outside of this module sees.
 //!
-//! A row of a table has a text and its start, an edit, and the text and its start after it. Each
-//! row begins with a text of its own.
+//! Each row of a table begins with a text of its own, and the steps of a list are made in turn on
+//! one text. The name of a table ends with the limit of its texts.
 ghost use Rattle.std.specs.Prelude.{◌≤◌};
 
 use super::{InlineStringN, ReplaceError};
@@ -14,92 +14,98 @@ use std::process::Abort;
 
 mod edits;
 
+/// An edit, the answer to it, and the text and its start after it.
+type Step<'a> = (Edit<'a>, Answer, &'a str, usize);
+
+/// A text and its start, an edit, the answer to it, and the text and its start after it.
+type Row<'a> = (&'a str, usize, Edit<'a>, Answer, &'a str, usize);
+
+const TEN: &str = "abcdefghij";
+
+const ELEVEN: &str = "abcdefghijk";
+
+const TWELVE: &str = "abcdefghijkl";
+
+const TWENTY: &str = "abcdefghijklmnopqrst";
+
 /// 30 bytes, no two of them alike.
 const FULL: &str = "abcdefghijklmnopqrstuvwxyzABCD";
 
+/// A character of each length, 10 bytes in all.
+const LENGTHS: &str = "aé€𝄞";
+
 /// 10 bytes to put in.
-const ADDED: &str = "0123456789";
+const NEW: &str = "0123456789";
+
+fn check_text<const N: usize>(
+    rt: &impl Abort,
+    text: &InlineStringN<N>,
+    string: &str,
+    start: usize,
+) {
+    assert_eq!(rt; (text.as_str(), text.start), (string, start));
+}
+
+/// Makes an edit so many times.
+fn apply_times<const N: usize>(
+    rt: &impl Abort,
+    text: &mut InlineStringN<N>,
+    times: usize,
+    edit: Edit,
+    answer: Answer,
+) {
+    for _ in 0..times {
+        assert!(rt; apply(text, edit) == answer);
+    }
+}
 
 /// A text at a start: bytes are put before it and taken out again.
 fn text_at<const N: usize>(rt: &impl Abort, string: &str, start: usize) -> InlineStringN<N> {
-    let mut text = InlineStringN::new();
-    for _ in 0..start {
-        assert!(rt; apply(&mut text, Push('<')) == Done);
-    }
     // The start moves only where a byte stays behind the one that is taken out.
     let needs_byte = string.is_empty() && 0 < start;
-    assert_eq!(rt;
-        apply(&mut text, PushStr(if needs_byte { ">" } else { string })),
-        Done
-    );
-    for _ in 0..start {
-        assert!(rt; apply(&mut text, Remove(0)) == Char('<'));
-    }
-    if needs_byte {
-        assert!(rt; apply(&mut text, Pop) == Char('>'));
-    }
-    assert_eq!(rt; (text.as_str(), text.start), (string, start));
+    let kept = if needs_byte { ">" } else { string };
+    let mut text = InlineStringN::new();
+    apply_times(rt, &mut text, start, Push('<'), Done);
+    apply_times(rt, &mut text, 1, PushStr(kept), Done);
+    apply_times(rt, &mut text, start, Remove(0), Char('<'));
+    apply_times(rt, &mut text, usize::from(needs_byte), Pop, Char('>'));
+    check_text(rt, &text, string, start);
     text
 }
 
-fn check_done<const N: usize>(rt: &impl Abort, rows: &[(&str, usize, Edit, &str, usize)])
+/// Makes the step on the text.
+fn check_step<const N: usize>(rt: &impl Abort, text: &mut InlineStringN<N>, i: usize, step: Step) {
+    let (edit, answer, after, start) = step;
+    let given = apply(text, edit);
+    assert_eq!(rt;
+        (given, text.as_str(), text.start),
+        (answer, after, start),
+        "in row {i}"
+    );
+}
+
+fn check_row<const N: usize>(rt: &impl Abort, i: usize, row: &Row)
     requires { N ≤ 300 }
 {
-    for (i, &(before, start, edit, after, new_start)) in rows.iter().enumerate() {
-        let mut text = text_at::<N>(rt, before, start);
-        let answer = apply(&mut text, edit);
-        assert_eq!(rt;
-            (answer, text.as_str(), text.start),
-            (Done, after, new_start),
-            "in row {i}"
-        );
+    let &(before, start, edit, answer, after, new_start) = row;
+    let mut text = text_at::<N>(rt, before, start);
+    check_step(rt, &mut text, i, (edit, answer, after, new_start));
+}
+
+fn check<const N: usize>(rt: &impl Abort, rows: &[Row])
+    requires { N ≤ 300 }
+{
+    for (i, row) in rows.iter().enumerate() {
+        check_row::<N>(rt, i, row);
     }
 }
 
-fn check_removed<const N: usize>(rt: &impl Abort, rows: &[(&str, usize, usize, char, &str, usize)])
-    requires { N ≤ 300 }
-{
-    for (i, &(before, start, idx, ch, after, new_start)) in rows.iter().enumerate() {
-        let mut text = text_at::<N>(rt, before, start);
-        let answer = apply(&mut text, Remove(idx));
-        assert_eq!(rt;
-            (answer, text.as_str(), text.start),
-            (Char(ch), after, new_start),
-            "in row {i}"
-        );
-    }
-}
-
-fn check_refused<const N: usize>(rt: &impl Abort, rows: &[(&str, usize, Edit, Answer)])
-    requires { N ≤ 300 }
-{
-    for (i, &(before, start, edit, answer)) in rows.iter().enumerate() {
-        let mut text = text_at::<N>(rt, before, start);
-        let given = apply(&mut text, edit);
-        assert_eq!(rt;
-            (given, text.as_str(), text.start),
-            (answer, before, start),
-            "in row {i}"
-        );
-    }
-}
-
-/// Makes the edits in turn on one text.
-fn check_in_turn<const N: usize>(
-    rt: &impl Abort,
-    string: &str,
-    steps: &[(Edit, Answer, &str, usize)],
-)
+fn check_in_turn<const N: usize>(rt: &impl Abort, string: &str, steps: &[Step])
     requires { N ≤ 300 }
 {
     let mut text = text_at::<N>(rt, string, 0);
-    for (i, &(edit, answer, after, start)) in steps.iter().enumerate() {
-        let given = apply(&mut text, edit);
-        assert_eq!(rt;
-            (given, text.as_str(), text.start),
-            (answer, after, start),
-            "in step {i}"
-        );
+    for (i, step) in steps.iter().enumerate() {
+        check_step(rt, &mut text, i, *step);
     }
 }
 
@@ -114,349 +120,396 @@ fn check_bytes<const N: usize>(rt: &impl Abort, rows: &[(&str, usize, &[u8])])
 
 #[test]
 fn a_text_that_is_made_starts_at_the_front(rt: HostRuntime) {
-    assert_eq!(rt; InlineStringN::<30>::new().start, 0);
-    assert_eq!(rt; InlineStringN::<30>::default().start, 0);
-    let text = InlineStringN::<5>::from("abc");
-    assert_eq!(rt; (text.as_str(), text.start), ("abc", 0));
+    check_text::<30>(&rt, &InlineStringN::new(), "", 0);
+    check_text::<30>(&rt, &InlineStringN::default(), "", 0);
+    check_text::<5>(&rt, &InlineStringN::from("abc"), "abc", 0);
 }
+
+const FRONT_30: &[Step] = &[
+    (Remove(0), Char('a'), "bcdef", 1),
+    (Remove(3), Char('e'), "bcdf", 1),
+    (Insert(0, 'z'), Done, "zbcdf", 0),
+    (Insert(0, 'y'), Done, "yzbcdf", 0),
+];
+
+const FRONT_4: &[Step] = &[
+    (Remove(0), Char('a'), "bcd", 1),
+    (Push('e'), Done, "bcde", 0),
+    (Push('f'), NotEnoughSpace, "bcde", 0),
+];
 
 #[test]
 fn removals_at_the_front_leave_room_that_insertions_there_take(rt: HostRuntime) {
-    let steps = [
-        (Remove(0), Char('a'), "bcdef", 1),
-        (Remove(3), Char('e'), "bcdf", 1),
-        (Insert(0, 'z'), Done, "zbcdf", 0),
-        (Insert(0, 'y'), Done, "yzbcdf", 0),
-    ];
-    check_in_turn::<30>(&rt, "abcdef", &steps);
-
-    let steps = [
-        (Remove(0), Char('a'), "bcd", 1),
-        (Push('e'), Done, "bcde", 0),
-        (Push('f'), NotEnoughSpace, "bcde", 0),
-    ];
-    check_in_turn::<4>(&rt, "abcd", &steps);
+    check_in_turn::<30>(&rt, "abcdef", FRONT_30);
+    check_in_turn::<4>(&rt, "abcd", FRONT_4);
 }
+
+const THIRTY_A: &str = "aaaaaaaaaaaaaaaaaaaaaaaaaaaaaa";
+
+const TWENTY_NINE_A: &str = "aaaaaaaaaaaaaaaaaaaaaaaaaaaaa";
+
+const TWENTY_EIGHT_A: &str = "aaaaaaaaaaaaaaaaaaaaaaaaaaaa";
+
+const ROOM_IN_FRONT_30: &[Step] = &[
+    (Remove(0), Char('a'), TWENTY_NINE_A, 1),
+    (Remove(0), Char('a'), TWENTY_EIGHT_A, 2),
+    (PushStr("bc"), Done, "aaaaaaaaaaaaaaaaaaaaaaaaaaaabc", 0),
+];
+
+const ROOM_ON_EACH_SIDE_30: &[Step] = &[
+    (Remove(0), Char('a'), TWENTY_NINE_A, 1),
+    (Pop, Char('a'), TWENTY_EIGHT_A, 1),
+    (Push('€'), NotEnoughSpace, TWENTY_EIGHT_A, 1),
+    (Push('é'), Done, "aaaaaaaaaaaaaaaaaaaaaaaaaaaaé", 0),
+];
 
 #[test]
 fn a_push_takes_the_room_in_front_where_the_back_is_too_small(rt: HostRuntime) {
-    let thirty = "aaaaaaaaaaaaaaaaaaaaaaaaaaaaaa";
-    let twenty_nine = "aaaaaaaaaaaaaaaaaaaaaaaaaaaaa";
-    let twenty_eight = "aaaaaaaaaaaaaaaaaaaaaaaaaaaa";
-    let steps = [
-        (Remove(0), Char('a'), twenty_nine, 1),
-        (Remove(0), Char('a'), twenty_eight, 2),
-        (PushStr("bc"), Done, "aaaaaaaaaaaaaaaaaaaaaaaaaaaabc", 0),
-    ];
-    check_in_turn::<30>(&rt, thirty, &steps);
-
-    let steps = [
-        (Remove(0), Char('a'), twenty_nine, 1),
-        (Pop, Char('a'), twenty_eight, 1),
-        (Push('€'), NotEnoughSpace, twenty_eight, 1),
-        (Push('é'), Done, "aaaaaaaaaaaaaaaaaaaaaaaaaaaaé", 0),
-    ];
-    check_in_turn::<30>(&rt, thirty, &steps);
+    check_in_turn::<30>(&rt, THIRTY_A, ROOM_IN_FRONT_30);
+    check_in_turn::<30>(&rt, THIRTY_A, ROOM_ON_EACH_SIDE_30);
 }
+
+const BOTH_SIDES_30: &[Row] = &[
+    (TEN, 10, Insert(0, '-'), Done, "-abcdefghij", 9),
+    (TEN, 10, Insert(4, '-'), Done, "abcd-efghij", 9),
+    (TEN, 10, Insert(5, '-'), Done, "abcde-fghij", 10),
+    (TEN, 10, Insert(10, '-'), Done, "abcdefghij-", 10),
+    (TEN, 10, Push('-'), Done, "abcdefghij-", 10),
+    (TEN, 10, Insert(4, '𝄞'), Done, "abcd𝄞efghij", 6),
+    (TEN, 10, Insert(5, '𝄞'), Done, "abcde𝄞fghij", 10),
+    (ELEVEN, 10, Insert(5, '-'), Done, "abcde-fghijk", 9),
+    (ELEVEN, 10, Insert(6, '-'), Done, "abcdef-ghijk", 10),
+    (LENGTHS, 10, InsertStr(3, "xy"), Done, "aéxy€𝄞", 8),
+    (LENGTHS, 10, InsertStr(6, "xy"), Done, "aé€xy𝄞", 10),
+    // Each side has exactly as many bytes as are put in.
+    (TEN, 10, InsertStr(4, NEW), Done, "abcd0123456789efghij", 0),
+    (TEN, 10, InsertStr(5, NEW), Done, "abcde0123456789fghij", 10),
+    (TEN, 10, PushStr(NEW), Done, "abcdefghij0123456789", 10),
+];
+
+const BOTH_SIDES_8: &[Row] = &[
+    ("abc", 3, Insert(1, 'é'), Done, "aébc", 1),
+    ("abc", 3, Insert(2, 'é'), Done, "abéc", 3),
+    ("abc", 3, Insert(1, '-'), Done, "a-bc", 2),
+    ("abc", 3, Insert(2, '-'), Done, "ab-c", 3),
+];
+
+const BOTH_SIDES_4: &[Row] = &[
+    ("ab", 1, Insert(0, '-'), Done, "-ab", 0),
+    ("ab", 1, Insert(1, '-'), Done, "a-b", 1),
+    ("é", 1, InsertStr(0, "-"), Done, "-é", 0),
+    ("é", 1, InsertStr(2, "-"), Done, "é-", 1),
+];
 
 #[test]
 fn the_part_with_less_to_move_moves_where_both_sides_have_room(rt: HostRuntime) {
-    let ten = "abcdefghij";
-    let rows = [
-        (ten, 10, Insert(0, '-'), "-abcdefghij", 9),
-        (ten, 10, Insert(4, '-'), "abcd-efghij", 9),
-        (ten, 10, Insert(5, '-'), "abcde-fghij", 10),
-        (ten, 10, Insert(10, '-'), "abcdefghij-", 10),
-        (ten, 10, Push('-'), "abcdefghij-", 10),
-        (ten, 10, Insert(4, '𝄞'), "abcd𝄞efghij", 6),
-        (ten, 10, Insert(5, '𝄞'), "abcde𝄞fghij", 10),
-        ("abcdefghijk", 10, Insert(5, '-'), "abcde-fghijk", 9),
-        ("abcdefghijk", 10, Insert(6, '-'), "abcdef-ghijk", 10),
-        ("aé€𝄞", 10, InsertStr(3, "xy"), "aéxy€𝄞", 8),
-        ("aé€𝄞", 10, InsertStr(6, "xy"), "aé€xy𝄞", 10),
-        // Each side has exactly as many bytes as are put in.
-        (ten, 10, InsertStr(4, ADDED), "abcd0123456789efghij", 0),
-        (ten, 10, InsertStr(5, ADDED), "abcde0123456789fghij", 10),
-        (ten, 10, PushStr(ADDED), "abcdefghij0123456789", 10),
-    ];
-    check_done::<30>(&rt, &rows);
-
-    let rows = [
-        ("abc", 3, Insert(1, 'é'), "aébc", 1),
-        ("abc", 3, Insert(2, 'é'), "abéc", 3),
-        ("abc", 3, Insert(1, '-'), "a-bc", 2),
-        ("abc", 3, Insert(2, '-'), "ab-c", 3),
-    ];
-    check_done::<8>(&rt, &rows);
-
-    let rows = [
-        ("ab", 1, Insert(0, '-'), "-ab", 0),
-        ("ab", 1, Insert(1, '-'), "a-b", 1),
-        ("é", 1, InsertStr(0, "-"), "-é", 0),
-        ("é", 1, InsertStr(2, "-"), "é-", 1),
-    ];
-    check_done::<4>(&rt, &rows);
+    check::<30>(&rt, BOTH_SIDES_30);
+    check::<8>(&rt, BOTH_SIDES_8);
+    check::<4>(&rt, BOTH_SIDES_4);
 }
+
+const ONE_SIDE_30: &[Row] = &[
+    // One byte is wanting in front.
+    (TEN, 9, InsertStr(0, NEW), Done, "0123456789abcdefghij", 9),
+    (TEN, 9, InsertStr(4, NEW), Done, "abcd0123456789efghij", 9),
+    (
+        ELEVEN,
+        9,
+        InsertStr(0, NEW),
+        Done,
+        "0123456789abcdefghijk",
+        9,
+    ),
+    // One byte is wanting behind.
+    (TEN, 11, InsertStr(6, NEW), Done, "abcdef0123456789ghij", 1),
+    (TEN, 11, InsertStr(10, NEW), Done, "abcdefghij0123456789", 1),
+    (TEN, 11, PushStr(NEW), Done, "abcdefghij0123456789", 1),
+    (ELEVEN, 10, PushStr(NEW), Done, "abcdefghijk0123456789", 0),
+    (TEN, 18, Push('€'), Done, "abcdefghij€", 15),
+    // A side has no byte at all.
+    (TEN, 0, Insert(0, '-'), Done, "-abcdefghij", 0),
+    (TEN, 0, Insert(0, '𝄞'), Done, "𝄞abcdefghij", 0),
+    (TEN, 20, Insert(6, '-'), Done, "abcdef-ghij", 19),
+    (TEN, 20, Insert(10, '𝄞'), Done, "abcdefghij𝄞", 16),
+    (TEN, 20, Push('-'), Done, "abcdefghij-", 19),
+];
+
+const ONE_SIDE_8: &[Row] = &[
+    ("abc", 3, Insert(2, '€'), Done, "ab€c", 0),
+    ("abc", 2, Insert(0, '€'), Done, "€abc", 2),
+    ("€", 5, PushStr("abcde"), Done, "€abcde", 0),
+    ("€", 0, InsertStr(0, "abcde"), Done, "abcde€", 0),
+];
 
 #[test]
 fn the_part_on_the_one_side_with_room_moves(rt: HostRuntime) {
-    let ten = "abcdefghij";
-    let eleven = "abcdefghijk";
-    let rows = [
-        // One byte is wanting in front.
-        (ten, 9, InsertStr(0, ADDED), "0123456789abcdefghij", 9),
-        (ten, 9, InsertStr(4, ADDED), "abcd0123456789efghij", 9),
-        (eleven, 9, InsertStr(0, ADDED), "0123456789abcdefghijk", 9),
-        // One byte is wanting behind.
-        (ten, 11, InsertStr(6, ADDED), "abcdef0123456789ghij", 1),
-        (ten, 11, InsertStr(10, ADDED), "abcdefghij0123456789", 1),
-        (ten, 11, PushStr(ADDED), "abcdefghij0123456789", 1),
-        (eleven, 10, PushStr(ADDED), "abcdefghijk0123456789", 0),
-        (ten, 18, Push('€'), "abcdefghij€", 15),
-        // A side has no byte at all.
-        (ten, 0, Insert(0, '-'), "-abcdefghij", 0),
-        (ten, 0, Insert(0, '𝄞'), "𝄞abcdefghij", 0),
-        (ten, 20, Insert(6, '-'), "abcdef-ghij", 19),
-        (ten, 20, Insert(10, '𝄞'), "abcdefghij𝄞", 16),
-        (ten, 20, Push('-'), "abcdefghij-", 19),
-    ];
-    check_done::<30>(&rt, &rows);
-
-    let rows = [
-        ("abc", 3, Insert(2, '€'), "ab€c", 0),
-        ("abc", 2, Insert(0, '€'), "€abc", 2),
-        ("€", 5, PushStr("abcde"), "€abcde", 0),
-        ("€", 0, InsertStr(0, "abcde"), "abcde€", 0),
-    ];
-    check_done::<8>(&rt, &rows);
+    check::<30>(&rt, ONE_SIDE_30);
+    check::<8>(&rt, ONE_SIDE_8);
 }
+
+const LETTERS: &str = "abcdefghijklmnopqrstuvwxyz";
+
+const SIDES_TOGETHER_30: &[Row] = &[
+    // One byte is wanting on each side.
+    (
+        TWELVE,
+        9,
+        InsertStr(0, NEW),
+        Done,
+        "0123456789abcdefghijkl",
+        0,
+    ),
+    (
+        TWELVE,
+        9,
+        InsertStr(6, NEW),
+        Done,
+        "abcdef0123456789ghijkl",
+        0,
+    ),
+    (
+        TWELVE,
+        9,
+        InsertStr(12, NEW),
+        Done,
+        "abcdefghijkl0123456789",
+        0,
+    ),
+    (TWELVE, 9, PushStr(NEW), Done, "abcdefghijkl0123456789", 0),
+    // Both together have exactly as many bytes as are put in.
+    (
+        TWENTY,
+        5,
+        InsertStr(0, NEW),
+        Done,
+        "0123456789abcdefghijklmnopqrst",
+        0,
+    ),
+    (
+        TWENTY,
+        5,
+        InsertStr(13, NEW),
+        Done,
+        "abcdefghijklm0123456789nopqrst",
+        0,
+    ),
+    (
+        TWENTY,
+        5,
+        PushStr(NEW),
+        Done,
+        "abcdefghijklmnopqrst0123456789",
+        0,
+    ),
+    (
+        LETTERS,
+        2,
+        Insert(13, '𝄞'),
+        Done,
+        "abcdefghijklm𝄞nopqrstuvwxyz",
+        0,
+    ),
+    (
+        LETTERS,
+        1,
+        Push('𝄞'),
+        Done,
+        "abcdefghijklmnopqrstuvwxyz𝄞",
+        0,
+    ),
+];
+
+const SIDES_TOGETHER_8: &[Row] = &[
+    ("abc", 3, Insert(1, '𝄞'), Done, "a𝄞bc", 0),
+    ("abc", 3, InsertStr(2, "01234"), Done, "ab01234c", 0),
+    ("abc", 2, PushStr("01234"), Done, "abc01234", 0),
+];
+
+const SIDES_TOGETHER_4: &[Row] = &[
+    ("ab", 1, Insert(1, 'é'), Done, "aéb", 0),
+    ("é", 1, PushStr("01"), Done, "é01", 0),
+];
 
 #[test]
 fn the_text_slides_to_the_front_where_only_both_sides_together_have_room(rt: HostRuntime) {
-    let twelve = "abcdefghijkl";
-    let twenty = "abcdefghijklmnopqrst";
-    let letters = "abcdefghijklmnopqrstuvwxyz";
-    let rows = [
-        // One byte is wanting on each side.
-        (twelve, 9, InsertStr(0, ADDED), "0123456789abcdefghijkl", 0),
-        (twelve, 9, InsertStr(6, ADDED), "abcdef0123456789ghijkl", 0),
-        (twelve, 9, InsertStr(12, ADDED), "abcdefghijkl0123456789", 0),
-        (twelve, 9, PushStr(ADDED), "abcdefghijkl0123456789", 0),
-        // Both together have exactly as many bytes as are put in.
-        (
-            twenty,
-            5,
-            InsertStr(0, ADDED),
-            "0123456789abcdefghijklmnopqrst",
-            0,
-        ),
-        (
-            twenty,
-            5,
-            InsertStr(13, ADDED),
-            "abcdefghijklm0123456789nopqrst",
-            0,
-        ),
-        (
-            twenty,
-            5,
-            PushStr(ADDED),
-            "abcdefghijklmnopqrst0123456789",
-            0,
-        ),
-        (
-            letters,
-            2,
-            Insert(13, '𝄞'),
-            "abcdefghijklm𝄞nopqrstuvwxyz",
-            0,
-        ),
-        (letters, 1, Push('𝄞'), "abcdefghijklmnopqrstuvwxyz𝄞", 0),
-    ];
-    check_done::<30>(&rt, &rows);
-
-    let rows = [
-        ("abc", 3, Insert(1, '𝄞'), "a𝄞bc", 0),
-        ("abc", 3, InsertStr(2, "01234"), "ab01234c", 0),
-        ("abc", 2, PushStr("01234"), "abc01234", 0),
-    ];
-    check_done::<8>(&rt, &rows);
-
-    let rows = [
-        ("ab", 1, Insert(1, 'é'), "aéb", 0),
-        ("é", 1, PushStr("01"), "é01", 0),
-    ];
-    check_done::<4>(&rt, &rows);
+    check::<30>(&rt, SIDES_TOGETHER_30);
+    check::<8>(&rt, SIDES_TOGETHER_8);
+    check::<4>(&rt, SIDES_TOGETHER_4);
 }
+
+const TWENTY_ONE: &str = "abcdefghijklmnopqrstu";
+
+const TWENTY_SEVEN: &str = "abcdefghijklmnopqrstuvwxyzA";
+
+const TWENTY_NINE: &str = "abcdefghijklmnopqrstuvwxyzABC";
+
+const THIRTY_ONE: &str = "abcdefghijklmnopqrstuvwxyzABCDE";
+
+const WRONG_LENGTH: Answer = Replace(ReplaceError::WrongLength);
+
+const NOT_UTF8: Answer = Replace(ReplaceError::NotUtf8);
+
+const REFUSED_30: &[Row] = &[
+    // One byte is wanting on both sides together.
+    (
+        TWENTY_ONE,
+        5,
+        InsertStr(0, NEW),
+        NotEnoughSpace,
+        TWENTY_ONE,
+        5,
+    ),
+    (TWENTY_ONE, 5, PushStr(NEW), NotEnoughSpace, TWENTY_ONE, 5),
+    (
+        TWENTY_SEVEN,
+        2,
+        Insert(13, '𝄞'),
+        NotEnoughSpace,
+        TWENTY_SEVEN,
+        2,
+    ),
+    (TWENTY_NINE, 1, Push('é'), NotEnoughSpace, TWENTY_NINE, 1),
+    (FULL, 0, Push('-'), NotEnoughSpace, FULL, 0),
+    (FULL, 0, Insert(0, '-'), NotEnoughSpace, FULL, 0),
+    (FULL, 0, InsertStr(30, "-"), NotEnoughSpace, FULL, 0),
+    ("", 29, PushStr(THIRTY_ONE), NotEnoughSpace, "", 29),
+    (LENGTHS, 20, ReplaceBytes(b"-"), WRONG_LENGTH, LENGTHS, 20),
+    (
+        LENGTHS,
+        20,
+        ReplaceBytes(b"012345678\xFF"),
+        NOT_UTF8,
+        LENGTHS,
+        20,
+    ),
+    (LENGTHS, 20, Insert(2, '-'), BadPlace, LENGTHS, 20),
+    (LENGTHS, 20, InsertStr(5, "-"), BadPlace, LENGTHS, 20),
+    (LENGTHS, 20, Truncate(11), BadPlace, LENGTHS, 20),
+    (LENGTHS, 20, Remove(10), BadPlace, LENGTHS, 20),
+    ("", 20, Pop, NoChar, "", 20),
+];
+
+const REFUSED_8: &[Row] = &[
+    ("abc", 3, InsertStr(2, "012345"), NotEnoughSpace, "abc", 3),
+    ("abc", 3, PushStr("€𝄞"), NotEnoughSpace, "abc", 3),
+];
+
+const REFUSED_4: &[Row] = &[
+    ("ab", 1, Insert(1, '€'), NotEnoughSpace, "ab", 1),
+    ("ab", 2, Push('€'), NotEnoughSpace, "ab", 2),
+];
 
 #[test]
 fn a_refused_edit_leaves_the_start(rt: HostRuntime) {
-    let text = "aé€𝄞";
-    let rows = [
-        // One byte is wanting on both sides together.
-        (
-            "abcdefghijklmnopqrstu",
-            5,
-            InsertStr(0, ADDED),
-            NotEnoughSpace,
-        ),
-        ("abcdefghijklmnopqrstu", 5, PushStr(ADDED), NotEnoughSpace),
-        (
-            "abcdefghijklmnopqrstuvwxyzA",
-            2,
-            Insert(13, '𝄞'),
-            NotEnoughSpace,
-        ),
-        (
-            "abcdefghijklmnopqrstuvwxyzABC",
-            1,
-            Push('é'),
-            NotEnoughSpace,
-        ),
-        (FULL, 0, Push('-'), NotEnoughSpace),
-        (FULL, 0, Insert(0, '-'), NotEnoughSpace),
-        (FULL, 0, InsertStr(30, "-"), NotEnoughSpace),
-        (
-            "",
-            29,
-            PushStr("abcdefghijklmnopqrstuvwxyzABCDE"),
-            NotEnoughSpace,
-        ),
-        (
-            text,
-            20,
-            ReplaceBytes(b"-"),
-            Replace(ReplaceError::WrongLength),
-        ),
-        (
-            text,
-            20,
-            ReplaceBytes(b"012345678\xFF"),
-            Replace(ReplaceError::NotUtf8),
-        ),
-        (text, 20, Insert(2, '-'), BadPlace),
-        (text, 20, InsertStr(5, "-"), BadPlace),
-        (text, 20, Truncate(11), BadPlace),
-        (text, 20, Remove(10), BadPlace),
-        ("", 20, Pop, NoChar),
-    ];
-    check_refused::<30>(&rt, &rows);
-
-    let rows = [
-        ("abc", 3, InsertStr(2, "012345"), NotEnoughSpace),
-        ("abc", 3, PushStr("€𝄞"), NotEnoughSpace),
-    ];
-    check_refused::<8>(&rt, &rows);
-
-    let rows = [
-        ("ab", 1, Insert(1, '€'), NotEnoughSpace),
-        ("ab", 2, Push('€'), NotEnoughSpace),
-    ];
-    check_refused::<4>(&rt, &rows);
+    check::<30>(&rt, REFUSED_30);
+    check::<8>(&rt, REFUSED_8);
+    check::<4>(&rt, REFUSED_4);
 }
+
+const REMOVALS_30: &[Row] = &[
+    (TEN, 10, Remove(0), Char('a'), "bcdefghij", 11),
+    (TEN, 10, Remove(4), Char('e'), "abcdfghij", 11),
+    (TEN, 10, Remove(5), Char('f'), "abcdeghij", 10),
+    (TEN, 10, Remove(9), Char('j'), "abcdefghi", 10),
+    (ELEVEN, 10, Remove(4), Char('e'), "abcdfghijk", 11),
+    (ELEVEN, 10, Remove(5), Char('f'), "abcdeghijk", 10),
+    (ELEVEN, 0, Remove(4), Char('e'), "abcdfghijk", 1),
+    ("abcédef", 5, Remove(3), Char('é'), "abcdef", 5),
+    ("abcédefg", 5, Remove(3), Char('é'), "abcdefg", 7),
+    ("abc€def", 5, Remove(3), Char('€'), "abcdef", 5),
+    ("abc€defg", 5, Remove(3), Char('€'), "abcdefg", 8),
+    ("abc𝄞def", 5, Remove(3), Char('𝄞'), "abcdef", 5),
+    ("abc𝄞defg", 5, Remove(3), Char('𝄞'), "abcdefg", 9),
+    ("𝄞", 26, Remove(0), Char('𝄞'), "", 26),
+];
+
+const REMOVALS_8: &[Row] = &[
+    ("aéb", 3, Remove(1), Char('é'), "ab", 3),
+    ("aébc", 3, Remove(1), Char('é'), "abc", 5),
+];
+
+const REMOVALS_4: &[Row] = &[
+    ("ab", 1, Remove(0), Char('a'), "b", 2),
+    ("ab", 1, Remove(1), Char('b'), "a", 1),
+    ("abc", 1, Remove(1), Char('b'), "ac", 1),
+];
 
 #[test]
 fn a_removal_moves_the_shorter_part(rt: HostRuntime) {
-    let rows = [
-        ("abcdefghij", 10, 0, 'a', "bcdefghij", 11),
-        ("abcdefghij", 10, 4, 'e', "abcdfghij", 11),
-        ("abcdefghij", 10, 5, 'f', "abcdeghij", 10),
-        ("abcdefghij", 10, 9, 'j', "abcdefghi", 10),
-        ("abcdefghijk", 10, 4, 'e', "abcdfghijk", 11),
-        ("abcdefghijk", 10, 5, 'f', "abcdeghijk", 10),
-        ("abcdefghijk", 0, 4, 'e', "abcdfghijk", 1),
-        ("abcédef", 5, 3, 'é', "abcdef", 5),
-        ("abcédefg", 5, 3, 'é', "abcdefg", 7),
-        ("abc€def", 5, 3, '€', "abcdef", 5),
-        ("abc€defg", 5, 3, '€', "abcdefg", 8),
-        ("abc𝄞def", 5, 3, '𝄞', "abcdef", 5),
-        ("abc𝄞defg", 5, 3, '𝄞', "abcdefg", 9),
-        ("𝄞", 26, 0, '𝄞', "", 26),
-    ];
-    check_removed::<30>(&rt, &rows);
-    check_removed::<8>(
-        &rt,
-        &[("aéb", 3, 1, 'é', "ab", 3), ("aébc", 3, 1, 'é', "abc", 5)],
-    );
-
-    let rows = [
-        ("ab", 1, 0, 'a', "b", 2),
-        ("ab", 1, 1, 'b', "a", 1),
-        ("abc", 1, 1, 'b', "ac", 1),
-    ];
-    check_removed::<4>(&rt, &rows);
+    check::<30>(&rt, REMOVALS_30);
+    check::<8>(&rt, REMOVALS_8);
+    check::<4>(&rt, REMOVALS_4);
 }
+
+/// The characters of `LENGTHS`, the longest first.
+const BACKWARDS: &[u8] = b"\xF0\x9D\x84\x9E\xE2\x82\xAC\xC3\xA9a";
+
+const CUTS_AND_REPLACEMENTS_30: &[Row] = &[
+    (LENGTHS, 7, Truncate(0), Done, "", 7),
+    (LENGTHS, 7, Truncate(1), Done, "a", 7),
+    (LENGTHS, 7, Truncate(6), Done, "aé€", 7),
+    (LENGTHS, 7, Truncate(10), Done, LENGTHS, 7),
+    (LENGTHS, 7, Clear, Done, "", 7),
+    (LENGTHS, 20, ReplaceBytes(BACKWARDS), Done, "𝄞€éa", 20),
+    (LENGTHS, 7, ReplaceBytes(b"0123456789"), Done, NEW, 7),
+    ("", 7, ReplaceBytes(b""), Done, "", 7),
+    (LENGTHS, 7, Pop, Char('𝄞'), "aé€", 7),
+    ("é", 28, Pop, Char('é'), "", 28),
+];
 
 #[test]
 fn a_cut_and_a_replacement_leave_the_start(rt: HostRuntime) {
-    let text = "aé€𝄞";
-    let rows = [
-        (text, 7, Truncate(0), "", 7),
-        (text, 7, Truncate(1), "a", 7),
-        (text, 7, Truncate(6), "aé€", 7),
-        (text, 7, Truncate(10), text, 7),
-        (text, 7, Clear, "", 7),
-        (text, 20, ReplaceBytes("𝄞€éa".as_bytes()), "𝄞€éa", 20),
-        (text, 7, ReplaceBytes(b"0123456789"), "0123456789", 7),
-        ("", 7, ReplaceBytes(b""), "", 7),
-    ];
-    check_done::<30>(&rt, &rows);
-
-    for (before, start, last, after) in [(text, 7, '𝄞', "aé€"), ("é", 28, 'é', "")] {
-        let mut text = text_at::<30>(&rt, before, start);
-        assert_eq!(rt; text.pop(), Some(last));
-        assert_eq!(rt; (text.as_str(), text.start), (after, start));
-    }
+    check::<30>(&rt, CUTS_AND_REPLACEMENTS_30);
 }
+
+const NO_BYTE_30: &[Row] = &[
+    (TEN, 10, InsertStr(0, ""), Done, TEN, 10),
+    (TEN, 10, InsertStr(5, ""), Done, TEN, 10),
+    (TEN, 20, InsertStr(10, ""), Done, TEN, 20),
+    (TEN, 20, PushStr(""), Done, TEN, 20),
+    ("", 29, InsertStr(0, ""), Done, "", 29),
+    (FULL, 0, InsertStr(0, ""), Done, FULL, 0),
+    (FULL, 0, InsertStr(30, ""), Done, FULL, 0),
+    (FULL, 0, PushStr(""), Done, FULL, 0),
+];
+
+const NO_BYTE_0: &[Row] = &[
+    ("", 0, PushStr(""), Done, "", 0),
+    ("", 0, InsertStr(0, ""), Done, "", 0),
+];
 
 #[test]
 fn an_insertion_of_no_byte_leaves_the_start(rt: HostRuntime) {
-    let ten = "abcdefghij";
-    let rows = [
-        (ten, 10, InsertStr(0, ""), ten, 10),
-        (ten, 10, InsertStr(5, ""), ten, 10),
-        (ten, 20, InsertStr(10, ""), ten, 20),
-        (ten, 20, PushStr(""), ten, 20),
-        ("", 29, InsertStr(0, ""), "", 29),
-        (FULL, 0, InsertStr(0, ""), FULL, 0),
-        (FULL, 0, InsertStr(30, ""), FULL, 0),
-        (FULL, 0, PushStr(""), FULL, 0),
-    ];
-    check_done::<30>(&rt, &rows);
-    check_done::<0>(
-        &rt,
-        &[
-            ("", 0, PushStr(""), "", 0),
-            ("", 0, InsertStr(0, ""), "", 0),
-        ],
-    );
+    check::<30>(&rt, NO_BYTE_30);
+    check::<0>(&rt, NO_BYTE_0);
 }
+
+const EMPTIED_30: &[Row] = &[
+    ("", 0, PushStr(FULL), Done, FULL, 0),
+    ("", 10, PushStr(FULL), Done, FULL, 0),
+    ("", 29, PushStr(FULL), Done, FULL, 0),
+    ("", 10, InsertStr(0, FULL), Done, FULL, 0),
+    ("", 10, InsertStr(0, TWENTY), Done, TWENTY, 10),
+    ("", 20, PushStr(TWENTY), Done, TWENTY, 0),
+    ("", 10, Insert(0, '-'), Done, "-", 10),
+    ("", 29, Push('-'), Done, "-", 29),
+    ("", 29, Push('é'), Done, "é", 27),
+];
 
 #[test]
 fn an_emptied_text_takes_a_whole_text_wherever_it_starts(rt: HostRuntime) {
-    let twenty = "abcdefghijklmnopqrst";
-    let rows = [
-        ("", 0, PushStr(FULL), FULL, 0),
-        ("", 10, PushStr(FULL), FULL, 0),
-        ("", 29, PushStr(FULL), FULL, 0),
-        ("", 10, InsertStr(0, FULL), FULL, 0),
-        ("", 10, InsertStr(0, twenty), twenty, 10),
-        ("", 20, PushStr(twenty), twenty, 0),
-        ("", 10, Insert(0, '-'), "-", 10),
-        ("", 29, Push('-'), "-", 29),
-        ("", 29, Push('é'), "é", 27),
-    ];
-    check_done::<30>(&rt, &rows);
+    check::<30>(&rt, EMPTIED_30);
 }
+
+const FAR_STARTS_300: &[Row] = &[
+    ("abcdef", 290, Insert(0, '-'), Done, "-abcdef", 289),
+    ("abcdef", 290, Push('𝄞'), Done, "abcdef𝄞", 290),
+    ("abcdef", 290, PushStr("01234"), Done, "abcdef01234", 285),
+];
 
 #[test]
 fn a_start_above_255_is_kept(rt: HostRuntime) {
-    let rows = [
-        ("abcdef", 290, Insert(0, '-'), "-abcdef", 289),
-        ("abcdef", 290, Push('𝄞'), "abcdef𝄞", 290),
-        ("abcdef", 290, PushStr("01234"), "abcdef01234", 285),
-    ];
-    check_done::<300>(&rt, &rows);
+    check::<300>(&rt, FAR_STARTS_300);
 }
 
 #[test]
