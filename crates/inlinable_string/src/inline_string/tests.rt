@@ -39,11 +39,12 @@ const NEW: &str = "0123456789";
 
 fn check_text<const N: usize>(
     rt: &impl Abort,
+    i: usize,
     text: &InlineStringN<N>,
     string: &str,
     start: usize,
 ) {
-    assert_eq!(rt; (text.as_str(), text.start), (string, start));
+    assert_eq!(rt; (text.as_str(), text.start), (string, start), "in row {i}");
 }
 
 /// Makes an edit so many times.
@@ -60,7 +61,12 @@ fn apply_times<const N: usize>(
 }
 
 /// A text at a start: bytes are put before it and taken out again.
-fn text_at<const N: usize>(rt: &impl Abort, string: &str, start: usize) -> InlineStringN<N> {
+fn text_at<const N: usize>(
+    rt: &impl Abort,
+    i: usize,
+    string: &str,
+    start: usize,
+) -> InlineStringN<N> {
     // The start moves only where a byte stays behind the one that is taken out.
     let needs_byte = string.is_empty() && 0 < start;
     let kept = if needs_byte { ">" } else { string };
@@ -69,27 +75,23 @@ fn text_at<const N: usize>(rt: &impl Abort, string: &str, start: usize) -> Inlin
     apply_times(rt, &mut text, 1, PushStr(kept), Done);
     apply_times(rt, &mut text, start, Remove(0), Char('<'));
     apply_times(rt, &mut text, usize::from(needs_byte), Pop, Char('>'));
-    check_text(rt, &text, string, start);
+    check_text(rt, i, &text, string, start);
     text
 }
 
 /// Makes the step on the text.
-fn check_step<const N: usize>(rt: &impl Abort, text: &mut InlineStringN<N>, i: usize, step: Step) {
+fn check_step<const N: usize>(rt: &impl Abort, i: usize, text: &mut InlineStringN<N>, step: Step) {
     let (edit, answer, after, start) = step;
-    let given = apply(text, edit);
-    assert_eq!(rt;
-        (given, text.as_str(), text.start),
-        (answer, after, start),
-        "in row {i}"
-    );
+    assert_eq!(rt; apply(text, edit), answer, "in row {i}");
+    check_text(rt, i, text, after, start);
 }
 
 fn check_row<const N: usize>(rt: &impl Abort, i: usize, row: &Row)
     requires { N ≤ 300 }
 {
     let &(before, start, edit, answer, after, new_start) = row;
-    let mut text = text_at::<N>(rt, before, start);
-    check_step(rt, &mut text, i, (edit, answer, after, new_start));
+    let mut text = text_at::<N>(rt, i, before, start);
+    check_step(rt, i, &mut text, (edit, answer, after, new_start));
 }
 
 fn check<const N: usize>(rt: &impl Abort, rows: &[Row])
@@ -103,26 +105,37 @@ fn check<const N: usize>(rt: &impl Abort, rows: &[Row])
 fn check_in_turn<const N: usize>(rt: &impl Abort, string: &str, steps: &[Step])
     requires { N ≤ 300 }
 {
-    let mut text = text_at::<N>(rt, string, 0);
+    let mut text = text_at::<N>(rt, 0, string, 0);
     for (i, step) in steps.iter().enumerate() {
-        check_step(rt, &mut text, i, *step);
+        check_step(rt, i, &mut text, *step);
     }
 }
 
-fn check_bytes<const N: usize>(rt: &impl Abort, rows: &[(&str, usize, &[u8])])
+/// A text and its start, and the bytes that it gives.
+type Shown<'a> = (&'a str, usize, &'a [u8]);
+
+fn check_bytes_row<const N: usize>(rt: &impl Abort, i: usize, row: &Shown)
     requires { N ≤ 300 }
 {
-    for &(string, start, bytes) in rows {
-        let shown = text_at::<N>(rt, string, start).into_bytes();
-        assert_eq!(rt; &shown[..], bytes, "{string} from {start}");
+    let &(string, start, bytes) = row;
+    let shown = text_at::<N>(rt, i, string, start).into_bytes();
+    assert_eq!(rt; &shown[..], bytes, "in row {i}");
+}
+
+fn check_bytes<const N: usize>(rt: &impl Abort, rows: &[Shown])
+    requires { N ≤ 300 }
+{
+    for (i, row) in rows.iter().enumerate() {
+        check_bytes_row::<N>(rt, i, row);
     }
 }
 
 #[test]
 fn a_text_that_is_made_starts_at_the_front(rt: HostRuntime) {
-    check_text::<30>(&rt, &InlineStringN::new(), "", 0);
-    check_text::<30>(&rt, &InlineStringN::default(), "", 0);
-    check_text::<5>(&rt, &InlineStringN::from("abc"), "abc", 0);
+    check_text::<30>(&rt, 0, &InlineStringN::new(), "", 0);
+    check_text::<30>(&rt, 1, &InlineStringN::default(), "", 0);
+    check_text::<30>(&rt, 2, &InlineStringN::from("abcdef"), "abcdef", 0);
+    check_text::<5>(&rt, 3, &InlineStringN::from("abc"), "abc", 0);
 }
 
 const FRONT_30: &[Step] = &[
@@ -512,27 +525,28 @@ fn a_start_above_255_is_kept(rt: HostRuntime) {
     check::<300>(&rt, FAR_STARTS_300);
 }
 
+const SHOWN_30: &[Shown] = &[(
+    "bcdef",
+    1,
+    b"bcdef\0\0\0\0\0\0\0\0\0\0\0\0\0\0\0\0\0\0\0\0\0\0\0\0\0",
+)];
+
+const SHOWN_8: &[Shown] = &[
+    ("abc", 0, b"abc\0\0\0\0\0"),
+    ("abc", 1, b"abc\0\0\0\0\0"),
+    ("abc", 5, b"abc\0\0\0\0\0"),
+    ("aé€", 2, b"a\xC3\xA9\xE2\x82\xAC\0\0"),
+    ("", 7, b"\0\0\0\0\0\0\0\0"),
+];
+
+const SHOWN_4: &[Shown] = &[("𝄞", 0, b"\xF0\x9D\x84\x9E")];
+
+const SHOWN_0: &[Shown] = &[("", 0, b"")];
+
 #[test]
 fn the_bytes_begin_at_the_front_and_zeros_follow(rt: HostRuntime) {
-    let mut text = InlineStringN::<30>::from("abcdef");
-    assert_eq!(rt; apply(&mut text, Remove(0)), Char('a'));
-    assert_eq!(rt; text.start, 1);
-    let mut bytes = [0; 30];
-    for i in 0..5 {
-        bytes[i] = [0x62, 0x63, 0x64, 0x65, 0x66][i];
-    }
-    assert_eq!(rt; &text.into_bytes()[..], &bytes[..]);
-
-    check_bytes::<8>(
-        &rt,
-        &[
-            ("abc", 0, b"abc\0\0\0\0\0"),
-            ("abc", 1, b"abc\0\0\0\0\0"),
-            ("abc", 5, b"abc\0\0\0\0\0"),
-            ("aé€", 2, b"a\xC3\xA9\xE2\x82\xAC\0\0"),
-            ("", 7, b"\0\0\0\0\0\0\0\0"),
-        ],
-    );
-    check_bytes::<4>(&rt, &[("𝄞", 0, b"\xF0\x9D\x84\x9E")]);
-    check_bytes::<0>(&rt, &[("", 0, b"")]);
+    check_bytes::<30>(&rt, SHOWN_30);
+    check_bytes::<8>(&rt, SHOWN_8);
+    check_bytes::<4>(&rt, SHOWN_4);
+    check_bytes::<0>(&rt, SHOWN_0);
 }
