@@ -10,6 +10,7 @@ use edits::Edit::{
     self, Clear, Insert, InsertStr, Pop, Push, PushStr, Remove, ReplaceBytes, Truncate,
 };
 use edits::apply;
+use std::fmt::Debug;
 use std::process::Abort;
 
 mod edits;
@@ -37,6 +38,10 @@ const LENGTHS: &str = "aé€𝄞";
 /// 10 bytes to put in.
 const NEW: &str = "0123456789";
 
+fn check_same<T: Copy + Debug + PartialEq>(rt: &impl Abort, i: usize, given: T, wanted: T) {
+    assert_eq!(rt; given, wanted, "in row {i}");
+}
+
 fn check_text<const N: usize>(
     rt: &impl Abort,
     i: usize,
@@ -44,7 +49,7 @@ fn check_text<const N: usize>(
     string: &str,
     start: usize,
 ) {
-    assert_eq!(rt; (text.as_str(), text.start), (string, start), "in row {i}");
+    check_same(rt, i, (text.as_str(), text.start), (string, start));
 }
 
 /// Makes an edit so many times.
@@ -82,8 +87,13 @@ fn text_at<const N: usize>(
 /// Makes the step on the text.
 fn check_step<const N: usize>(rt: &impl Abort, i: usize, text: &mut InlineStringN<N>, step: Step) {
     let (edit, answer, after, start) = step;
-    assert_eq!(rt; apply(text, edit), answer, "in row {i}");
-    check_text(rt, i, text, after, start);
+    let given = apply(text, edit);
+    check_same(
+        rt,
+        i,
+        (given, text.as_str(), text.start),
+        (answer, after, start),
+    );
 }
 
 fn check_row<const N: usize>(rt: &impl Abort, i: usize, row: &Row)
@@ -119,7 +129,7 @@ fn check_bytes_row<const N: usize>(rt: &impl Abort, i: usize, row: &Shown)
 {
     let &(string, start, bytes) = row;
     let shown = text_at::<N>(rt, i, string, start).into_bytes();
-    assert_eq!(rt; &shown[..], bytes, "in row {i}");
+    check_same(rt, i, &shown[..], bytes);
 }
 
 fn check_bytes<const N: usize>(rt: &impl Abort, rows: &[Shown])
