@@ -55,13 +55,14 @@ fn check_text<const N: usize>(
 /// Makes an edit so many times.
 fn apply_times<const N: usize>(
     rt: &impl Abort,
+    i: usize,
     text: &mut InlineStringN<N>,
     times: usize,
     edit: Edit,
     answer: Answer,
 ) {
     for _ in 0..times {
-        assert!(rt; apply(text, edit) == answer);
+        check_same(rt, i, apply(text, edit), answer);
     }
 }
 
@@ -76,10 +77,10 @@ fn text_at<const N: usize>(
     let needs_byte = string.is_empty() && 0 < start;
     let kept = if needs_byte { ">" } else { string };
     let mut text = InlineStringN::new();
-    apply_times(rt, &mut text, start, Push('<'), Done);
-    apply_times(rt, &mut text, 1, PushStr(kept), Done);
-    apply_times(rt, &mut text, start, Remove(0), Char('<'));
-    apply_times(rt, &mut text, usize::from(needs_byte), Pop, Char('>'));
+    apply_times(rt, i, &mut text, start, Push('<'), Done);
+    apply_times(rt, i, &mut text, 1, PushStr(kept), Done);
+    apply_times(rt, i, &mut text, start, Remove(0), Char('<'));
+    apply_times(rt, i, &mut text, usize::from(needs_byte), Pop, Char('>'));
     check_text(rt, i, &text, string, start);
     text
 }
@@ -96,19 +97,12 @@ fn check_step<const N: usize>(rt: &impl Abort, i: usize, text: &mut InlineString
     );
 }
 
-fn check_row<const N: usize>(rt: &impl Abort, i: usize, row: &Row)
-    requires { N ≤ 300 }
-{
-    let &(before, start, edit, answer, after, new_start) = row;
-    let mut text = text_at::<N>(rt, i, before, start);
-    check_step(rt, i, &mut text, (edit, answer, after, new_start));
-}
-
 fn check<const N: usize>(rt: &impl Abort, rows: &[Row])
     requires { N ≤ 300 }
 {
-    for (i, row) in rows.iter().enumerate() {
-        check_row::<N>(rt, i, row);
+    for (i, &(before, start, edit, answer, after, new_start)) in rows.iter().enumerate() {
+        let mut text = text_at::<N>(rt, i, before, start);
+        check_step(rt, i, &mut text, (edit, answer, after, new_start));
     }
 }
 
@@ -124,19 +118,12 @@ fn check_in_turn<const N: usize>(rt: &impl Abort, string: &str, steps: &[Step])
 /// A text and its start, and the bytes that it gives.
 type Shown<'a> = (&'a str, usize, &'a [u8]);
 
-fn check_bytes_row<const N: usize>(rt: &impl Abort, i: usize, row: &Shown)
-    requires { N ≤ 300 }
-{
-    let &(string, start, bytes) = row;
-    let shown = text_at::<N>(rt, i, string, start).into_bytes();
-    check_same(rt, i, &shown[..], bytes);
-}
-
 fn check_bytes<const N: usize>(rt: &impl Abort, rows: &[Shown])
     requires { N ≤ 300 }
 {
-    for (i, row) in rows.iter().enumerate() {
-        check_bytes_row::<N>(rt, i, row);
+    for (i, &(string, start, bytes)) in rows.iter().enumerate() {
+        let shown = text_at::<N>(rt, i, string, start).into_bytes();
+        check_same(rt, i, &shown[..], bytes);
     }
 }
 
