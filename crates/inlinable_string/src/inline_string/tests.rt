@@ -4,8 +4,8 @@
 //! one text. The name of a table ends with the limit of its texts.
 ghost use Rattle.std.specs.Prelude.{◌≤◌};
 
-use super::{InlineStringN, ReplaceError};
-use edits::Answer::{self, BadPlace, Char, Done, NoChar, NotEnoughSpace, Replace};
+use super::InlineStringN;
+use edits::Answer::{self, BadPlace, Char, Done, NoChar, NotEnoughSpace, NotUtf8, WrongLength};
 use edits::Edit::{
     self, Clear, Insert, InsertStr, Pop, Push, PushStr, Remove, ReplaceBytes, Truncate,
 };
@@ -38,62 +38,56 @@ const LENGTHS: &str = "aé€𝄞";
 /// 10 bytes to put in.
 const NEW: &str = "0123456789";
 
-fn check_same<T: Copy + Debug + PartialEq>(rt: &impl Abort, i: usize, given: T, wanted: T) {
-    assert_eq!(rt; given, wanted, "in row {i}");
+/// The one assertion that all tests share, since each one is dear to prove.
+fn check_same<T: Copy + Debug + PartialEq>(rt: &impl Abort, given: T, wanted: T) {
+    assert_eq!(rt; given, wanted);
 }
 
 fn check_text<const N: usize>(
     rt: &impl Abort,
-    i: usize,
     text: &InlineStringN<N>,
     string: &str,
     start: usize,
 ) {
-    check_same(rt, i, (text.as_str(), text.start), (string, start));
+    check_same(rt, (text.as_str(), text.start), (string, start));
 }
 
 /// Makes an edit so many times.
 fn apply_times<const N: usize>(
     rt: &impl Abort,
-    i: usize,
     text: &mut InlineStringN<N>,
     times: usize,
     edit: Edit,
     answer: Answer,
 ) {
     for _ in 0..times {
-        check_same(rt, i, apply(text, edit), answer);
+        check_same(rt, apply(text, edit), answer);
     }
 }
 
 /// A text at a start: bytes are put before it and taken out again.
-fn text_at<const N: usize>(
-    rt: &impl Abort,
-    i: usize,
-    string: &str,
-    start: usize,
-) -> InlineStringN<N> {
+fn text_at<const N: usize>(rt: &impl Abort, string: &str, start: usize) -> InlineStringN<N> {
     // The start moves only where a byte stays behind the one that is taken out.
     let needs_byte = string.is_empty() && 0 < start;
     let kept = if needs_byte { ">" } else { string };
     let mut text = InlineStringN::new();
-    apply_times(rt, i, &mut text, start, Push('<'), Done);
-    apply_times(rt, i, &mut text, 1, PushStr(kept), Done);
-    apply_times(rt, i, &mut text, start, Remove(0), Char('<'));
-    apply_times(rt, i, &mut text, usize::from(needs_byte), Pop, Char('>'));
-    check_text(rt, i, &text, string, start);
+    apply_times(rt, &mut text, start, Push('<'), Done);
+    apply_times(rt, &mut text, 1, PushStr(kept), Done);
+    apply_times(rt, &mut text, start, Remove(0), Char('<'));
+    apply_times(rt, &mut text, usize::from(needs_byte), Pop, Char('>'));
+    check_text(rt, &text, string, start);
     text
 }
 
-/// Makes the step on the text.
+/// Makes the step in row `i` on the text.
 fn check_step<const N: usize>(rt: &impl Abort, i: usize, text: &mut InlineStringN<N>, step: Step) {
     let (edit, answer, after, start) = step;
     let given = apply(text, edit);
+    // The row's number is compared with itself, so that a failure shows it.
     check_same(
         rt,
-        i,
-        (given, text.as_str(), text.start),
-        (answer, after, start),
+        (i, given, text.as_str(), text.start),
+        (i, answer, after, start),
     );
 }
 
@@ -101,7 +95,7 @@ fn check<const N: usize>(rt: &impl Abort, rows: &[Row])
     requires { N ≤ 300 }
 {
     for (i, &(before, start, edit, answer, after, new_start)) in rows.iter().enumerate() {
-        let mut text = text_at::<N>(rt, i, before, start);
+        let mut text = text_at::<N>(rt, before, start);
         check_step(rt, i, &mut text, (edit, answer, after, new_start));
     }
 }
@@ -109,7 +103,7 @@ fn check<const N: usize>(rt: &impl Abort, rows: &[Row])
 fn check_in_turn<const N: usize>(rt: &impl Abort, string: &str, steps: &[Step])
     requires { N ≤ 300 }
 {
-    let mut text = text_at::<N>(rt, 0, string, 0);
+    let mut text = text_at::<N>(rt, string, 0);
     for (i, step) in steps.iter().enumerate() {
         check_step(rt, i, &mut text, *step);
     }
@@ -121,18 +115,19 @@ type Shown<'a> = (&'a str, usize, &'a [u8]);
 fn check_bytes<const N: usize>(rt: &impl Abort, rows: &[Shown])
     requires { N ≤ 300 }
 {
-    for (i, &(string, start, bytes)) in rows.iter().enumerate() {
-        let shown = text_at::<N>(rt, i, string, start).into_bytes();
-        check_same(rt, i, &shown[..], bytes);
+    for row in rows {
+        let &(string, start, _) = row;
+        let bytes = text_at::<N>(rt, string, start).into_bytes();
+        check_same(rt, (string, start, &bytes[..]), *row);
     }
 }
 
 #[test]
 fn a_text_that_is_made_starts_at_the_front(rt: HostRuntime) {
-    check_text::<30>(&rt, 0, &InlineStringN::new(), "", 0);
-    check_text::<30>(&rt, 1, &InlineStringN::default(), "", 0);
-    check_text::<30>(&rt, 2, &InlineStringN::from("abcdef"), "abcdef", 0);
-    check_text::<5>(&rt, 3, &InlineStringN::from("abc"), "abc", 0);
+    check_text::<30>(&rt, &InlineStringN::new(), "", 0);
+    check_text::<30>(&rt, &InlineStringN::default(), "", 0);
+    check_text::<30>(&rt, &InlineStringN::from("abcdef"), "abcdef", 0);
+    check_text::<5>(&rt, &InlineStringN::from("abc"), "abc", 0);
 }
 
 const FRONT_30: &[Step] = &[
@@ -355,10 +350,6 @@ const TWENTY_NINE: &str = "abcdefghijklmnopqrstuvwxyzABC";
 
 const THIRTY_ONE: &str = "abcdefghijklmnopqrstuvwxyzABCDE";
 
-const WRONG_LENGTH: Answer = Replace(ReplaceError::WrongLength);
-
-const NOT_UTF8: Answer = Replace(ReplaceError::NotUtf8);
-
 const REFUSED_30: &[Row] = &[
     // One byte is wanting on both sides together.
     (
@@ -383,12 +374,12 @@ const REFUSED_30: &[Row] = &[
     (FULL, 0, Insert(0, '-'), NotEnoughSpace, FULL, 0),
     (FULL, 0, InsertStr(30, "-"), NotEnoughSpace, FULL, 0),
     ("", 29, PushStr(THIRTY_ONE), NotEnoughSpace, "", 29),
-    (LENGTHS, 20, ReplaceBytes(b"-"), WRONG_LENGTH, LENGTHS, 20),
+    (LENGTHS, 20, ReplaceBytes(b"-"), WrongLength, LENGTHS, 20),
     (
         LENGTHS,
         20,
         ReplaceBytes(b"012345678\xFF"),
-        NOT_UTF8,
+        NotUtf8,
         LENGTHS,
         20,
     ),

@@ -3,7 +3,7 @@ ghost use Rattle.std.specs.Prelude.{◌↔◌, IsTrue};
 ghost use Rattle.inlinable_string.specs.Text.{IsPlace};
 
 use crate::inline_string::{InlineStringN, NotEnoughSpaceError, ReplaceError};
-use Answer::{BadPlace, Char, Done, NoChar, NotEnoughSpace, Replace};
+use Answer::{BadPlace, Char, Done, NoChar, NotEnoughSpace, NotUtf8, WrongLength};
 use Edit::{Clear, Insert, InsertStr, Pop, Push, PushStr, Remove, ReplaceBytes, Truncate};
 
 #[derive(Clone, Copy)]
@@ -26,7 +26,8 @@ pub enum Answer {
     NoChar,
     BadPlace,
     NotEnoughSpace,
-    Replace(ReplaceError),
+    WrongLength,
+    NotUtf8,
 }
 
 fn is_place<const N: usize>(text: &InlineStringN<N>, idx: usize) -> bool
@@ -62,7 +63,8 @@ pub fn apply<const N: usize>(text: &mut InlineStringN<N>, edit: Edit) -> Answer 
         }
         ReplaceBytes(bytes) => match text.replace_bytes(bytes) {
             Ok(()) => Done,
-            Err(error) => Replace(error),
+            Err(ReplaceError::WrongLength) => WrongLength,
+            Err(ReplaceError::NotUtf8) => NotUtf8,
         },
     }
 }
