@@ -21,6 +21,9 @@ type Step<'a> = (Edit<'a>, Answer, &'a str, usize);
 /// A text and its start, an edit, the answer to it, and the text and its start after it.
 type Row<'a> = (&'a str, usize, Edit<'a>, Answer, &'a str, usize);
 
+/// A text and its start, and the bytes that it gives.
+type Shown<'a> = (&'a str, usize, &'a [u8]);
+
 const TEN: &str = "abcdefghij";
 
 const ELEVEN: &str = "abcdefghijk";
@@ -109,9 +112,6 @@ fn check_in_turn<const N: usize>(rt: &impl Abort, string: &str, steps: &[Step])
     }
 }
 
-/// A text and its start, and the bytes that it gives.
-type Shown<'a> = (&'a str, usize, &'a [u8]);
-
 fn check_bytes<const N: usize>(rt: &impl Abort, rows: &[Shown])
     requires { N ≤ 300 }
 {
@@ -130,14 +130,14 @@ fn a_text_that_is_made_starts_at_the_front(rt: HostRuntime) {
     check_text::<5>(&rt, &InlineStringN::from("abc"), "abc", 0);
 }
 
-const FRONT_30: &[Step] = &[
+const ROOM_TAKEN_30: &[Step] = &[
     (Remove(0), Char('a'), "bcdef", 1),
     (Remove(3), Char('e'), "bcdf", 1),
     (Insert(0, 'z'), Done, "zbcdf", 0),
     (Insert(0, 'y'), Done, "yzbcdf", 0),
 ];
 
-const FRONT_4: &[Step] = &[
+const ROOM_TAKEN_4: &[Step] = &[
     (Remove(0), Char('a'), "bcd", 1),
     (Push('e'), Done, "bcde", 0),
     (Push('f'), NotEnoughSpace, "bcde", 0),
@@ -145,8 +145,8 @@ const FRONT_4: &[Step] = &[
 
 #[test]
 fn removals_at_the_front_leave_room_that_insertions_there_take(rt: HostRuntime) {
-    check_in_turn::<30>(&rt, "abcdef", FRONT_30);
-    check_in_turn::<4>(&rt, "abcd", FRONT_4);
+    check_in_turn::<30>(&rt, "abcdef", ROOM_TAKEN_30);
+    check_in_turn::<4>(&rt, "abcd", ROOM_TAKEN_4);
 }
 
 const THIRTY_A: &str = "aaaaaaaaaaaaaaaaaaaaaaaaaaaaaa";
@@ -155,13 +155,13 @@ const TWENTY_NINE_A: &str = "aaaaaaaaaaaaaaaaaaaaaaaaaaaaa";
 
 const TWENTY_EIGHT_A: &str = "aaaaaaaaaaaaaaaaaaaaaaaaaaaa";
 
-const ROOM_IN_FRONT_30: &[Step] = &[
+const PUSHED_TEXT_30: &[Step] = &[
     (Remove(0), Char('a'), TWENTY_NINE_A, 1),
     (Remove(0), Char('a'), TWENTY_EIGHT_A, 2),
     (PushStr("bc"), Done, "aaaaaaaaaaaaaaaaaaaaaaaaaaaabc", 0),
 ];
 
-const ROOM_ON_EACH_SIDE_30: &[Step] = &[
+const PUSHED_CHARACTERS_30: &[Step] = &[
     (Remove(0), Char('a'), TWENTY_NINE_A, 1),
     (Pop, Char('a'), TWENTY_EIGHT_A, 1),
     (Push('€'), NotEnoughSpace, TWENTY_EIGHT_A, 1),
@@ -170,8 +170,8 @@ const ROOM_ON_EACH_SIDE_30: &[Step] = &[
 
 #[test]
 fn a_push_takes_the_room_in_front_where_the_back_is_too_small(rt: HostRuntime) {
-    check_in_turn::<30>(&rt, THIRTY_A, ROOM_IN_FRONT_30);
-    check_in_turn::<30>(&rt, THIRTY_A, ROOM_ON_EACH_SIDE_30);
+    check_in_turn::<30>(&rt, THIRTY_A, PUSHED_TEXT_30);
+    check_in_turn::<30>(&rt, THIRTY_A, PUSHED_CHARACTERS_30);
 }
 
 const BOTH_SIDES_30: &[Row] = &[

@@ -48,15 +48,39 @@ pub fn apply<const N: usize>(text: &mut InlineStringN<N>, edit: Edit) -> Answer 
     match edit {
         Push(ch) => grown(text.push(ch)),
         PushStr(string) => grown(text.push_str(string)),
-        Insert(idx, ch) if is_place(text, idx) => grown(text.insert(idx, ch)),
-        InsertStr(idx, string) if is_place(text, idx) => grown(text.insert_str(idx, string)),
-        Truncate(new_len) if is_place(text, new_len) => {
-            text.truncate(new_len);
-            Done
+        Insert(idx, ch) => {
+            if is_place(text, idx) {
+                grown(text.insert(idx, ch))
+            } else {
+                BadPlace
+            }
         }
-        Remove(idx) if idx < text.len() && is_place(text, idx) => Char(text.remove(idx)),
-        Insert(..) | InsertStr(..) | Truncate(_) | Remove(_) => BadPlace,
-        Pop => text.pop().map_or(NoChar, Char),
+        InsertStr(idx, string) => {
+            if is_place(text, idx) {
+                grown(text.insert_str(idx, string))
+            } else {
+                BadPlace
+            }
+        }
+        Truncate(new_len) => {
+            if is_place(text, new_len) {
+                text.truncate(new_len);
+                Done
+            } else {
+                BadPlace
+            }
+        }
+        Pop => match text.pop() {
+            Some(last) => Char(last),
+            None => NoChar,
+        },
+        Remove(idx) => {
+            if idx < text.len() && is_place(text, idx) {
+                Char(text.remove(idx))
+            } else {
+                BadPlace
+            }
+        }
         Clear => {
             text.clear();
             Done
