@@ -92,7 +92,8 @@ pub fn judged(
     ensures replies { IfOk result (λ verdict. ¬ (verdict ≡ Verdict.IllegalReply)
         ↔ LegalReplies (state_of start) commands.now replies.now) }
     ensures end { IfOk result (λ verdict. verdict ≡ Verdict.Agrees
-        → IsSeenAs end.entry (state_after (state_of start) commands.now replies.now)) }
+        ↔ LegalReplies (state_of start) commands.now replies.now
+        × IsSeenAs end.entry (state_after (state_of start) commands.now replies.now)) }
 {
     let Some(plain) = follow(alloc, start, commands, replies)? else {
         return Ok(Verdict::IllegalReply);

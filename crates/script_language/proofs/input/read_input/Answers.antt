@@ -1,4 +1,4 @@
-use Rattle.std.proofs.Common.{rules, ◌<◌, take, take_all, length-take-le, sym, subst, ap, ◌∙◌}
+use Rattle.std.proofs.Common.{arith, length, ◌≡◌, rules, ◌<◌, take, take_all, length-take-le, sym, subst, ap, ◌∙◌}
 use Rattle.std.proofs.lemmas.List.{take-append-le}
 use Rattle.std.proofs.KnownBytes.{Consumes-whole}
 use Rattle.script_language.proofs.Pieces.{input_is_longer}
@@ -9,8 +9,10 @@ returns-clause-whole g c =
     let filled = c.in_ok-length.ensures in
     let room = c.fill.new.room in
     let size = c.in_ok-bytes.bytes.len in
+    let full : length room ≡ 65537 = search rules in
+    let ended = filled.end (omega (arith, full, c.if-length-gt-MOST_BYTES.false)) in
     let kept = take-append-le size room _ (search rules) ∙ take_all size room (search rules) in
-    Consumes-whole _ _ _ _ filled.bytes (filled.end (search rules))
+    Consumes-whole _ _ _ _ filled.bytes ended
     (c.truncate.ensures.items ∙ ap (take c.in_ok-length.length) kept)
 
 pub returns-then-length-gt-MOST_BYTES-clause-too_long :
