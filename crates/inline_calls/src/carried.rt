@@ -1,13 +1,12 @@
 //! The tests and the examples of the crate `inlinable_string`, with the values that it gives.
 use crate::steps::Lies::{AsMade, OnHeap, Shrunk};
-use crate::steps::{Step, assert_each, assert_everywhere, repeated};
+use crate::steps::{Step, assert_each, assert_repeated_everywhere};
 use crate::texts::LONG;
 use inlinable_string::run::Command::{
     Clear, Insert, InsertStr, Pop, Push, PushStr, Remove, ReplaceBytes, Reserve, ReserveExact,
     ShrinkToFit, Truncate,
 };
 use inlinable_string::run::Reply::{Char, Done, NoChar};
-use std::test::Fail;
 
 /// That a text is made empty and with room is asserted of each that is made.
 const NEW: &[(&str, &[Step])] = &[
@@ -79,22 +78,21 @@ fn texts_grow(rt: HostRuntime) {
     assert_each(&rt, rt.alloc(), GROWN);
 }
 
+/// "small" and `LONG`.
+const SMALL_AND_LONG: &str = "smallthis is a really long string that is much larger than
+                        INLINE_STRING_CAPACITY and so cannot be stored inline.";
+
+const OUTGROWN: &[(&str, &[Step])] = &[("small", &[(PushStr(LONG), Done, SMALL_AND_LONG, OnHeap)])];
+
 #[test]
-fn a_small_text_becomes_a_large_one(rt: HostRuntime) -> Result<(), Fail> {
-    let large = format!(in rt.alloc(); "small{LONG}")?;
-    let steps = [(PushStr(LONG), Done, large.as_str(), OnHeap)];
-    assert_everywhere(&rt, rt.alloc(), "small", &steps);
-    Ok(())
+fn a_small_text_becomes_a_large_one(rt: HostRuntime) {
+    assert_each(&rt, rt.alloc(), OUTGROWN);
 }
 
 #[test]
-fn thirty_one_letters_are_pushed_or_inserted(rt: HostRuntime) -> Result<(), Fail> {
-    let letters = "aaaaaaaaaaaaaaaaaaaaaaaaaaaaaaa";
-    for command in [Push('a'), Insert(0, 'a')] {
-        let steps = repeated(rt.alloc(), command, 31, letters, 30)?;
-        assert_everywhere(&rt, rt.alloc(), "", steps.as_slice());
-    }
-    Ok(())
+fn thirty_one_letters_are_pushed_or_inserted(rt: HostRuntime) {
+    assert_repeated_everywhere(&rt, rt.alloc(), Push('a'), "a", 31);
+    assert_repeated_everywhere(&rt, rt.alloc(), Insert(0, 'a'), "a", 31);
 }
 
 const SHRUNK: &[(&str, &[Step])] = &[

@@ -1,37 +1,50 @@
 //! Cuts and replacements: what they answer and leave, and that the text stays where it lies.
 use crate::steps::Lies::{AsMade, OnHeap};
-use crate::steps::{Step, assert_each, assert_everywhere};
+use crate::steps::{Step, assert_each};
+use crate::texts::{LETTERS_29, LETTERS_30, LETTERS_31};
 use inlinable_string::run::Command::{Clear, Insert, Pop, Remove, ReplaceBytes, Truncate};
 use inlinable_string::run::Reply::{BadPlace, Char, Done, NoChar, NotUtf8, WrongLength};
 
-#[test]
-fn the_end_is_no_place_to_remove_from(rt: HostRuntime) {
-    let steps = [
+const AT_THE_END: &[(&str, &[Step])] = &[(
+    "aé",
+    &[
         (Remove(1), Char('é'), "a", AsMade),
         (Remove(1), BadPlace, "a", AsMade),
-    ];
-    assert_everywhere(&rt, rt.alloc(), "aé", &steps);
-}
+    ],
+)];
 
 #[test]
-fn the_middle_of_a_character_is_no_place(rt: HostRuntime) {
-    let steps = [
+fn the_end_is_no_place_to_remove_from(rt: HostRuntime) {
+    assert_each(&rt, rt.alloc(), AT_THE_END);
+}
+
+const IN_THE_MIDDLE: &[(&str, &[Step])] = &[(
+    "é",
+    &[
         (Insert(1, 'x'), BadPlace, "é", AsMade),
         (Truncate(1), BadPlace, "é", AsMade),
         (Truncate(3), BadPlace, "é", AsMade),
         (Truncate(2), Done, "é", AsMade),
-    ];
-    assert_everywhere(&rt, rt.alloc(), "é", &steps);
-}
+    ],
+)];
 
 #[test]
-fn what_is_put_in_is_taken_out_whole(rt: HostRuntime) {
-    let steps = [
+fn the_middle_of_a_character_is_no_place(rt: HostRuntime) {
+    assert_each(&rt, rt.alloc(), IN_THE_MIDDLE);
+}
+
+const PUT_IN_AND_TAKEN_OUT: &[(&str, &[Step])] = &[(
+    "aé",
+    &[
         (Insert(1, '€'), Done, "a€é", AsMade),
         (Remove(2), BadPlace, "a€é", AsMade),
         (Remove(1), Char('€'), "aé", AsMade),
-    ];
-    assert_everywhere(&rt, rt.alloc(), "aé", &steps);
+    ],
+)];
+
+#[test]
+fn what_is_put_in_is_taken_out_whole(rt: HostRuntime) {
+    assert_each(&rt, rt.alloc(), PUT_IN_AND_TAKEN_OUT);
 }
 
 const REPLACED: &[(&str, &[Step])] = &[
@@ -62,20 +75,18 @@ fn bytes_are_replaced_by_as_many_that_are_utf_8(rt: HostRuntime) {
 }
 
 /// Each cut leaves 30 bytes or fewer of 31.
-#[test]
-fn a_cut_does_not_bring_a_text_back_from_the_heap(rt: HostRuntime) {
-    let steps = [
-        (Pop, Char('a'), "aaaaaaaaaaaaaaaaaaaaaaaaaaaaaa", OnHeap),
-        (
-            Remove(0),
-            Char('a'),
-            "aaaaaaaaaaaaaaaaaaaaaaaaaaaaa",
-            OnHeap,
-        ),
+const CUT_ON_THE_HEAP: &[(&str, &[Step])] = &[(
+    LETTERS_31,
+    &[
+        (Pop, Char('a'), LETTERS_30, OnHeap),
+        (Remove(0), Char('a'), LETTERS_29, OnHeap),
         (Truncate(1), Done, "a", OnHeap),
         (Clear, Done, "", OnHeap),
         (Pop, NoChar, "", OnHeap),
-    ];
-    let letters = "aaaaaaaaaaaaaaaaaaaaaaaaaaaaaaa";
-    assert_everywhere(&rt, rt.alloc(), letters, &steps);
+    ],
+)];
+
+#[test]
+fn a_cut_does_not_bring_a_text_back_from_the_heap(rt: HostRuntime) {
+    assert_each(&rt, rt.alloc(), CUT_ON_THE_HEAP);
 }

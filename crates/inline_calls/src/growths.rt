@@ -1,60 +1,147 @@
 //! Growths: what they make of a text, and when it goes to the heap.
 use crate::steps::Lies::{AsMade, OnHeap};
-use crate::steps::{Step, assert_each, assert_everywhere, repeated};
+use crate::steps::{Step, assert_each, assert_each_alone, assert_repeated_everywhere};
+use crate::texts::{LETTERS_26, LETTERS_27, LETTERS_28, LETTERS_29, LETTERS_30, LETTERS_31};
 use inlinable_string::run::Command::{
     Insert, InsertStr, Push, PushStr, Reserve, ReserveExact, ShrinkToFit,
 };
 use inlinable_string::run::Reply::Done;
-use std::test::Fail;
 
-/// A character behind so many letters, before them, and put in at their end.
+/// A character behind so many letters, before them, and put in at their end. It fills the room
+/// inline.
+pub const CHARACTERS_THAT_FIT: &[(&str, &[Step])] = &[
+    (
+        LETTERS_29,
+        &[
+            (Push('a'), Done, LETTERS_30, AsMade),
+            (Insert(0, 'a'), Done, LETTERS_30, AsMade),
+            (Insert(29, 'a'), Done, LETTERS_30, AsMade),
+        ],
+    ),
+    (
+        LETTERS_28,
+        &[
+            (Push('é'), Done, "aaaaaaaaaaaaaaaaaaaaaaaaaaaaé", AsMade),
+            (
+                Insert(0, 'é'),
+                Done,
+                "éaaaaaaaaaaaaaaaaaaaaaaaaaaaa",
+                AsMade,
+            ),
+            (
+                Insert(28, 'é'),
+                Done,
+                "aaaaaaaaaaaaaaaaaaaaaaaaaaaaé",
+                AsMade,
+            ),
+        ],
+    ),
+    (
+        LETTERS_27,
+        &[
+            (Push('€'), Done, "aaaaaaaaaaaaaaaaaaaaaaaaaaa€", AsMade),
+            (Insert(0, '€'), Done, "€aaaaaaaaaaaaaaaaaaaaaaaaaaa", AsMade),
+            (
+                Insert(27, '€'),
+                Done,
+                "aaaaaaaaaaaaaaaaaaaaaaaaaaa€",
+                AsMade,
+            ),
+        ],
+    ),
+    (
+        LETTERS_26,
+        &[
+            (Push('𝄞'), Done, "aaaaaaaaaaaaaaaaaaaaaaaaaa𝄞", AsMade),
+            (Insert(0, '𝄞'), Done, "𝄞aaaaaaaaaaaaaaaaaaaaaaaaaa", AsMade),
+            (Insert(26, '𝄞'), Done, "aaaaaaaaaaaaaaaaaaaaaaaaaa𝄞", AsMade),
+        ],
+    ),
+];
+
+/// The same with a letter more, so that there is no room inline.
+const CHARACTERS_TOO_LONG: &[(&str, &[Step])] = &[
+    (
+        LETTERS_30,
+        &[
+            (Push('a'), Done, LETTERS_31, OnHeap),
+            (Insert(0, 'a'), Done, LETTERS_31, OnHeap),
+            (Insert(30, 'a'), Done, LETTERS_31, OnHeap),
+        ],
+    ),
+    (
+        LETTERS_29,
+        &[
+            (Push('é'), Done, "aaaaaaaaaaaaaaaaaaaaaaaaaaaaaé", OnHeap),
+            (
+                Insert(0, 'é'),
+                Done,
+                "éaaaaaaaaaaaaaaaaaaaaaaaaaaaaa",
+                OnHeap,
+            ),
+            (
+                Insert(29, 'é'),
+                Done,
+                "aaaaaaaaaaaaaaaaaaaaaaaaaaaaaé",
+                OnHeap,
+            ),
+        ],
+    ),
+    (
+        LETTERS_28,
+        &[
+            (Push('€'), Done, "aaaaaaaaaaaaaaaaaaaaaaaaaaaa€", OnHeap),
+            (
+                Insert(0, '€'),
+                Done,
+                "€aaaaaaaaaaaaaaaaaaaaaaaaaaaa",
+                OnHeap,
+            ),
+            (
+                Insert(28, '€'),
+                Done,
+                "aaaaaaaaaaaaaaaaaaaaaaaaaaaa€",
+                OnHeap,
+            ),
+        ],
+    ),
+    (
+        LETTERS_27,
+        &[
+            (Push('𝄞'), Done, "aaaaaaaaaaaaaaaaaaaaaaaaaaa𝄞", OnHeap),
+            (Insert(0, '𝄞'), Done, "𝄞aaaaaaaaaaaaaaaaaaaaaaaaaaa", OnHeap),
+            (
+                Insert(27, '𝄞'),
+                Done,
+                "aaaaaaaaaaaaaaaaaaaaaaaaaaa𝄞",
+                OnHeap,
+            ),
+        ],
+    ),
+];
+
 #[test]
-fn a_character_stays_inline_up_to_30_bytes(rt: HostRuntime) -> Result<(), Fail> {
-    let alloc = rt.alloc();
-    for (count, ch, lies) in [
-        (29, 'a', AsMade),
-        (28, 'é', AsMade),
-        (27, '€', AsMade),
-        (26, '𝄞', AsMade),
-        (30, 'a', OnHeap),
-        (29, 'é', OnHeap),
-        (28, '€', OnHeap),
-        (27, '𝄞', OnHeap),
-    ] {
-        let letters = "a".repeat(alloc, count)?;
-        let behind = format!(in alloc; "{letters}{ch}")?;
-        let before = format!(in alloc; "{ch}{letters}")?;
-        for (command, content) in [
-            (Push(ch), behind.as_str()),
-            (Insert(0, ch), before.as_str()),
-            (Insert(count, ch), behind.as_str()),
-        ] {
-            let step = (command, Done, content, lies);
-            assert_everywhere(&rt, alloc, letters.as_str(), &[step]);
-        }
-    }
-    Ok(())
+fn a_character_stays_inline_up_to_30_bytes(rt: HostRuntime) {
+    assert_each_alone(&rt, rt.alloc(), CHARACTERS_THAT_FIT);
+    assert_each_alone(&rt, rt.alloc(), CHARACTERS_TOO_LONG);
 }
 
 #[test]
-fn a_hundred_insertions_at_the_front_pass_from_inline_to_the_heap(
-    rt: HostRuntime,
-) -> Result<(), Fail> {
-    let whole = "foo".repeat(rt.alloc(), 100)?;
-    assert_eq!(rt; whole.len(), 300);
-    let steps = repeated(rt.alloc(), InsertStr(0, "foo"), 100, whole.as_str(), 30)?;
-    assert_everywhere(&rt, rt.alloc(), "", steps.as_slice());
-    Ok(())
+fn a_hundred_insertions_at_the_front_pass_from_inline_to_the_heap(rt: HostRuntime) {
+    assert_repeated_everywhere(&rt, rt.alloc(), InsertStr(0, "foo"), "foo", 100);
 }
+
+const NOTHING_ADDED: &[(&str, &[Step])] = &[(
+    LETTERS_30,
+    &[
+        (PushStr(""), Done, LETTERS_30, AsMade),
+        (InsertStr(30, ""), Done, LETTERS_30, AsMade),
+    ],
+)];
 
 #[test]
 fn the_empty_text_fits_a_full_one(rt: HostRuntime) {
-    let full = "aaaaaaaaaaaaaaaaaaaaaaaaaaaaaa";
-    let steps = [
-        (PushStr(""), Done, full, AsMade),
-        (InsertStr(30, ""), Done, full, AsMade),
-    ];
-    assert_everywhere(&rt, rt.alloc(), full, &steps);
+    assert_each(&rt, rt.alloc(), NOTHING_ADDED);
 }
 
 /// 28 bytes.
@@ -95,31 +182,35 @@ fn texts_outgrow_the_limit_in_the_middle_and_at_the_end(rt: HostRuntime) {
     assert_each(&rt, rt.alloc(), OUTGROWN);
 }
 
+/// 53 bytes.
+const LONG: &str = "0123456789caaaaaaaaaaaaaaaaaaaaaaaaaaaaaaab0123456789";
+
 /// Growths past the room at hand, one after the other.
-#[test]
-fn a_text_on_the_heap_goes_on_growing(rt: HostRuntime) {
-    let letters = "aaaaaaaaaaaaaaaaaaaaaaaaaaaaaaa";
-    let pushed = "caaaaaaaaaaaaaaaaaaaaaaaaaaaaaaab";
-    let long = "0123456789caaaaaaaaaaaaaaaaaaaaaaaaaaaaaaab0123456789";
-    let steps = [
+const GROWN_ON_THE_HEAP: &[(&str, &[Step])] = &[(
+    LETTERS_31,
+    &[
         (
             Insert(0, 'c'),
             Done,
             "caaaaaaaaaaaaaaaaaaaaaaaaaaaaaaa",
             OnHeap,
         ),
-        (Push('b'), Done, pushed, OnHeap),
+        (Push('b'), Done, "caaaaaaaaaaaaaaaaaaaaaaaaaaaaaaab", OnHeap),
         (
             PushStr("0123456789"),
             Done,
             "caaaaaaaaaaaaaaaaaaaaaaaaaaaaaaab0123456789",
             OnHeap,
         ),
-        (InsertStr(0, "0123456789"), Done, long, OnHeap),
-        (Reserve(100), Done, long, OnHeap),
-        (ReserveExact(1000), Done, long, OnHeap),
-        (ShrinkToFit, Done, long, OnHeap),
-    ];
-    assert_eq!(rt; long.len(), 53);
-    assert_everywhere(&rt, rt.alloc(), letters, &steps);
+        (InsertStr(0, "0123456789"), Done, LONG, OnHeap),
+        (Reserve(100), Done, LONG, OnHeap),
+        (ReserveExact(1000), Done, LONG, OnHeap),
+        (ShrinkToFit, Done, LONG, OnHeap),
+    ],
+)];
+
+#[test]
+fn a_text_on_the_heap_goes_on_growing(rt: HostRuntime) {
+    assert!(rt; LONG.len() == 53);
+    assert_each(&rt, rt.alloc(), GROWN_ON_THE_HEAP);
 }

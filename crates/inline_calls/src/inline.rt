@@ -4,7 +4,7 @@ ghost use Rattle.std.specs.Prelude.{◌≤◌};
 use crate::texts::LONG;
 use edits::Answer::{self, BadPlace, Char, Done, NoChar, NotEnoughSpace};
 use edits::Edit::{self, Clear, Insert, InsertStr, Pop, Push, PushStr, Remove, Truncate};
-use edits::{Step, apply, check_each, check_steps, edited};
+use edits::{Step, apply, check_each, check_each_alone, check_steps, edited};
 use inlinable_string::{INLINE_STRING_CAPACITY, InlineString, InlineStringN};
 use std::process::Abort;
 
@@ -54,6 +54,37 @@ fn a_text_that_is_too_long_is_refused_and_the_short_one_stays(rt: HostRuntime) {
     check_each::<30>(&rt, TOO_LONG);
 }
 
+/// Growths of a full text, at its front and its end.
+const GIVEN_TO_A_FULL_TEXT: &[(Edit, Answer)] = &[
+    (Push('a'), NotEnoughSpace),
+    (PushStr("a"), NotEnoughSpace),
+    (Insert(0, 'a'), NotEnoughSpace),
+    (PushStr(""), Done),
+];
+
+/// Gives an edit to a full text, which stays full.
+fn check_stays_full<const N: usize>(
+    rt: &impl Abort,
+    text: &mut InlineStringN<N>,
+    edit: Edit,
+    answer: Answer,
+)
+    requires { N ≤ 300 }
+{
+    let given = apply(text, edit);
+    assert!(rt; given == answer && text.len() == N, "{given:?} at {N}");
+}
+
+fn check_full<const N: usize>(rt: &impl Abort, text: &mut InlineStringN<N>)
+    requires { N ≤ 300 }
+{
+    for &(edit, answer) in GIVEN_TO_A_FULL_TEXT {
+        check_stays_full(rt, text, edit, answer);
+    }
+    check_stays_full(rt, text, InsertStr(N, "a"), NotEnoughSpace);
+    check_stays_full(rt, text, InsertStr(N, ""), Done);
+}
+
 /// Fills the empty text by an edit that adds a letter, and gives growths to it.
 fn check_filled<const N: usize>(rt: &impl Abort, mut text: InlineStringN<N>, edit: Edit)
     requires { N ≤ 300 }
@@ -61,17 +92,8 @@ fn check_filled<const N: usize>(rt: &impl Abort, mut text: InlineStringN<N>, edi
     for count in 0..N {
         assert!(rt; text.len() == count && apply(&mut text, edit) == Done);
     }
-    for (edit, answer) in [
-        (Push('a'), NotEnoughSpace),
-        (PushStr("a"), NotEnoughSpace),
-        (Insert(0, 'a'), NotEnoughSpace),
-        (InsertStr(N, "a"), NotEnoughSpace),
-        (PushStr(""), Done),
-        (InsertStr(N, ""), Done),
-    ] {
-        assert_eq!(rt; (apply(&mut text, edit), text.len()), (answer, N));
-    }
-    assert_eq!(rt; text.into_bytes(), [b'a'; N]);
+    check_full(rt, &mut text);
+    assert!(rt; text.into_bytes() == [b'a'; N]);
 }
 
 fn check_limit<const N: usize>(rt: &impl Abort)
@@ -83,7 +105,7 @@ fn check_limit<const N: usize>(rt: &impl Abort)
 
 #[test]
 fn as_many_letters_as_the_limit_fit_and_no_more(rt: HostRuntime) {
-    assert_eq!(rt; INLINE_STRING_CAPACITY, 30);
+    assert!(rt; INLINE_STRING_CAPACITY == 30);
     check_limit::<INLINE_STRING_CAPACITY>(&rt);
     check_limit::<0>(&rt);
     check_limit::<1>(&rt);
@@ -138,87 +160,156 @@ fn cuts_give_the_rest_of_the_text(rt: HostRuntime) {
     check_each::<30>(&rt, CUT);
 }
 
+const GROWN_FROM_EMPTY: &[Step] = &[(PushStr(""), Done, ""), (Push('a'), Done, "a")];
+
 #[test]
 fn a_text_is_empty_where_it_has_no_character(rt: HostRuntime) {
-    let steps = [(PushStr(""), Done, ""), (Push('a'), Done, "a")];
-    check_steps(&rt, &mut InlineString::new(), &steps);
-    check_steps(&rt, &mut InlineString::default(), &steps);
+    check_steps(&rt, &mut InlineString::new(), GROWN_FROM_EMPTY);
+    check_steps(&rt, &mut InlineString::default(), GROWN_FROM_EMPTY);
 }
 
-/// Asserts which bytes an edited text has, and which it shows with the zeros after them.
-fn check_bytes<const N: usize>(rt: &impl Abort, start: &str, steps: &[Step], bytes: &[u8])
+/// The start of a text, edits of it, and which bytes it has then and shows with the zeros after
+/// them.
+type BytesRow<'a> = (&'a str, &'a [Step<'a>], &'a [u8]);
+
+fn check_bytes<const N: usize>(rt: &impl Abort, row: &BytesRow)
     requires { N ≤ 300 }
 {
+    let &(start, steps, bytes) = row;
     let text = edited::<N>(rt, start, steps);
-    let is_front = bytes.starts_with(text.as_bytes());
-    assert_eq!(rt; (is_front, &text.into_bytes()[..]), (true, bytes));
+    assert!(rt; bytes.starts_with(text.as_bytes()));
+    assert!(rt; &text.into_bytes()[..] == bytes, "{start} at {N}");
 }
+
+fn check_each_bytes<const N: usize>(rt: &impl Abort, rows: &[BytesRow])
+    requires { N ≤ 300 }
+{
+    for row in rows {
+        check_bytes::<N>(rt, row);
+    }
+}
+
+const BYTES_OF_30: &[BytesRow] = &[(
+    "hello",
+    &[],
+    b"hello\0\0\0\0\0\0\0\0\0\0\0\0\0\0\0\0\0\0\0\0\0\0\0\0\0",
+)];
+
+const BYTES_OF_8: &[BytesRow] = &[("hello", &[], b"hello\0\0\0")];
+
+const BYTES_OF_5: &[BytesRow] = &[("hello", &[], b"hello")];
+
+const BYTES_OF_4: &[BytesRow] = &[("aé", &[], b"a\xC3\xA9\0"), ("𝄞", &[], b"\xF0\x9D\x84\x9E")];
+
+const BYTES_OF_3: &[BytesRow] = &[("€", &[], b"\xE2\x82\xAC")];
+
+const BYTES_OF_1: &[BytesRow] = &[("", &[], b"\0")];
+
+const BYTES_OF_0: &[BytesRow] = &[("", &[], b"")];
 
 #[test]
 fn the_bytes_are_those_of_the_text_and_then_zeros(rt: HostRuntime) {
-    let hello = b"hello\0\0\0\0\0\0\0\0\0\0\0\0\0\0\0\0\0\0\0\0\0\0\0\0\0";
-    check_bytes::<30>(&rt, "hello", &[], hello);
-    check_bytes::<8>(&rt, "hello", &[], b"hello\0\0\0");
-    check_bytes::<5>(&rt, "hello", &[], b"hello");
-    check_bytes::<4>(&rt, "aé", &[], b"a\xC3\xA9\0");
-    check_bytes::<4>(&rt, "𝄞", &[], b"\xF0\x9D\x84\x9E");
-    check_bytes::<3>(&rt, "€", &[], b"\xE2\x82\xAC");
-    check_bytes::<1>(&rt, "", &[], b"\0");
-    check_bytes::<0>(&rt, "", &[], b"");
+    check_each_bytes::<30>(&rt, BYTES_OF_30);
+    check_each_bytes::<8>(&rt, BYTES_OF_8);
+    check_each_bytes::<5>(&rt, BYTES_OF_5);
+    check_each_bytes::<4>(&rt, BYTES_OF_4);
+    check_each_bytes::<3>(&rt, BYTES_OF_3);
+    check_each_bytes::<1>(&rt, BYTES_OF_1);
+    check_each_bytes::<0>(&rt, BYTES_OF_0);
 }
+
+const CUT_OFF: &[BytesRow] = &[(
+    "hello",
+    &[(Truncate(2), Done, "he")],
+    b"he\0\0\0\0\0\0\0\0\0\0\0\0\0\0\0\0\0\0\0\0\0\0\0\0\0\0\0\0",
+)];
+
+const TAKEN_OUT: &[BytesRow] = &[(
+    "abcd",
+    &[(Remove(0), Char('a'), "bcd"), (Push('e'), Done, "bcde")],
+    &[0x62, 0x63, 0x64, 0x65],
+)];
 
 #[test]
 fn bytes_that_were_cut_off_or_taken_out_do_not_show(rt: HostRuntime) {
-    let he = b"he\0\0\0\0\0\0\0\0\0\0\0\0\0\0\0\0\0\0\0\0\0\0\0\0\0\0\0\0";
-    check_bytes::<30>(&rt, "hello", &[(Truncate(2), Done, "he")], he);
-    let steps = [(Remove(0), Char('a'), "bcd"), (Push('e'), Done, "bcde")];
-    check_bytes::<4>(&rt, "abcd", &steps, &[0x62, 0x63, 0x64, 0x65]);
+    check_each_bytes::<30>(&rt, CUT_OFF);
+    check_each_bytes::<4>(&rt, TAKEN_OUT);
 }
-
-/// A place of "aé€𝄞", that text with 'x' and with "bar" put in there, cut off there, and what is
-/// taken out there and left.
-type PlaceRow = (
-    usize,
-    &'static str,
-    &'static str,
-    &'static str,
-    (Answer, &'static str),
-);
-
-const PLACES: &[PlaceRow] = &[
-    (0, "xaé€𝄞", "baraé€𝄞", "", (Char('a'), "é€𝄞")),
-    (1, "axé€𝄞", "abaré€𝄞", "a", (Char('é'), "a€𝄞")),
-    (3, "aéx€𝄞", "aébar€𝄞", "aé", (Char('€'), "aé𝄞")),
-    (6, "aé€x𝄞", "aé€bar𝄞", "aé€", (Char('𝄞'), "aé€")),
-    (10, "aé€𝄞x", "aé€𝄞bar", "aé€𝄞", (BadPlace, WHOLE)),
-];
 
 const WHOLE: &str = "aé€𝄞";
 
-/// Makes each edit on a text of its own.
+/// Edits at each place.
+const PLACES: &[(&str, &[Step])] = &[(
+    WHOLE,
+    &[
+        (Insert(0, 'x'), Done, "xaé€𝄞"),
+        (Insert(1, 'x'), Done, "axé€𝄞"),
+        (Insert(3, 'x'), Done, "aéx€𝄞"),
+        (Insert(6, 'x'), Done, "aé€x𝄞"),
+        (Insert(10, 'x'), Done, "aé€𝄞x"),
+        (InsertStr(0, "bar"), Done, "baraé€𝄞"),
+        (InsertStr(1, "bar"), Done, "abaré€𝄞"),
+        (InsertStr(3, "bar"), Done, "aébar€𝄞"),
+        (InsertStr(6, "bar"), Done, "aé€bar𝄞"),
+        (InsertStr(10, "bar"), Done, "aé€𝄞bar"),
+        (Truncate(0), Done, ""),
+        (Truncate(1), Done, "a"),
+        (Truncate(3), Done, "aé"),
+        (Truncate(6), Done, "aé€"),
+        (Truncate(10), Done, WHOLE),
+        (Remove(0), Char('a'), "é€𝄞"),
+        (Remove(1), Char('é'), "a€𝄞"),
+        (Remove(3), Char('€'), "aé𝄞"),
+        (Remove(6), Char('𝄞'), "aé€"),
+        // None begins at the end.
+        (Remove(10), BadPlace, WHOLE),
+    ],
+)];
+
+/// Edits at offsets that are no places.
+const NO_PLACES: &[(&str, &[Step])] = &[(
+    WHOLE,
+    &[
+        (Insert(2, 'x'), BadPlace, WHOLE),
+        (Insert(4, 'x'), BadPlace, WHOLE),
+        (Insert(5, 'x'), BadPlace, WHOLE),
+        (Insert(7, 'x'), BadPlace, WHOLE),
+        (Insert(8, 'x'), BadPlace, WHOLE),
+        (Insert(9, 'x'), BadPlace, WHOLE),
+        (Insert(11, 'x'), BadPlace, WHOLE),
+        (Insert(usize::MAX, 'x'), BadPlace, WHOLE),
+        (InsertStr(2, "bar"), BadPlace, WHOLE),
+        (InsertStr(4, "bar"), BadPlace, WHOLE),
+        (InsertStr(5, "bar"), BadPlace, WHOLE),
+        (InsertStr(7, "bar"), BadPlace, WHOLE),
+        (InsertStr(8, "bar"), BadPlace, WHOLE),
+        (InsertStr(9, "bar"), BadPlace, WHOLE),
+        (InsertStr(11, "bar"), BadPlace, WHOLE),
+        (InsertStr(usize::MAX, "bar"), BadPlace, WHOLE),
+        (Truncate(2), BadPlace, WHOLE),
+        (Truncate(4), BadPlace, WHOLE),
+        (Truncate(5), BadPlace, WHOLE),
+        (Truncate(7), BadPlace, WHOLE),
+        (Truncate(8), BadPlace, WHOLE),
+        (Truncate(9), BadPlace, WHOLE),
+        (Truncate(11), BadPlace, WHOLE),
+        (Truncate(usize::MAX), BadPlace, WHOLE),
+        (Remove(2), BadPlace, WHOLE),
+        (Remove(4), BadPlace, WHOLE),
+        (Remove(5), BadPlace, WHOLE),
+        (Remove(7), BadPlace, WHOLE),
+        (Remove(8), BadPlace, WHOLE),
+        (Remove(9), BadPlace, WHOLE),
+        (Remove(11), BadPlace, WHOLE),
+        (Remove(usize::MAX), BadPlace, WHOLE),
+    ],
+)];
+
 fn check_places<const N: usize>(rt: &impl Abort)
     requires { N ≤ 300 }
 {
-    for &(place, with_char, with_str, cut, (removed, rest)) in PLACES {
-        for step in [
-            (Insert(place, 'x'), Done, with_char),
-            (InsertStr(place, "bar"), Done, with_str),
-            (Truncate(place), Done, cut),
-            (Remove(place), removed, rest),
-        ] {
-            check_each::<N>(rt, &[(WHOLE, &[step])]);
-        }
-    }
-    for idx in [2, 4, 5, 7, 8, 9, 11, usize::MAX] {
-        for edit in [
-            Insert(idx, 'x'),
-            InsertStr(idx, "bar"),
-            Truncate(idx),
-            Remove(idx),
-        ] {
-            check_each::<N>(rt, &[(WHOLE, &[(edit, BadPlace, WHOLE)])]);
-        }
-    }
+    check_each_alone::<N>(rt, PLACES);
+    check_each_alone::<N>(rt, NO_PLACES);
 }
 
 #[test]
@@ -228,18 +319,18 @@ fn each_place_is_told_by_the_test_and_taken_by_the_calls(rt: HostRuntime) {
     check_places::<300>(&rt);
 }
 
-/// A character whose bytes fill the rest of a text.
-fn check_fits<const N: usize>(rt: &impl Abort, ch: char, bytes: &[u8])
+/// An edit that puts the bytes of a character in at `at`, so that they fill the rest of a text.
+fn check_fits<const N: usize>(rt: &impl Abort, edit: Edit, at: usize, bytes: &[u8])
     requires { N ≤ 300 }
 {
     assert!(rt; bytes.len() <= N);
-    let kept = N - bytes.len();
-    for (edit, at) in [(Push(ch), kept), (Insert(0, ch), 0)] {
-        let mut text = letters::<N>(rt, kept);
-        let answer = apply(&mut text, edit);
-        let shown = letters_around(rt, at, bytes);
-        assert_eq!(rt; (answer, text.into_bytes()), (Done, shown), "{ch} at {N}");
-    }
+    let mut text = letters::<N>(rt, N - bytes.len());
+    let answer = apply(&mut text, edit);
+    let shown = letters_around(rt, at, bytes);
+    assert!(rt;
+        answer == Done && text.into_bytes() == shown,
+        "{bytes:?} at {N}"
+    );
 }
 
 /// A character of so many bytes, of which one finds no room.
@@ -249,13 +340,10 @@ fn check_just_too_long<const N: usize>(rt: &impl Abort, ch: char, count: usize)
     assert!(rt; count <= N + 1);
     let kept = N + 1 - count;
     let mut text = letters::<N>(rt, kept);
-    let answers = [apply(&mut text, Push(ch)), apply(&mut text, Insert(0, ch))];
-    let are_letters = text.as_bytes().iter().all(|&byte| byte == b'a');
-    assert_eq!(rt;
-        (answers, text.len(), are_letters),
-        ([NotEnoughSpace; 2], kept, true),
-        "{ch} at {N}"
-    );
+    let are_refused = apply(&mut text, Push(ch)) == NotEnoughSpace
+        && apply(&mut text, Insert(0, ch)) == NotEnoughSpace;
+    let are_letters = text.len() == kept && [b'a'; N].starts_with(text.as_bytes());
+    assert!(rt; are_refused && are_letters, "{ch} at {N}");
 }
 
 fn check_edge<const N: usize>(rt: &impl Abort)
@@ -263,7 +351,8 @@ fn check_edge<const N: usize>(rt: &impl Abort)
 {
     for &(ch, bytes) in CHARACTERS {
         if bytes.len() <= N {
-            check_fits::<N>(rt, ch, bytes);
+            check_fits::<N>(rt, Push(ch), N - bytes.len(), bytes);
+            check_fits::<N>(rt, Insert(0, ch), 0, bytes);
         }
         if bytes.len() <= N + 1 {
             check_just_too_long::<N>(rt, ch, bytes.len());

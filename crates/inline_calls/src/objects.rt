@@ -11,9 +11,8 @@ use inlinable_string::run::Command::{
 };
 use inlinable_string::run::Reply::{Char, Done, NotUtf8, WrongLength};
 use inlinable_string::{BoxableString, InlinableString, Storage, StringExt};
-use std::alloc::AllocError;
+use std::alloc::{AllocError, Global};
 use std::process::Abort;
-use std::test::Fail;
 
 /// A text of a caller's own: a `String`, on the heap always.
 #[derive(Drop)]
@@ -127,15 +126,21 @@ const GROWTHS: &[Command] = &[
     ReserveExact(50),
 ];
 
+/// Gives each of the growths.
+fn assert_grown<S: StringExt>(rt: &impl Abort, text: &mut S) {
+    for (i, &command) in GROWTHS.iter().enumerate() {
+        assert!(rt; called(text, command) == Done, "growth {i}");
+    }
+}
+
 /// Begins with the empty text.
 fn assert_grows_without_room<S: StringExt>(rt: &impl Abort, text: &mut S) {
     for round in 1..=4usize {
-        for &command in GROWTHS {
-            assert!(rt; called(text, command) == Done);
-        }
-        assert_eq!(rt;
-            (text.len(), text.storage()),
-            (round.saturating_mul(19), Storage::Heap)
+        assert_grown(rt, text);
+        let len = round.saturating_mul(19);
+        assert!(rt;
+            text.len() == len && text.storage() == Storage::Heap,
+            "round {round}"
         );
     }
 }
@@ -152,37 +157,38 @@ fn a_type_of_a_callers_own_is_edited_as_a_string_is(rt: HostRuntime) {
         limit: None,
         room: None,
     };
-    let mut plain = Plain {
-        inner: String::new(alloc),
-    };
-    assert_every_call(&rt, &mut plain, kind);
+    assert_every_call(&rt, &mut own_text(&rt, alloc, ""), kind);
     assert_every_call(&rt, &mut String::new(alloc), kind);
+}
+
+fn assert_boxable_edited(rt: &impl Abort, alloc: Global, room: Option<usize>) {
+    let kind = Kind {
+        limit: Some(30),
+        room,
+    };
+    let mut text = boxable(rt, alloc, room, "");
+    assert_every_call(rt, &mut text, kind);
 }
 
 #[test]
 fn a_boxable_text_is_edited_as_the_text_in_it_is(rt: HostRuntime) {
-    for room in [None, HEAP_ROOM] {
-        let kind = Kind {
-            limit: Some(30),
-            room,
-        };
-        let mut boxable = BoxableString(text_of(&rt, rt.alloc(), room, ""));
-        assert_every_call(&rt, &mut boxable, kind);
-    }
+    assert_boxable_edited(&rt, rt.alloc(), None);
+    assert_boxable_edited(&rt, rt.alloc(), HEAP_ROOM);
 }
 
 /// Pushes through a reference to the trait.
-fn say_that_it_works(text: &mut dyn StringExt) -> Result<(), AllocError> {
-    text.push_str("it work")?;
-    text.push('s')?;
-    text.push_str("!")
+fn say_that_it_works(rt: &impl Abort, text: &mut dyn StringExt) {
+    let is_said = text.push_str("it work").is_ok()
+        && text.push('s').is_ok()
+        && text.push_str("!").is_ok();
+    assert!(rt; is_said);
 }
 
 #[test]
 fn a_string_grows_through_a_reference_to_the_trait(rt: HostRuntime) {
     let start = "this is a plain std::string::String";
     let mut string: String = text_of(&rt, rt.alloc(), None, start);
-    assert!(rt; say_that_it_works(&mut string).is_ok());
+    say_that_it_works(&rt, &mut string);
     let wanted = "this is a plain std::string::Stringit works!";
     assert_text(&rt, &string, wanted, Storage::Heap);
 }
@@ -190,67 +196,90 @@ fn a_string_grows_through_a_reference_to_the_trait(rt: HostRuntime) {
 #[test]
 fn an_inline_text_grows_through_a_reference_to_the_trait(rt: HostRuntime) {
     let mut inline: InlinableString = text_of(&rt, rt.alloc(), None, "inline");
-    assert!(rt; say_that_it_works(&mut inline).is_ok());
+    say_that_it_works(&rt, &mut inline);
     assert_text(&rt, &inline, "inlineit works!", Storage::Inline);
+}
+
+fn own_text(rt: &impl Abort, alloc: Global, content: &str) -> Plain {
+    Plain {
+        inner: text_of(rt, alloc, None, content),
+    }
 }
 
 #[test]
 fn a_type_of_a_callers_own_grows_through_a_reference_to_the_trait(rt: HostRuntime) {
-    let mut plain = Plain {
-        inner: text_of(&rt, rt.alloc(), None, "plain"),
-    };
-    assert!(rt; say_that_it_works(&mut plain).is_ok());
-    assert_text(&rt, &plain, "plainit works!", Storage::Heap);
+    let mut text = own_text(&rt, rt.alloc(), "plain");
+    say_that_it_works(&rt, &mut text);
+    assert_text(&rt, &text, "plainit works!", Storage::Heap);
+}
+
+/// A text of any type.
+type Boxed = Box<dyn StringExt + Drop>;
+
+fn boxable(rt: &impl Abort, alloc: Global, room: Option<usize>, content: &str) -> BoxableString {
+    BoxableString(text_of(rt, alloc, room, content))
+}
+
+/// Puts a text in a box of its own type.
+fn boxed<S: StringExt + Drop>(rt: &impl Abort, alloc: Global, text: S) -> Box<S> {
+    Box::new(alloc, text).expect(rt, "memory")
+}
+
+#[test]
+fn boxed_texts_of_several_types_stand_in_one_list(rt: HostRuntime) {
+    let alloc = rt.alloc();
+    let mut texts: Vec<Boxed> = Vec::new(alloc);
+    let string: String = text_of(&rt, alloc, None, "x");
+    texts.push(boxed(&rt, alloc, string)).expect(&rt, "memory");
+    let inline = boxable(&rt, alloc, None, "x");
+    texts.push(boxed(&rt, alloc, inline)).expect(&rt, "memory");
+    let heap = boxable(&rt, alloc, HEAP_ROOM, "x");
+    texts.push(boxed(&rt, alloc, heap)).expect(&rt, "memory");
+    let own = own_text(&rt, alloc, "x");
+    texts.push(boxed(&rt, alloc, own)).expect(&rt, "memory");
+    assert_edited_in_boxes(&rt, texts.as_mut_slice());
 }
 
 /// Where a `String`, a boxable text made new and one made on the heap, and a caller's own text lie.
 const STORAGES: &[Storage] = &[Storage::Heap, Storage::Inline, Storage::Heap, Storage::Heap];
 
-#[test]
-fn boxed_texts_of_several_types_stand_in_one_list(rt: HostRuntime) -> Result<(), Fail> {
-    let alloc = rt.alloc();
-    let mut texts: Vec<Box<dyn StringExt + Drop>> = Vec::new(alloc);
-    let string: String = text_of(&rt, alloc, None, "x");
-    texts.push(Box::new(alloc, string)?)?;
-    for room in [None, HEAP_ROOM] {
-        let text = BoxableString(text_of(&rt, alloc, room, "x"));
-        texts.push(Box::new(alloc, text)?)?;
-    }
-    let plain = Plain {
-        inner: text_of(&rt, alloc, None, "x"),
-    };
-    texts.push(Box::new(alloc, plain)?)?;
+fn assert_edited_in_boxes(rt: &impl Abort, texts: &mut [Boxed]) {
     assert!(rt; texts.len() == STORAGES.len());
-    for (text, storage) in texts.iter_mut().zip(STORAGES) {
-        assert_emptied_in_a_box(&rt, text, *storage);
-        assert_filled_in_a_box(&rt, text);
+    for (text, &storage) in texts.iter_mut().zip(STORAGES) {
+        assert_emptied_in_a_box(rt, text, storage);
+        assert_filled_in_a_box(rt, text);
     }
-    Ok(())
 }
+
+/// Asserts what the text is and where it lies, by all calls that look at it.
+fn assert_boxed_text(rt: &impl Abort, text: &Boxed, content: &str, storage: Storage) {
+    let is_right = text.as_str() == content
+        && text.as_bytes() == content.as_bytes()
+        && text.len() == content.len()
+        && text.is_empty() == content.is_empty()
+        && text.storage() == storage
+        && text.capacity() >= content.len();
+    assert!(rt; is_right, "{content}");
+}
+
+/// The last characters of "xy".
+const LAST: &[Option<char>] = &[Some('y'), Some('x'), None];
 
 /// Empties the text "x" by its end.
-fn assert_emptied_in_a_box(
-    rt: &impl Abort,
-    text: &mut Box<dyn StringExt + Drop>,
-    storage: Storage,
-) {
-    let is_pushed = text.push('y').is_ok();
-    assert_eq!(rt; (is_pushed, text.as_str()), (true, "xy"));
-    for last in [Some('y'), Some('x'), None] {
+fn assert_emptied_in_a_box(rt: &impl Abort, text: &mut Boxed, storage: Storage) {
+    assert!(rt; text.push('y').is_ok());
+    assert_boxed_text(rt, text, "xy", storage);
+    for &last in LAST {
         assert!(rt; text.pop() == last);
     }
-    assert!(rt; text.is_empty() && text.storage() == storage);
+    assert_boxed_text(rt, text, "", storage);
 }
 
-fn assert_filled_in_a_box(rt: &impl Abort, text: &mut Box<dyn StringExt + Drop>) {
+/// Fills the empty text past the room that it has inline, with 31 bytes.
+fn assert_filled_in_a_box(rt: &impl Abort, text: &mut Boxed) {
     let digits = "0123456789012345678901234567890";
     assert!(rt; text.push_str(digits).is_ok());
-    assert_eq!(rt; text.as_bytes(), digits.as_bytes());
-    let has_room = text.capacity() >= 31;
-    assert_eq!(rt;
-        (has_room, text.len(), text.storage()),
-        (true, 31, Storage::Heap)
-    );
+    assert_boxed_text(rt, text, digits, Storage::Heap);
     text.clear();
-    assert!(rt; text.len() == 0);
+    assert_boxed_text(rt, text, "", Storage::Heap);
 }

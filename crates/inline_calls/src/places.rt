@@ -1,86 +1,110 @@
 //! Each byte offset of a text with characters of every length, and those past its end, given to
 //! each call that takes a place.
 use crate::steps::Lies::AsMade;
-use crate::steps::assert_everywhere;
-use inlinable_string::run::Command::{self, Insert, InsertStr, Remove, Truncate};
+use crate::steps::{Step, assert_each_alone};
+use inlinable_string::run::Command::{Insert, InsertStr, Remove, Truncate};
 use inlinable_string::run::Reply::{BadPlace, Char, Done};
-use std::alloc::Global;
-use std::process::Abort;
 
 /// A character of each length. Its places are 0, 1, 3, 6 and 10.
 const TEXT: &str = "aé€𝄞";
 
-/// The offsets that are no places.
-const NO_PLACES: &[usize] = &[2, 4, 5, 7, 8, 9, 11, usize::MAX];
-
-/// Gives a call to a text of its own, where it is refused.
-fn assert_refused(rt: &impl Abort, alloc: Global, command: Command) {
-    assert_everywhere(rt, alloc, TEXT, &[(command, BadPlace, TEXT, AsMade)]);
-}
+const INSERTED: &[(&str, &[Step])] = &[(
+    TEXT,
+    &[
+        (Insert(0, 'x'), Done, "xaé€𝄞", AsMade),
+        (Insert(1, 'x'), Done, "axé€𝄞", AsMade),
+        (Insert(3, 'x'), Done, "aéx€𝄞", AsMade),
+        (Insert(6, 'x'), Done, "aé€x𝄞", AsMade),
+        (Insert(10, 'x'), Done, "aé€𝄞x", AsMade),
+        // No places.
+        (Insert(2, 'x'), BadPlace, TEXT, AsMade),
+        (Insert(4, 'x'), BadPlace, TEXT, AsMade),
+        (Insert(5, 'x'), BadPlace, TEXT, AsMade),
+        (Insert(7, 'x'), BadPlace, TEXT, AsMade),
+        (Insert(8, 'x'), BadPlace, TEXT, AsMade),
+        (Insert(9, 'x'), BadPlace, TEXT, AsMade),
+        (Insert(11, 'x'), BadPlace, TEXT, AsMade),
+        (Insert(usize::MAX, 'x'), BadPlace, TEXT, AsMade),
+    ],
+)];
 
 #[test]
 fn a_character_goes_in_at_each_place_and_nowhere_else(rt: HostRuntime) {
-    let alloc = rt.alloc();
-    for (place, content) in [
-        (0, "xaé€𝄞"),
-        (1, "axé€𝄞"),
-        (3, "aéx€𝄞"),
-        (6, "aé€x𝄞"),
-        (10, "aé€𝄞x"),
-    ] {
-        let step = (Insert(place, 'x'), Done, content, AsMade);
-        assert_everywhere(&rt, alloc, TEXT, &[step]);
-    }
-    for &offset in NO_PLACES {
-        assert_refused(&rt, alloc, Insert(offset, 'x'));
-    }
+    assert_each_alone(&rt, rt.alloc(), INSERTED);
 }
+
+const TEXTS_INSERTED: &[(&str, &[Step])] = &[(
+    TEXT,
+    &[
+        (InsertStr(0, "né"), Done, "néaé€𝄞", AsMade),
+        (InsertStr(1, "né"), Done, "anéé€𝄞", AsMade),
+        (InsertStr(3, "né"), Done, "aéné€𝄞", AsMade),
+        (InsertStr(6, "né"), Done, "aé€né𝄞", AsMade),
+        (InsertStr(10, "né"), Done, "aé€𝄞né", AsMade),
+        // No places.
+        (InsertStr(2, "né"), BadPlace, TEXT, AsMade),
+        (InsertStr(4, "né"), BadPlace, TEXT, AsMade),
+        (InsertStr(5, "né"), BadPlace, TEXT, AsMade),
+        (InsertStr(7, "né"), BadPlace, TEXT, AsMade),
+        (InsertStr(8, "né"), BadPlace, TEXT, AsMade),
+        (InsertStr(9, "né"), BadPlace, TEXT, AsMade),
+        (InsertStr(11, "né"), BadPlace, TEXT, AsMade),
+        (InsertStr(usize::MAX, "né"), BadPlace, TEXT, AsMade),
+    ],
+)];
 
 #[test]
 fn a_text_goes_in_at_each_place_and_nowhere_else(rt: HostRuntime) {
-    let alloc = rt.alloc();
-    for (place, content) in [
-        (0, "néaé€𝄞"),
-        (1, "anéé€𝄞"),
-        (3, "aéné€𝄞"),
-        (6, "aé€né𝄞"),
-        (10, "aé€𝄞né"),
-    ] {
-        let step = (InsertStr(place, "né"), Done, content, AsMade);
-        assert_everywhere(&rt, alloc, TEXT, &[step]);
-    }
-    for &offset in NO_PLACES {
-        assert_refused(&rt, alloc, InsertStr(offset, "né"));
-    }
+    assert_each_alone(&rt, rt.alloc(), TEXTS_INSERTED);
 }
+
+const CUT: &[(&str, &[Step])] = &[(
+    TEXT,
+    &[
+        (Truncate(0), Done, "", AsMade),
+        (Truncate(1), Done, "a", AsMade),
+        (Truncate(3), Done, "aé", AsMade),
+        (Truncate(6), Done, "aé€", AsMade),
+        (Truncate(10), Done, TEXT, AsMade),
+        // No places.
+        (Truncate(2), BadPlace, TEXT, AsMade),
+        (Truncate(4), BadPlace, TEXT, AsMade),
+        (Truncate(5), BadPlace, TEXT, AsMade),
+        (Truncate(7), BadPlace, TEXT, AsMade),
+        (Truncate(8), BadPlace, TEXT, AsMade),
+        (Truncate(9), BadPlace, TEXT, AsMade),
+        (Truncate(11), BadPlace, TEXT, AsMade),
+        (Truncate(usize::MAX), BadPlace, TEXT, AsMade),
+    ],
+)];
 
 #[test]
 fn a_text_is_cut_at_each_place_and_nowhere_else(rt: HostRuntime) {
-    let alloc = rt.alloc();
-    for (place, content) in [(0, ""), (1, "a"), (3, "aé"), (6, "aé€"), (10, TEXT)] {
-        let step = (Truncate(place), Done, content, AsMade);
-        assert_everywhere(&rt, alloc, TEXT, &[step]);
-    }
-    for &offset in NO_PLACES {
-        assert_refused(&rt, alloc, Truncate(offset));
-    }
+    assert_each_alone(&rt, rt.alloc(), CUT);
 }
+
+const TAKEN_OUT: &[(&str, &[Step])] = &[(
+    TEXT,
+    &[
+        (Remove(0), Char('a'), "é€𝄞", AsMade),
+        (Remove(1), Char('é'), "a€𝄞", AsMade),
+        (Remove(3), Char('€'), "aé𝄞", AsMade),
+        (Remove(6), Char('𝄞'), "aé€", AsMade),
+        // None begins at the end.
+        (Remove(10), BadPlace, TEXT, AsMade),
+        // No places.
+        (Remove(2), BadPlace, TEXT, AsMade),
+        (Remove(4), BadPlace, TEXT, AsMade),
+        (Remove(5), BadPlace, TEXT, AsMade),
+        (Remove(7), BadPlace, TEXT, AsMade),
+        (Remove(8), BadPlace, TEXT, AsMade),
+        (Remove(9), BadPlace, TEXT, AsMade),
+        (Remove(11), BadPlace, TEXT, AsMade),
+        (Remove(usize::MAX), BadPlace, TEXT, AsMade),
+    ],
+)];
 
 #[test]
 fn a_character_is_taken_out_where_it_begins_and_nowhere_else(rt: HostRuntime) {
-    let alloc = rt.alloc();
-    for (place, removed, content) in [
-        (0, 'a', "é€𝄞"),
-        (1, 'é', "a€𝄞"),
-        (3, '€', "aé𝄞"),
-        (6, '𝄞', "aé€"),
-    ] {
-        let step = (Remove(place), Char(removed), content, AsMade);
-        assert_everywhere(&rt, alloc, TEXT, &[step]);
-    }
-    // None begins at the end.
-    assert_refused(&rt, alloc, Remove(10));
-    for &offset in NO_PLACES {
-        assert_refused(&rt, alloc, Remove(offset));
-    }
+    assert_each_alone(&rt, rt.alloc(), TAKEN_OUT);
 }

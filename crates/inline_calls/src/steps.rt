@@ -1,12 +1,13 @@
 //! Steps: a command, and the reply, the text and the storage that it must give. Tables of them are
 //! played on every kind of text, by the calls of the traits.
-use crate::texts::{assert_text, insert_at, insert_str_at, remove_at, text_of, truncate_at};
+use crate::texts::{
+    assert_text, insert_at, insert_str_at, is_text, remove_at, text_of, truncate_at,
+};
 use inlinable_string::inline_string::ReplaceError;
 use inlinable_string::run::{Command, Reply};
 use inlinable_string::{BoxableString, InlinableString, Storage, StringExt, StringMake};
 use std::alloc::{AllocError, Global};
 use std::process::Abort;
-use std::test::Fail;
 
 /// A command, the reply to it, the text after it, and where the text lies then.
 pub type Step<'a> = (Command<'a>, Reply, &'a str, Lies);
@@ -86,33 +87,63 @@ pub fn called<S: StringExt>(text: &mut S, command: Command) -> Reply {
     }
 }
 
-/// Asserts that a text that lies inline has room for its limit, and one whose reservation was
-/// granted has that room.
-fn assert_room<S: StringExt>(
-    rt: &impl Abort,
-    text: &S,
-    kind: Kind,
-    command: Command,
-    reply: Reply,
-) {
-    let reserved = match (command, reply) {
-        (Command::Reserve(additional) | Command::ReserveExact(additional), Reply::Done) => {
-            additional
-        }
+/// Whether a text that lies inline has room for its limit, and one whose reservation was granted
+/// has that room.
+fn has_room<S: StringExt>(text: &S, kind: Kind, command: Command, reply: Reply) -> bool {
+    let reserved = match command {
+        Command::Reserve(additional) | Command::ReserveExact(additional) => additional,
         _ => 0,
     };
     let capacity = text.capacity();
-    let is_limit = text.storage() == Storage::Heap || kind.limit == Some(capacity);
-    assert!(rt; is_limit && capacity.saturating_sub(text.len()) >= reserved);
+    let has_limit = text.storage() == Storage::Heap || kind.limit == Some(capacity);
+    let is_granted = reply == Reply::Done;
+    has_limit && (!is_granted || capacity.saturating_sub(text.len()) >= reserved)
+}
+
+/// Makes the call of a step, and tells the reply where the step is wrong: where the reply is another
+/// one, the text or its room is not what it must be, or the capacity is changed by a call that is
+/// not answered with `Done`.
+fn wrong_reply<S: StringExt>(
+    text: &mut S,
+    kind: Kind,
+    &(command, reply, content, lies): &Step,
+) -> Option<Reply> {
+    let capacity = text.capacity();
+    let given = called(text, command);
+    let is_right = given == reply
+        && is_text(text, content, storage_of(kind, lies))
+        && has_room(text, kind, command, reply)
+        && (reply == Reply::Done || text.capacity() == capacity);
+    if is_right { None } else { Some(given) }
+}
+
+/// Plays the steps up to the first that is wrong, and tells which that is, and the reply.
+pub fn first_wrong<S: StringExt>(
+    text: &mut S,
+    kind: Kind,
+    steps: &[Step],
+) -> Option<(usize, Reply)> {
+    for (i, step) in steps.iter().enumerate() {
+        if let Some(reply) = wrong_reply(text, kind, step) {
+            return Some((i, reply));
+        }
+    }
+    None
+}
+
+/// Asserts that none of the steps that led to this text was wrong.
+pub fn assert_none_wrong<S: StringExt>(rt: &impl Abort, text: &S, wrong: Option<(usize, Reply)>) {
+    let left = text.as_str();
+    assert!(rt;
+        wrong.is_none(),
+        "the step and its reply: {wrong:?}, the text: {left}"
+    );
 }
 
 /// Plays the steps in turn.
 pub fn assert_steps<S: StringExt>(rt: &impl Abort, text: &mut S, kind: Kind, steps: &[Step]) {
-    for (i, &(command, reply, content, lies)) in steps.iter().enumerate() {
-        assert_eq!(rt; called(text, command), reply, "in step {i}, to {content}");
-        assert_text(rt, text, content, storage_of(kind, lies));
-        assert_room(rt, text, kind, command, reply);
-    }
+    let wrong = first_wrong(text, kind, steps);
+    assert_none_wrong(rt, text, wrong);
 }
 
 /// Makes a text, and asserts that it is empty and lies where it is to lie.
@@ -120,6 +151,15 @@ fn made<S: StringMake + Drop>(rt: &impl Abort, alloc: Global, kind: Kind) -> S {
     let text: S = text_of(rt, alloc, kind.room, "");
     assert_text(rt, &text, "", storage_of(kind, Lies::AsMade));
     text
+}
+
+/// Where a text lies that has been given so many bytes.
+fn lies_at(len: usize, limit: usize) -> Lies {
+    if limit < len {
+        Lies::OnHeap
+    } else {
+        Lies::AsMade
+    }
 }
 
 /// Gives the text, which is empty, its start, asserts that it has the room that it was made with,
@@ -131,8 +171,7 @@ fn assert_begun<S: StringExt>(
     start: &str,
     steps: &[Step],
 ) {
-    let is_long = kind.limit.is_some_and(|limit| limit < start.len());
-    let lies = if is_long { Lies::OnHeap } else { Lies::AsMade };
+    let lies = lies_at(start.len(), kind.limit.unwrap_or(usize::MAX));
     let begin = (Command::PushStr(start), Reply::Done, start, lies);
     assert_steps(rt, text, kind, &[begin]);
     assert!(rt; text.capacity() >= kind.room.unwrap_or(0));
@@ -173,31 +212,87 @@ pub fn assert_each(rt: &impl Abort, alloc: Global, lists: &[(&str, &[Step])]) {
     }
 }
 
+/// Plays each step on texts of its own that begin with the start of its list.
+pub fn assert_each_alone(rt: &impl Abort, alloc: Global, lists: &[(&str, &[Step])]) {
+    for &(start, steps) in lists {
+        for step in steps {
+            assert_everywhere(rt, alloc, start, &[*step]);
+        }
+    }
+}
+
+/// A text of this limit that is made new.
+fn new_within(limit: usize) -> Kind {
+    Kind {
+        limit: Some(limit),
+        room: None,
+    }
+}
+
+/// Plays each list of steps on a text of this limit that is made new and begins with its start.
+pub fn assert_each_within<S: StringMake + Drop>(
+    rt: &impl Abort,
+    alloc: Global,
+    limit: usize,
+    lists: &[(&str, &[Step])],
+) {
+    for &(start, steps) in lists {
+        assert_played::<S>(rt, alloc, new_within(limit), start, steps);
+    }
+}
+
 /// The steps of a command that is given so many times to the empty text. Each makes it longer by
 /// as much, up to `whole`, and past `limit` bytes it lies on the heap.
-pub fn repeated<'a>(
+fn repeated<'a>(
+    rt: &impl Abort,
     alloc: Global,
     command: Command<'a>,
     times: usize,
     whole: &'a str,
     limit: usize,
-) -> Result<Vec<Step<'a>>, Fail> {
+) -> Vec<Step<'a>> {
     let size = whole.len().checked_div(times).unwrap_or(0);
     let mut steps = Vec::new(alloc);
-    let mut len = 0usize;
-    for _ in 0..times {
-        len = len.saturating_add(size);
-        let lies = if limit < len {
-            Lies::OnHeap
-        } else {
-            Lies::AsMade
-        };
-        steps.push((
-            command,
-            Reply::Done,
-            whole.get(..len).unwrap_or(whole),
-            lies,
-        ))?;
+    for count in 1..=times {
+        let len = size.saturating_mul(count);
+        let content = whole.get(..len).unwrap_or(whole);
+        let lies = lies_at(len, limit);
+        let step = (command, Reply::Done, content, lies);
+        steps.push(step).expect(rt, "memory");
     }
-    Ok(steps)
+    steps
+}
+
+/// So many times this part.
+pub fn whole_of(rt: &impl Abort, alloc: Global, part: &str, times: usize) -> String {
+    let whole = part.repeat(alloc, times).expect(rt, "memory");
+    assert!(rt; whole.len() == part.len().saturating_mul(times));
+    whole
+}
+
+/// Gives a command that adds `part` so many times to an empty text of each kind.
+pub fn assert_repeated_everywhere(
+    rt: &impl Abort,
+    alloc: Global,
+    command: Command,
+    part: &str,
+    times: usize,
+) {
+    let whole = whole_of(rt, alloc, part, times);
+    let steps = repeated(rt, alloc, command, times, whole.as_str(), 30);
+    assert_everywhere(rt, alloc, "", steps.as_slice());
+}
+
+/// Gives a command that adds `part` so many times to an empty text of this limit.
+pub fn assert_repeated_within<S: StringMake + Drop>(
+    rt: &impl Abort,
+    alloc: Global,
+    limit: usize,
+    command: Command,
+    part: &str,
+    times: usize,
+) {
+    let whole = whole_of(rt, alloc, part, times);
+    let steps = repeated(rt, alloc, command, times, whole.as_str(), limit);
+    assert_played::<S>(rt, alloc, new_within(limit), "", steps.as_slice());
 }

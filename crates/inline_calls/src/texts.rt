@@ -3,7 +3,6 @@
 use inlinable_string::{Storage, StringExt, StringMake};
 use std::alloc::{AllocError, Global};
 use std::process::Abort;
-use std::test::Fail;
 
 /// Room that no text has inline: a text that is made with so much lies on the heap.
 pub const HEAP_ROOM: Option<usize> = Some(31);
@@ -11,6 +10,19 @@ pub const HEAP_ROOM: Option<usize> = Some(31);
 /// 53 and 54 bytes with one byte 0x0A and 24 spaces between them, as in the tests of the crate.
 pub const LONG: &str = "this is a really long string that is much larger than
                         INLINE_STRING_CAPACITY and so cannot be stored inline.";
+
+/// So many letters 'a'. `InlinableString` has room for 30 bytes inline.
+pub const LETTERS_26: &str = "aaaaaaaaaaaaaaaaaaaaaaaaaa";
+
+pub const LETTERS_27: &str = "aaaaaaaaaaaaaaaaaaaaaaaaaaa";
+
+pub const LETTERS_28: &str = "aaaaaaaaaaaaaaaaaaaaaaaaaaaa";
+
+pub const LETTERS_29: &str = "aaaaaaaaaaaaaaaaaaaaaaaaaaaaa";
+
+pub const LETTERS_30: &str = "aaaaaaaaaaaaaaaaaaaaaaaaaaaaaa";
+
+pub const LETTERS_31: &str = "aaaaaaaaaaaaaaaaaaaaaaaaaaaaaaa";
 
 /// The text with this content, made with room for `room` bytes, or new where that is `None`.
 pub fn text_of<S: StringMake + Drop>(
@@ -41,53 +53,23 @@ pub fn letters<S: StringMake + Drop>(
     text
 }
 
-/// Asserts what the text is and where it lies, by all calls that look at it.
+/// Whether the text is this and lies there, by all calls that look at it.
+pub fn is_text<S: StringExt>(text: &S, content: &str, storage: Storage) -> bool {
+    text.as_str() == content
+        && text.as_bytes() == content.as_bytes()
+        && text.len() == content.len()
+        && text.is_empty() == content.is_empty()
+        && text.storage() == storage
+        && text.capacity() >= content.len()
+}
+
+/// Asserts what the text is and where it lies.
 pub fn assert_text<S: StringExt>(rt: &impl Abort, text: &S, content: &str, storage: Storage) {
-    assert_eq!(rt;
-        (
-            text.as_str(),
-            text.as_bytes(),
-            text.len(),
-            text.is_empty(),
-            text.storage()
-        ),
-        (
-            content,
-            content.as_bytes(),
-            content.len(),
-            content.is_empty(),
-            storage
-        )
+    let given = text.as_str();
+    assert!(rt;
+        is_text(text, content, storage),
+        "{given} is not {content}, or lies elsewhere"
     );
-    assert!(rt; text.capacity() >= content.len());
-}
-
-/// Asserts that the text is so many letters 'a' with a character behind them.
-pub fn assert_pushed<S: StringExt>(
-    rt: &impl Abort,
-    alloc: Global,
-    text: &S,
-    (count, ch): (usize, char),
-    storage: Storage,
-) -> Result<(), Fail> {
-    let rest = "a".repeat(alloc, count)?;
-    let wanted = format!(in alloc; "{rest}{ch}")?;
-    assert_text(rt, text, wanted.as_str(), storage);
-    Ok(())
-}
-
-/// Asserts that the text is so many letters 'a' with a character before them.
-pub fn assert_inserted<S: StringExt>(
-    rt: &impl Abort,
-    alloc: Global,
-    text: &S,
-    (count, ch): (usize, char),
-    storage: Storage,
-) -> Result<(), Fail> {
-    let rest = "a".repeat(alloc, count)?;
-    let wanted = format!(in alloc; "{ch}{rest}")?;
-    assert_text(rt, text, wanted.as_str(), storage);
-    Ok(())
 }
 
 /// Puts a character in; `None` where `idx` is no place of the text.

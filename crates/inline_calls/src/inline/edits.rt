@@ -98,19 +98,12 @@ pub fn apply<const N: usize>(text: &mut InlineStringN<N>, edit: Edit) -> Answer 
     }
 }
 
-/// Asserts what the text is, by all calls that look at it.
-fn check_text<const N: usize>(rt: &impl Abort, text: &InlineStringN<N>, content: &str)
-    requires { N ≤ 300 }
-{
-    assert_eq!(rt;
-        (text.as_str(), text.as_bytes(), text.len(), text.is_empty()),
-        (
-            content,
-            content.as_bytes(),
-            content.len(),
-            content.is_empty()
-        )
-    );
+/// Whether the text is this, by all calls that look at it.
+fn is_text<const N: usize>(text: &InlineStringN<N>, content: &str) -> bool {
+    text.as_str() == content
+        && text.as_bytes() == content.as_bytes()
+        && text.len() == content.len()
+        && text.is_empty() == content.is_empty()
 }
 
 /// Makes the edits in turn.
@@ -118,8 +111,12 @@ pub fn check_steps<const N: usize>(rt: &impl Abort, text: &mut InlineStringN<N>,
     requires { N ≤ 300 }
 {
     for (i, &(edit, answer, content)) in steps.iter().enumerate() {
-        assert_eq!(rt; apply(text, edit), answer, "in step {i}, to {content}");
-        check_text(rt, text, content);
+        let given = apply(text, edit);
+        let is_right = given == answer && is_text(text, content);
+        assert!(rt;
+            is_right,
+            "step {i} gives {given:?}, and is to lead to {content}"
+        );
     }
 }
 
@@ -129,7 +126,7 @@ pub fn edited<const N: usize>(rt: &impl Abort, start: &str, steps: &[Step]) -> I
 {
     assert!(rt; start.len() <= N);
     let mut text = InlineStringN::from(start);
-    check_text(rt, &text, start);
+    assert!(rt; is_text(&text, start));
     check_steps(rt, &mut text, steps);
     text
 }
@@ -140,5 +137,16 @@ pub fn check_each<const N: usize>(rt: &impl Abort, lists: &[(&str, &[Step])])
 {
     for &(start, steps) in lists {
         let _ = edited::<N>(rt, start, steps);
+    }
+}
+
+/// Makes each edit on a text of its own that begins with the start of its list.
+pub fn check_each_alone<const N: usize>(rt: &impl Abort, lists: &[(&str, &[Step])])
+    requires { N ≤ 300 }
+{
+    for &(start, steps) in lists {
+        for step in steps {
+            let _ = edited::<N>(rt, start, &[*step]);
+        }
     }
 }

@@ -56,14 +56,18 @@ const WRONG_LENGTH: &[(&str, &[Step])] = &[
     ),
 ];
 
+const WITHIN_0: &[(&str, &[Step])] = &[(
+    "",
+    &[
+        (ReplaceBytes(b"a"), WrongLength, ""),
+        (ReplaceBytes(b""), Done, ""),
+    ],
+)];
+
 #[test]
 fn the_number_of_bytes_is_tested_before_they_are(rt: HostRuntime) {
     check_each::<30>(&rt, WRONG_LENGTH);
-    let steps = [
-        (ReplaceBytes(b"a"), WrongLength, ""),
-        (ReplaceBytes(b""), Done, ""),
-    ];
-    check_each::<0>(&rt, &[("", &steps)]);
+    check_each::<0>(&rt, WITHIN_0);
 }
 
 /// Puts bytes in the place of as many letters that fill a text: from `at` on those of `sequence`,
@@ -75,22 +79,20 @@ fn check_replaced_at<const N: usize>(rt: &impl Abort, sequence: &[u8], at: usize
     let mut text = letters::<N>(rt, N);
     let given = apply(&mut text, ReplaceBytes(&bytes));
     let left = if answer == Done { bytes } else { [b'a'; N] };
-    assert_eq!(rt;
-        (given, text.into_bytes()),
-        (answer, left),
+    assert!(rt;
+        given == answer && text.into_bytes() == left,
         "{sequence:?} from {at}"
     );
 }
 
 /// At both ends of a text, and in its middle.
 fn check_replaced(rt: &impl Abort, sequence: &[u8], answer: Answer) {
-    for at in [0, 1] {
-        check_replaced_at::<5>(rt, sequence, at, answer);
-    }
+    check_replaced_at::<5>(rt, sequence, 0, answer);
+    check_replaced_at::<5>(rt, sequence, 1, answer);
     assert!(rt; sequence.len() <= 30);
-    for at in [0, 13, 30 - sequence.len()] {
-        check_replaced_at::<30>(rt, sequence, at, answer);
-    }
+    check_replaced_at::<30>(rt, sequence, 0, answer);
+    check_replaced_at::<30>(rt, sequence, 13, answer);
+    check_replaced_at::<30>(rt, sequence, 30 - sequence.len(), answer);
 }
 
 /// The byte ranges of a character's UTF-8, from its first byte on.
@@ -121,85 +123,132 @@ fn sequence_of(ranges: &[(u8, u8)], takes_last: bool, changed: Option<(usize, u8
     sequence
 }
 
+/// Puts that sequence in the place of letters.
+fn check_sequence(
+    rt: &impl Abort,
+    ranges: &[(u8, u8)],
+    takes_last: bool,
+    changed: Option<(usize, u8)>,
+    answer: Answer,
+) {
+    let sequence = sequence_of(ranges, takes_last, changed);
+    assert!(rt; ranges.len() <= sequence.len());
+    check_replaced(rt, &sequence[..ranges.len()], answer);
+}
+
+/// Bytes at the ends of each range.
+fn check_ends(rt: &impl Abort, ranges: &[(u8, u8)], takes_last: bool) {
+    check_sequence(rt, ranges, takes_last, None, Done);
+    for (i, &(first, last)) in ranges.iter().enumerate() {
+        check_sequence(rt, ranges, takes_last, Some((i, first)), Done);
+        check_sequence(rt, ranges, takes_last, Some((i, last)), Done);
+    }
+}
+
 #[test]
 fn bytes_at_the_ends_of_each_range_are_taken(rt: HostRuntime) {
-    for &ranges in RANGES {
-        assert!(rt; ranges.len() <= 4);
-        for takes_last in [false, true] {
-            let sequence = sequence_of(ranges, takes_last, None);
-            check_replaced(&rt, &sequence[..ranges.len()], Done);
-            for (i, &(first, last)) in ranges.iter().enumerate() {
-                for byte in [first, last] {
-                    let sequence = sequence_of(ranges, takes_last, Some((i, byte)));
-                    check_replaced(&rt, &sequence[..ranges.len()], Done);
-                }
-            }
-        }
+    for ranges in RANGES {
+        check_ends(&rt, ranges, false);
+        check_ends(&rt, ranges, true);
+    }
+}
+
+/// Bytes beside the ends of each range but the first byte's.
+fn check_outside(rt: &impl Abort, ranges: &[(u8, u8)], takes_last: bool) {
+    for (i, &(first, last)) in ranges.iter().enumerate().skip(1) {
+        let before = first.wrapping_sub(1);
+        check_sequence(rt, ranges, takes_last, Some((i, before)), NotUtf8);
+        let after = last.wrapping_add(1);
+        check_sequence(rt, ranges, takes_last, Some((i, after)), NotUtf8);
+    }
+}
+
+/// The sequence ends too early.
+fn check_cut_short(rt: &impl Abort, ranges: &[(u8, u8)], takes_last: bool) {
+    for end in 1..ranges.len() {
+        check_sequence(rt, &ranges[..end], takes_last, None, NotUtf8);
     }
 }
 
 #[test]
 fn bytes_just_outside_of_a_range_are_refused(rt: HostRuntime) {
-    for &ranges in RANGES {
-        assert!(rt; ranges.len() <= 4);
-        for takes_last in [false, true] {
-            for (i, &(first, last)) in ranges.iter().enumerate().skip(1) {
-                for byte in [first.wrapping_sub(1), last.wrapping_add(1)] {
-                    let sequence = sequence_of(ranges, takes_last, Some((i, byte)));
-                    check_replaced(&rt, &sequence[..ranges.len()], NotUtf8);
-                }
-            }
-            // The sequence ends too early.
-            for end in 1..ranges.len() {
-                let sequence = sequence_of(ranges, takes_last, None);
-                check_replaced(&rt, &sequence[..end], NotUtf8);
-            }
-        }
+    for ranges in RANGES {
+        check_outside(&rt, ranges, false);
+        check_outside(&rt, ranges, true);
+        check_cut_short(&rt, ranges, false);
+        check_cut_short(&rt, ranges, true);
+    }
+}
+
+fn check_first_bytes_refused(rt: &impl Abort, first: u8, last: u8) {
+    for byte in first..=last {
+        check_replaced(rt, &[byte, b'a', b'a', b'a'], NotUtf8);
+        check_replaced(rt, &[byte, 0x80, 0x80, 0x80], NotUtf8);
     }
 }
 
 #[test]
 fn a_byte_that_begins_no_character_is_refused(rt: HostRuntime) {
-    for byte in (0x80..=0xC1).chain(0xF5..=0xFF) {
-        for sequence in [[byte, b'a', b'a', b'a'], [byte, 0x80, 0x80, 0x80]] {
-            check_replaced(&rt, &sequence, NotUtf8);
-        }
+    check_first_bytes_refused(&rt, 0x80, 0xC1);
+    check_first_bytes_refused(&rt, 0xF5, 0xFF);
+}
+
+const ILL_FORMED: &[&[u8]] = &[
+    // A byte that only goes on, alone and after a whole character.
+    b"\x80",
+    b"\xBF",
+    b"\xC3\xA9\x80",
+    b"\xE2\x82\xAC\xBF",
+    // A longer form than the character's.
+    b"\xC0\x80",
+    b"\xC1\xBF",
+    b"\xE0\x80\x80",
+    b"\xE0\x9F\xBF",
+    b"\xF0\x80\x80\x80",
+    b"\xF0\x8F\xBF\xBF",
+    // A surrogate.
+    b"\xED\xA0\x80",
+    b"\xED\xBF\xBF",
+    // A number above that of the last character.
+    b"\xF4\x90\x80\x80",
+    b"\xF5\x80\x80\x80",
+    b"\xFF",
+    // A character that is cut short by the next one.
+    b"\xF0\x9D\xC3\xA9",
+];
+
+/// Bytes, where they begin among the letters, and the answer.
+type ReplacedRow<'a> = (&'a [u8], usize, Answer);
+
+const REPLACED_AT_1: &[ReplacedRow] = &[(b"\x80", 0, NotUtf8)];
+
+const REPLACED_AT_3: &[ReplacedRow] = &[(b"\xED\xA0\x80", 0, NotUtf8), (b"\xED\x9F\xBF", 0, Done)];
+
+const REPLACED_AT_4: &[ReplacedRow] = &[
+    (b"\xF4\x90\x80\x80", 0, NotUtf8),
+    (b"\xF4\x8F\xBF\xBF", 0, Done),
+];
+
+const REPLACED_AT_300: &[ReplacedRow] = &[
+    (b"\xF0\x9D\x84", 297, NotUtf8),
+    (b"\xF0\x9D\x84\x9E", 296, Done),
+];
+
+fn check_each_replaced<const N: usize>(rt: &impl Abort, rows: &[ReplacedRow])
+    requires { N ≤ 300 }
+{
+    for &(sequence, at, answer) in rows {
+        check_replaced_at::<N>(rt, sequence, at, answer);
     }
 }
 
 #[test]
 fn ill_formed_bytes_of_every_kind_are_refused(rt: HostRuntime) {
-    let sequences: [&[u8]; 16] = [
-        // A byte that only goes on, alone and after a whole character.
-        b"\x80",
-        b"\xBF",
-        b"\xC3\xA9\x80",
-        b"\xE2\x82\xAC\xBF",
-        // A longer form than the character's.
-        b"\xC0\x80",
-        b"\xC1\xBF",
-        b"\xE0\x80\x80",
-        b"\xE0\x9F\xBF",
-        b"\xF0\x80\x80\x80",
-        b"\xF0\x8F\xBF\xBF",
-        // A surrogate.
-        b"\xED\xA0\x80",
-        b"\xED\xBF\xBF",
-        // A number above that of the last character.
-        b"\xF4\x90\x80\x80",
-        b"\xF5\x80\x80\x80",
-        b"\xFF",
-        // A character that is cut short by the next one.
-        b"\xF0\x9D\xC3\xA9",
-    ];
-    for sequence in sequences {
+    for sequence in ILL_FORMED {
         check_replaced(&rt, sequence, NotUtf8);
     }
-    check_replaced_at::<4>(&rt, b"\xF4\x90\x80\x80", 0, NotUtf8);
-    check_replaced_at::<4>(&rt, b"\xF4\x8F\xBF\xBF", 0, Done);
-    check_replaced_at::<3>(&rt, b"\xED\xA0\x80", 0, NotUtf8);
-    check_replaced_at::<3>(&rt, b"\xED\x9F\xBF", 0, Done);
-    check_replaced_at::<1>(&rt, b"\x80", 0, NotUtf8);
-    check_replaced_at::<300>(&rt, b"\xF0\x9D\x84", 297, NotUtf8);
-    check_replaced_at::<300>(&rt, b"\xF0\x9D\x84\x9E", 296, Done);
+    check_each_replaced::<4>(&rt, REPLACED_AT_4);
+    check_each_replaced::<3>(&rt, REPLACED_AT_3);
+    check_each_replaced::<1>(&rt, REPLACED_AT_1);
+    check_each_replaced::<300>(&rt, REPLACED_AT_300);
 }
