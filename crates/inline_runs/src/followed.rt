@@ -1,155 +1,180 @@
 //! Runs whose replies and texts are known from outside.
+use Storage::{Heap, Inline};
+use Verdict::{Agrees, IllegalReply};
 use inlinable_string::Storage;
-use inlinable_string::run::{Command, Reply};
-use inline_vectors::plain::room::PlainText;
-use inline_vectors::plain::{agrees, follow, plain_from};
-use std::alloc::{AllocError, Global};
+use inlinable_string::run::Command::{
+    self, Clear, Insert, InsertStr, Pop, Push, PushStr, Remove, ReplaceBytes, Reserve,
+    ReserveExact, ShrinkToFit, Truncate,
+};
+use inlinable_string::run::Reply::{
+    self, BadPlace, Char, Done, NoChar, NoMemory, NotUtf8, WrongLength,
+};
+use inline_vectors::plain::plain_from;
+use inline_vectors::verdict::{Seen, Verdict, judged};
+use std::alloc::Global;
+use std::process::Abort;
 use std::test::Fail;
 
-/// The third reply, where the text lies after it, and whether the replies are legal.
-const THIRDS: &[(Reply, Storage, bool)] = &[
-    (Reply::Done, Storage::Heap, true),
-    (Reply::NoMemory, Storage::Inline, true),
-    (Reply::BadPlace, Storage::Inline, false),
-];
+/// To the command of this index another reply, where the text lies at the end then, and what the
+/// plain program says.
+type Other = (usize, Reply, Storage, Verdict);
 
 const SIX_COMMANDS: &[Command<'static>] = &[
-    Command::PushStr("aaaaaaaaaaaaaaaaaaaaaaaaaaa"),
-    Command::PushStr("€"),
-    Command::PushStr("b"),
-    Command::Truncate(28),
-    Command::Truncate(27),
-    Command::Pop,
+    PushStr("aaaaaaaaaaaaaaaaaaaaaaaaaaa"),
+    PushStr("€"),
+    PushStr("b"),
+    Truncate(28),
+    Truncate(27),
+    Pop,
+];
+
+const SIX_REPLIES: &[Reply] = &[Done, Done, Done, BadPlace, Done, Char('a')];
+
+const SIX_END: Seen<'static> = Seen {
+    string: "aaaaaaaaaaaaaaaaaaaaaaaaaa",
+    storage: Heap,
+    capacity: 26,
+};
+
+/// The third reply decides where the text lies after it.
+const THIRDS: &[Other] = &[
+    (2, Done, Heap, Agrees),
+    (2, NoMemory, Inline, Agrees),
+    (2, BadPlace, Inline, IllegalReply),
 ];
 
 #[test]
 fn follows_six_commands(rt: HostRuntime) -> Result<(), Fail> {
-    for &(third, storage, legal) in THIRDS {
-        let replies = [
-            Reply::Done,
-            Reply::Done,
-            third,
-            Reply::BadPlace,
-            Reply::Done,
-            Reply::Char('a'),
-        ];
-        let end = followed(rt.alloc(), "", SIX_COMMANDS, &replies)?;
-        let agree = is_at(rt.alloc(), &end, "aaaaaaaaaaaaaaaaaaaaaaaaaa", storage, 26)?;
-        assert_eq!(rt; agree, legal, "after {third:?}");
-    }
+    let (commands, replies) = (SIX_COMMANDS, SIX_REPLIES);
+    check_others(&rt, rt.alloc(), "", commands, replies, SIX_END, THIRDS);
     Ok(())
 }
 
 /// Commands of each kind on the text "a", which lies inline.
 const COMMANDS: &[Command<'static>] = &[
-    Command::Push('é'),
-    Command::Insert(1, '€'),
-    Command::Remove(2),
-    Command::Remove(1),
-    Command::Reserve(27),
-    Command::Reserve(28),
-    Command::ReserveExact(28),
-    Command::PushStr("bar"),
-    Command::InsertStr(3, "foo"),
-    Command::Truncate(2),
-    Command::Truncate(3),
-    Command::Pop,
-    Command::ReplaceBytes(&[0xC3, 0x61]),
-    Command::ReplaceBytes(&[0xFF]),
-    Command::ReplaceBytes(&[0x68]),
-    Command::ShrinkToFit,
-    Command::Clear,
-    Command::PushStr("olleh"),
+    Push('é'),
+    Insert(1, '€'),
+    Remove(2),
+    Remove(1),
+    Reserve(27),
+    Reserve(28),
+    ReserveExact(28),
+    PushStr("bar"),
+    InsertStr(3, "foo"),
+    Truncate(2),
+    Truncate(3),
+    Pop,
+    ReplaceBytes(&[0xC3, 0x61]),
+    ReplaceBytes(&[0xFF]),
+    ReplaceBytes(&[0x68]),
+    ShrinkToFit,
+    Clear,
+    PushStr("olleh"),
 ];
 
 /// The replies to them where memory is refused to one reservation.
-const REPLIES: [Reply; 18] = [
-    Reply::Done,
-    Reply::Done,
-    Reply::BadPlace,
-    Reply::Char('€'),
-    Reply::Done,
-    Reply::NoMemory,
-    Reply::Done,
-    Reply::Done,
-    Reply::Done,
-    Reply::BadPlace,
-    Reply::Done,
-    Reply::Char('é'),
-    Reply::WrongLength,
-    Reply::NotUtf8,
-    Reply::Done,
-    Reply::Done,
-    Reply::Done,
-    Reply::Done,
+const REPLIES: &[Reply] = &[
+    Done,
+    Done,
+    BadPlace,
+    Char('€'),
+    Done,
+    NoMemory,
+    Done,
+    Done,
+    Done,
+    BadPlace,
+    Done,
+    Char('é'),
+    WrongLength,
+    NotUtf8,
+    Done,
+    Done,
+    Done,
+    Done,
 ];
 
 /// How many of the commands leave the text on the heap.
 const LONG: usize = 9;
 
-/// To a command, by its index, another reply, and whether all are legal then.
-const OTHERS: &[(usize, Reply, bool)] = &[
-    (0, Reply::NoMemory, false),
-    (1, Reply::NoMemory, false),
-    (2, Reply::Char('€'), false),
-    (3, Reply::BadPlace, false),
-    (4, Reply::NoMemory, false),
-    (5, Reply::Done, true),
-    (6, Reply::BadPlace, false),
-    (6, Reply::NoMemory, true),
-    (7, Reply::NoMemory, false),
-    (8, Reply::NoMemory, true),
-    (8, Reply::BadPlace, false),
-    (9, Reply::Done, false),
-    (10, Reply::BadPlace, false),
-    (11, Reply::NoChar, false),
-    (12, Reply::NotUtf8, false),
-    (13, Reply::Done, false),
-    (14, Reply::WrongLength, false),
-    (15, Reply::NoMemory, false),
-    (16, Reply::NoMemory, false),
-    (17, Reply::NoMemory, false),
+const LONG_END: Seen<'static> = Seen {
+    string: "aéfoobar",
+    storage: Heap,
+    capacity: 9,
+};
+
+const WHOLE_END: Seen<'static> = Seen {
+    string: "olleh",
+    storage: Inline,
+    capacity: 5,
+};
+
+const OTHERS: &[Other] = &[
+    (0, NoMemory, Inline, IllegalReply),
+    (1, NoMemory, Inline, IllegalReply),
+    (2, Char('€'), Inline, IllegalReply),
+    (3, BadPlace, Inline, IllegalReply),
+    (4, NoMemory, Inline, IllegalReply),
+    (5, Done, Inline, Agrees),
+    (6, BadPlace, Inline, IllegalReply),
+    (6, NoMemory, Inline, Agrees),
+    (7, NoMemory, Inline, IllegalReply),
+    (8, NoMemory, Inline, Agrees),
+    (8, BadPlace, Inline, IllegalReply),
+    (9, Done, Inline, IllegalReply),
+    (10, BadPlace, Inline, IllegalReply),
+    (11, NoChar, Inline, IllegalReply),
+    (12, NotUtf8, Inline, IllegalReply),
+    (13, Done, Inline, IllegalReply),
+    (14, WrongLength, Inline, IllegalReply),
+    (15, NoMemory, Inline, IllegalReply),
+    (16, NoMemory, Inline, IllegalReply),
+    (17, NoMemory, Inline, IllegalReply),
 ];
 
 #[test]
 fn follows_all_commands(rt: HostRuntime) -> Result<(), Fail> {
-    let long = followed(rt.alloc(), "a", &COMMANDS[..LONG], &REPLIES[..LONG])?;
-    assert!(rt; is_at(rt.alloc(), &long, "aéfoobar", Storage::Heap, 9)?);
-    let whole = followed(rt.alloc(), "a", COMMANDS, &REPLIES)?;
-    assert!(rt; is_at(rt.alloc(), &whole, "olleh", Storage::Inline, 5)?);
-    for &(index, reply, legal) in OTHERS {
-        let mut replies = REPLIES;
-        if let Some(other) = replies.get_mut(index) {
-            *other = reply;
-        }
-        let end = followed(rt.alloc(), "a", COMMANDS, &replies)?;
-        let agree = is_at(rt.alloc(), &end, "olleh", Storage::Inline, 5)?;
-        assert_eq!(rt; agree, legal, "{reply:?} to command {index}");
-        assert_eq!(rt; end.is_some(), legal, "{reply:?} to command {index}");
-    }
+    let alloc = rt.alloc();
+    let (long, long_replies) = (&COMMANDS[..LONG], &REPLIES[..LONG]);
+    check_verdict(&rt, alloc, "a", long, long_replies, LONG_END, Agrees);
+    check_verdict(&rt, alloc, "a", COMMANDS, REPLIES, WHOLE_END, Agrees);
+    check_others(&rt, alloc, "a", COMMANDS, REPLIES, WHOLE_END, OTHERS);
     Ok(())
 }
 
-fn is_at(
-    alloc: Global,
-    end: &Option<PlainText>,
-    string: &str,
-    storage: Storage,
-    capacity: usize,
-) -> Result<bool, AllocError> {
-    match end {
-        Some(plain) => agrees(alloc, plain, string, storage, capacity),
-        None => Ok(false),
-    }
-}
-
-// The run begins with this text, inline.
-fn followed(
+/// Asserts what the plain program says of a run once for each other reply.
+fn check_others(
+    rt: &impl Abort,
     alloc: Global,
     start: &str,
     commands: &[Command],
     replies: &[Reply],
-) -> Result<Option<PlainText>, AllocError> {
-    let start = plain_from(alloc, start, Storage::Inline, 30, true, 30)?;
-    follow(alloc, start, commands, replies)
+    end: Seen<'_>,
+    others: &[Other],
+) {
+    for &(index, reply, storage, wanted) in others {
+        let replies = replies.to_vec(alloc);
+        let mut replies = replies.expect(rt, "memory for the replies");
+        let other = replies.get_mut(index);
+        *other.expect(rt, "a reply of this index") = reply;
+        let end = Seen { storage, ..end };
+        check_verdict(rt, alloc, start, commands, &replies, end, wanted);
+    }
+}
+
+/// Asserts what the plain program says of a run that begins with this text, inline.
+fn check_verdict(
+    rt: &impl Abort,
+    alloc: Global,
+    start: &str,
+    commands: &[Command],
+    replies: &[Reply],
+    end: Seen<'_>,
+    wanted: Verdict,
+) {
+    let start = plain_from(alloc, start, Inline, 30, true, 30);
+    let start = start.expect(rt, "memory for the plain text");
+    let verdict = judged(alloc, start, commands, replies, end);
+    let verdict = verdict.expect(rt, "memory for the plain program");
+    assert!(rt; verdict == wanted, "{verdict:?} of {replies:?}");
 }

@@ -1,7 +1,7 @@
 //! Rows by `run` and `run_dyn`, with memory that is never refused.
 ghost use Rattle.std.specs.Prelude.{◌≤◌, length};
 
-use crate::beside::{run_beside, run_dyn_beside};
+use crate::beside::{check_seen, check_that, run_beside, run_dyn_beside, run_one_beside};
 use inlinable_string::run::Command::{
     self, Clear, Insert, InsertStr, Pop, Push, PushStr, Remove, ReplaceBytes, Reserve,
     ReserveExact, ShrinkToFit, Truncate,
@@ -47,6 +47,18 @@ fn made<S: StringMake + Drop>(rt: &impl Abort, alloc: Global, capacity: Option<u
     }
 }
 
+/// A new text, to which this was pushed.
+fn made_of<S: StringMake + Drop>(
+    rt: &impl Abort,
+    alloc: Global,
+    capacity: Option<usize>,
+    start: &str,
+) -> S {
+    let mut text: S = made(rt, alloc, capacity);
+    assert!(rt; text.push_str(start).is_ok());
+    text
+}
+
 /// Runs the first steps of a row on a text made for it, and then one more, and so on to the whole.
 fn check_row<S: StringMake + Drop>(
     rt: &impl Abort,
@@ -55,24 +67,34 @@ fn check_row<S: StringMake + Drop>(
     row_limit: usize,
     row: Row,
 ) {
-    let (capacity, start, steps, _) = row;
-    assert!(rt; steps.len() <= MOST_STEPS);
-    let (commands, wanted) = parted(steps);
-    for count in 0..steps.len() + 1 {
-        let mut text: S = made(rt, alloc, capacity);
-        assert!(rt; text.push_str(start).is_ok());
-        let mut replies = [NoMemory; MOST_STEPS];
-        let given = &commands[..count];
-        run_beside(rt, alloc, &mut text, policy, given, &mut replies[..count]);
-        assert!(rt;
-            replies[..count] == wanted[..count],
-            "{replies:?} from {start}"
-        );
-        check_end(rt, policy, row_limit, row, count, seen_of(&text));
+    for count in 0..row.2.len() + 1 {
+        let mut text: S = made(rt, alloc, row.0);
+        check_steps(rt, alloc, &mut text, policy, row_limit, row, count);
     }
 }
 
-/// The same of the whole row, on a text behind a `dyn`.
+/// Runs so many steps of a row on an empty text made for it.
+fn check_steps<S: StringExt>(
+    rt: &impl Abort,
+    alloc: Global,
+    text: &mut S,
+    policy: Policy,
+    row_limit: usize,
+    row: Row,
+    count: usize,
+) {
+    let (_, start, steps, _) = row;
+    assert!(rt; text.push_str(start).is_ok());
+    assert!(rt; count <= steps.len() && steps.len() <= MOST_STEPS);
+    let (commands, wanted) = parted(steps);
+    let mut room = [NoMemory; MOST_STEPS];
+    let replies = &mut room[..count];
+    run_beside(rt, alloc, text, policy, &commands[..count], replies);
+    let (wanted, end) = (&wanted[..count], seen_of(text));
+    check_end(rt, policy, row_limit, row, wanted, replies, end);
+}
+
+/// Runs the whole of a row on an empty text behind a `dyn`, made for it.
 fn check_row_dyn(
     rt: &impl Abort,
     alloc: Global,
@@ -86,14 +108,11 @@ fn check_row_dyn(
     let count = steps.len();
     assert!(rt; count <= MOST_STEPS);
     let (commands, wanted) = parted(steps);
-    let mut replies = [NoMemory; MOST_STEPS];
-    let given = &commands[..count];
-    run_dyn_beside(rt, alloc, text, policy, given, &mut replies[..count]);
-    assert!(rt;
-        replies[..count] == wanted[..count],
-        "{replies:?} from {start}"
-    );
-    check_end(rt, policy, row_limit, row, count, seen_of_dyn(text));
+    let mut room = [NoMemory; MOST_STEPS];
+    let replies = &mut room[..count];
+    run_dyn_beside(rt, alloc, text, policy, &commands[..count], replies);
+    let (wanted, end) = (&wanted[..count], seen_of_dyn(text));
+    check_end(rt, policy, row_limit, row, wanted, replies, end);
 }
 
 /// Where a text lies after these steps of a row: what is not told is as it was seen.
@@ -107,16 +126,19 @@ fn wanted_storage(policy: Policy, row_limit: usize, steps: &[Step], seen: Storag
     }
 }
 
-/// Asserts what a row tells of a text after so many of its steps.
+/// Asserts the replies to the first steps of a row, and what it tells of a text after them.
 fn check_end(
     rt: &impl Abort,
     policy: Policy,
     row_limit: usize,
     row: Row,
-    count: usize,
+    wanted: &[Reply],
+    replies: &[Reply],
     end: Seen<'_>,
 ) {
     let (_, start, steps, last) = row;
+    let count = replies.len();
+    check_that(rt, replies == wanted, start, replies);
     assert!(rt; count <= steps.len());
     let string = if count == steps.len() {
         last
@@ -124,16 +146,7 @@ fn check_end(
         end.string
     };
     let storage = wanted_storage(policy, row_limit, &steps[..count], end.storage);
-    let capacity = if end.storage == Inline {
-        policy.limit
-    } else {
-        end.capacity
-    };
-    assert_eq!(rt;
-        (end.string, end.storage, end.capacity),
-        (string, storage, capacity),
-        "after {count} steps from {start}"
-    );
+    check_seen(rt, policy, replies, end, string, storage);
 }
 
 fn check_rows<S: StringMake + Drop>(
@@ -185,32 +198,49 @@ fn small_limits_are_kept_to_the_byte(rt: HostRuntime) -> Result<(), Fail> {
     Ok(())
 }
 
+/// The first so many of these insertions at the front leave a text there.
+const INSERTIONS: &[Command<'static>] = &[InsertStr(0, "foo"); 100];
+
+const ALL_DONE: &[Reply] = &[Done; 100];
+
+const INSERTED: &[(usize, Storage)] = &[(10, Inline), (11, Heap), (100, Heap)];
+
 fn check_insertions<S: StringMake + Drop>(
     rt: &impl Abort,
     alloc: Global,
     policy: Policy,
     (count, storage): (usize, Storage),
-) -> Result<(), Fail> {
+) {
     assert!(rt; count <= 100);
-    let commands = [InsertStr(0, "foo"); 100];
-    let mut replies = [NoMemory; 100];
     let mut text = S::new(alloc);
-    let given = &commands[..count];
-    run_beside(rt, alloc, &mut text, policy, given, &mut replies[..count]);
-    assert!(rt; replies[..count] == [Done; 100][..count]);
-    let wanted = "foo".repeat(alloc, count)?;
-    assert_eq!(rt;
-        (text.as_str(), text.len(), text.storage()),
-        (wanted.as_str(), 3 * count, storage),
-        "after {count} insertions"
-    );
-    Ok(())
+    let mut room = [NoMemory; 100];
+    let replies = &mut room[..count];
+    run_beside(rt, alloc, &mut text, policy, &INSERTIONS[..count], replies);
+    assert!(rt; text.len() == 3 * count);
+    check_inserted(rt, alloc, policy, replies, seen_of(&text), storage);
+}
+
+/// Asserts that so many insertions were done, and the text after them.
+fn check_inserted(
+    rt: &impl Abort,
+    alloc: Global,
+    policy: Policy,
+    replies: &[Reply],
+    end: Seen<'_>,
+    storage: Storage,
+) {
+    let count = replies.len();
+    assert!(rt; count <= 100);
+    check_that(rt, replies == &ALL_DONE[..count], "insertions", replies);
+    let wanted = "foo".repeat(alloc, count);
+    let wanted = wanted.expect(rt, "memory for the wanted text");
+    check_seen(rt, policy, replies, end, &wanted, storage);
 }
 
 #[test]
 fn a_hundred_insertions_at_the_front(rt: HostRuntime) -> Result<(), Fail> {
-    for row in [(10, Inline), (11, Heap), (100, Heap)] {
-        check_insertions::<InlinableString>(&rt, rt.alloc(), inlinable(30), row)?;
+    for row in INSERTED {
+        check_insertions::<InlinableString>(&rt, rt.alloc(), inlinable(30), *row);
     }
     Ok(())
 }
@@ -250,16 +280,25 @@ fn check_offsets<S: StringMake + Drop>(
             (Truncate(offset), placed),
             (Remove(offset), taken),
         ] {
-            let mut text: S = made(rt, alloc, capacity);
-            assert!(rt; text.push_str("aé€𝄞").is_ok());
-            let mut replies = [NoMemory];
-            run_beside(rt, alloc, &mut text, policy, &[command], &mut replies);
-            assert_eq!(rt; replies, [wanted], "at {offset}");
-            if wanted == BadPlace {
-                assert_eq!(rt; text.as_str(), "aé€𝄞", "at {offset}");
-            }
+            let text: S = made_of(rt, alloc, capacity, "aé€𝄞");
+            check_offset(rt, alloc, text, policy, offset, command, wanted);
         }
     }
+}
+
+/// Gives a command at this offset to the text "aé€𝄞".
+fn check_offset<S: StringExt + Drop>(
+    rt: &impl Abort,
+    alloc: Global,
+    mut text: S,
+    policy: Policy,
+    offset: usize,
+    command: Command<'_>,
+    wanted: Reply,
+) {
+    let reply = run_one_beside(rt, alloc, &mut text, policy, command);
+    let is_kept = reply != BadPlace || text.as_str() == "aé€𝄞";
+    assert!(rt; reply == wanted && is_kept, "{reply:?} at {offset}");
 }
 
 #[test]

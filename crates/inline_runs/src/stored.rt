@@ -4,7 +4,7 @@ use crate::beside::run_beside;
 use inlinable_string::run::{Command, Reply};
 use inlinable_string::{InlinableString, StringMake};
 use inline_vectors::verdict::inlinable;
-use std::alloc::{AllocError, Global};
+use std::alloc::Global;
 use std::process::Abort;
 use std::test::Fail;
 
@@ -22,48 +22,42 @@ fn command_of(line: &str) -> Option<Command<'_>> {
     }
 }
 
-fn commands_of(alloc: Global, script: &str) -> Result<Option<Vec<Command<'_>>>, AllocError> {
+fn commands_of<'a>(rt: &impl Abort, alloc: Global, script: &'a str) -> Vec<Command<'a>> {
     let mut commands = Vec::new(alloc);
     for line in script.split('\n') {
-        if line.is_empty() {
-            continue;
+        if !line.is_empty() {
+            let command = command_of(line).expect(rt, "a command on each line");
+            assert!(rt; commands.push(command).is_ok());
         }
-        let Some(command) = command_of(line) else {
-            return Ok(None);
-        };
-        commands.push(command)?;
     }
-    Ok(Some(commands))
+    commands
 }
 
-fn check_script(rt: &impl Abort, alloc: Global, script: &str) -> Result<(), Fail> {
-    let Some(commands) = commands_of(alloc, script)? else {
-        return Err(Fail::from("a line is no command"));
-    };
-    let mut replies = vec![in alloc; Reply::NoMemory; commands.len()]?;
+fn check_script(rt: &impl Abort, alloc: Global, script: &str) {
+    let commands = commands_of(rt, alloc, script);
+    let replies = vec![in alloc; Reply::NoMemory; commands.len()];
+    let mut replies = replies.expect(rt, "memory for the replies");
+    assert!(rt; replies.len() == commands.len());
     let mut text = InlinableString::new(alloc);
-    assert_eq!(rt; replies.len(), commands.len());
-    let given = commands.as_slice();
-    run_beside(
-        rt,
-        alloc,
-        &mut text,
-        inlinable(30),
-        given,
-        replies.as_mut_slice(),
-    );
-    Ok(())
+    let (given, replies) = (commands.as_slice(), replies.as_mut_slice());
+    run_beside(rt, alloc, &mut text, inlinable(30), given, replies);
+}
+
+/// Checks each script, and answers how many there are.
+fn check_scripts(rt: &impl Abort, alloc: Global, scripts: &str) -> usize {
+    let mut count = 0usize;
+    for script in scripts.split('\u{1e}') {
+        check_script(rt, alloc, script);
+        count = count.saturating_add(1);
+    }
+    count
 }
 
 #[test]
 fn each_stored_script_runs_as_the_plain_program_does(rt: HostRuntime) -> Result<(), Fail> {
-    let mut count = 0usize;
-    for script in SCRIPTS.split('\u{1e}') {
-        check_script(&rt, rt.alloc(), script)?;
-        count = count.saturating_add(1);
-    }
+    let count = check_scripts(&rt, rt.alloc(), SCRIPTS);
     // What stands behind the last end is the empty script.
-    assert_eq!(rt; count, COUNT + 1);
+    assert!(rt; count == COUNT + 1);
     println!(rt; "{COUNT} stored scripts")?;
     Ok(())
 }

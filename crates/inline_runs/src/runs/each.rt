@@ -1,27 +1,177 @@
 //! Rows by `run_each`, and by `run` and `run_dyn` on a text of a caller's own.
+ghost use Rattle.std.specs.Prelude.{◌≡◌, ◌*◌, length};
+
 use super::memory::all_memory;
 use super::own::{EightBytes, OnHeap};
-use super::rows::A30;
-use crate::beside::{after, before, run_beside, run_dyn_beside};
+use super::rows::{A30, Row};
+use super::{check_row_dyn, check_steps, made_of};
+use crate::beside::{after, before, check_seen, check_that};
+use Memory::{Ample, Refused};
 use Storage::{Heap, Inline};
 use inlinable_string::run::Command::{self, Pop, Push, PushStr, Remove, Truncate};
 use inlinable_string::run::Reply::{self, BadPlace, Char, Done, NoChar, NoMemory, NotUtf8};
 use inlinable_string::run::run_each;
-use inlinable_string::{
-    BoxableString, InlinableString, InlinableStringN, Storage, StringExt, StringMake,
-};
+use inlinable_string::{BoxableString, Storage, StringExt, StringMake};
 use inline_vectors::plain::room::PlainText;
 use inline_vectors::verdict::{HEAP, Policy, inlinable, seen_of_dyn};
 use std::alloc::Global;
 use std::process::Abort;
 use std::test::Fail;
 
+type Text = Box<dyn StringExt + Drop>;
+
+type Texts = Vec<Text>;
+
+/// Which type of text goes into a box.
+#[derive(Clone, Copy)]
+enum Kind {
+    String,
+    Inlinable,
+    EightBytes,
+    OnHeap,
+}
+
+/// The text of a box: its kind, how it is made, for so many bytes or by `new`, and what is pushed
+/// to it.
+type Boxed = (Kind, Option<usize>, &'static str);
+
+/// Whether memory can be had while commands are given.
+#[derive(Clone, Copy)]
+enum Memory {
+    Ample,
+    Refused,
+}
+
+/// Commands for each text, all replies to them, and each text and where it lies after them.
+#[derive(Clone, Copy)]
+struct Given {
+    memory: Memory,
+    commands: &'static [Command<'static>],
+    replies: &'static [Reply],
+    ends: &'static [(&'static str, Storage)],
+}
+
+fn policy_of(kind: Kind) -> Policy {
+    match kind {
+        Kind::String | Kind::OnHeap => HEAP,
+        Kind::Inlinable => inlinable(30),
+        Kind::EightBytes => inlinable(8),
+    }
+}
+
+/// Makes the texts, and gives each list to them in turn with the plain program beside each text.
+fn check_boxed(rt: &impl Abort, alloc: Global, boxed: &[Boxed], lists: &[Given]) {
+    let mut texts: Texts = Vec::new(alloc);
+    for &(kind, capacity, start) in boxed {
+        let text: Text = match kind {
+            Kind::String => {
+                let text: String = made_of(rt, alloc, capacity, start);
+                Box::new(alloc, text).expect(rt, "memory for a box")
+            }
+            Kind::Inlinable => {
+                let text = BoxableString(made_of(rt, alloc, capacity, start));
+                Box::new(alloc, text).expect(rt, "memory for a box")
+            }
+            Kind::EightBytes => {
+                let text = EightBytes(made_of(rt, alloc, capacity, start));
+                Box::new(alloc, text).expect(rt, "memory for a box")
+            }
+            Kind::OnHeap => {
+                let text = OnHeap(made_of(rt, alloc, capacity, start));
+                Box::new(alloc, text).expect(rt, "memory for a box")
+            }
+        };
+        assert!(rt; texts.push(text).is_ok());
+    }
+    for list in lists {
+        check_each(rt, alloc, &mut texts, boxed, *list);
+    }
+}
+
+/// Gives a list to each text, and asserts all replies, and the texts and where they lie after them.
+fn check_each(rt: &impl Abort, alloc: Global, texts: &mut Texts, boxed: &[Boxed], given: Given) {
+    let starts = starts_of(rt, alloc, texts, boxed);
+    // No text here has this reply.
+    let mut room = [NotUtf8; 16];
+    let count = texts.len().checked_mul(given.commands.len());
+    let count = count.expect(rt, "a number of replies");
+    assert!(rt; count <= 16);
+    let replies = &mut room[..count];
+    run_each_in(rt, alloc, given.memory, texts, given.commands, replies);
+    check_that(rt, &*replies == given.replies, "boxed texts", replies);
+    check_ends(rt, alloc, starts, texts, boxed, given);
+}
+
+/// The plain program's texts at these as they are before a run.
+fn starts_of(rt: &impl Abort, alloc: Global, texts: &Texts, boxed: &[Boxed]) -> Vec<PlainText> {
+    let mut starts: Vec<PlainText> = Vec::new(alloc);
+    for (text, made) in texts.iter().zip(boxed) {
+        let start = before(rt, alloc, seen_of_dyn(&**text), policy_of(made.0));
+        assert!(rt; starts.push(start).is_ok());
+    }
+    starts
+}
+
+fn run_each_in(
+    rt: &impl Abort,
+    alloc: Global,
+    memory: Memory,
+    texts: &mut Texts,
+    commands: &[Command],
+    replies: &mut [Reply],
+)
+    requires { length replies.old ≡ length texts.old.items * length commands.now }
+{
+    match memory {
+        Ample => run_each(texts, commands, replies),
+        Refused => {
+            let hoard = all_memory(rt, alloc);
+            run_each(texts, commands, replies);
+            drop(hoard);
+        }
+    }
+}
+
+/// Asserts what each text is after its replies, which are known to be those of the list.
+fn check_ends(
+    rt: &impl Abort,
+    alloc: Global,
+    starts: Vec<PlainText>,
+    texts: &Texts,
+    boxed: &[Boxed],
+    given: Given,
+) {
+    assert!(rt; starts.len() == texts.len() && starts.len() == given.ends.len());
+    for (index, start) in starts.into_iter().enumerate() {
+        check_end(rt, alloc, start, texts, boxed, given, index);
+    }
+}
+
+/// Asserts that the plain program agrees with a text's own replies, and what it is after them.
+fn check_end(
+    rt: &impl Abort,
+    alloc: Global,
+    start: PlainText,
+    texts: &Texts,
+    boxed: &[Boxed],
+    given: Given,
+    index: usize,
+) {
+    let end = seen_of_dyn(&**texts.get(index).expect(rt, "a text for each start"));
+    let count = given.commands.len();
+    let first = index.saturating_mul(count);
+    let own = given.replies.get(first..first.saturating_add(count));
+    let own = own.expect(rt, "replies of its own");
+    after(rt, alloc, start, given.commands, own, end);
+    let made = boxed.get(index).expect(rt, "a kind of its own");
+    let wanted = given.ends.get(index).expect(rt, "an end of its own");
+    check_seen(rt, policy_of(made.0), own, end, wanted.0, wanted.1);
+}
+
 /// On the text "x" each of these has one reply in every storage.
 const COMMANDS: &[Command<'static>] = &[PushStr("y"), Remove(0), Pop, Pop];
 
-const REPLIES: [Reply; 4] = [Done, Char('x'), Char('y'), NoChar];
-
-/// These replies once for each of three texts.
+/// The replies to them, once for each of three texts.
 const THRICE: &[Reply] = &[
     Done,
     Char('x'),
@@ -37,281 +187,175 @@ const THRICE: &[Reply] = &[
     NoChar,
 ];
 
-type Texts = Vec<Box<dyn StringExt + Drop>>;
+const EACH_STORAGE: &[Boxed] = &[
+    (Kind::String, None, "x"),
+    (Kind::Inlinable, None, "x"),
+    (Kind::Inlinable, Some(31), "x"),
+];
 
-/// Adds to each text one of these.
-fn push_to_each(texts: &mut Texts, strings: &[&str]) -> Result<(), Fail> {
-    for (text, string) in texts.iter_mut().zip(strings) {
-        text.push_str(string)?;
-    }
-    Ok(())
-}
-
-/// The plain program's texts at these as they are before a run.
-fn starts_of(
-    rt: &impl Abort,
-    alloc: Global,
-    texts: &mut Texts,
-    policies: &[Policy],
-) -> Vec<PlainText> {
-    let mut starts: Vec<PlainText> = Vec::new(alloc);
-    for (text, policy) in texts.iter_mut().zip(policies) {
-        let start = before(rt, alloc, seen_of_dyn(&**text), *policy);
-        assert!(rt; starts.push(start).is_ok());
-    }
-    starts
-}
-
-/// Asserts that the plain program agrees with each text's own replies, and what it is after them.
-fn check_ends(
-    rt: &impl Abort,
-    alloc: Global,
-    starts: Vec<PlainText>,
-    texts: &mut Texts,
-    commands: &[Command],
-    replies: &[Reply],
-    ends: &[(&str, Storage)],
-) {
-    let mut first = 0usize;
-    for ((start, text), wanted) in starts.into_iter().zip(texts.iter()).zip(ends) {
-        let end = seen_of_dyn(&**text);
-        let next = first.saturating_add(commands.len());
-        let own = replies.get(first..next).expect(rt, "replies of its own");
-        after(rt, alloc, start, commands, own, end);
-        assert!(rt; end.string == wanted.0 && end.storage == wanted.1);
-        first = next;
-    }
-}
-
-/// Whether memory can be had while commands are given.
-#[derive(Clone, Copy)]
-enum Memory {
-    Ample,
-    Refused,
-}
-
-/// Gives the commands to each text with the plain program beside it, and asserts all replies, and
-/// the texts and where they lie after them.
-fn check_each(
-    rt: &impl Abort,
-    alloc: Global,
-    memory: Memory,
-    texts: &mut Texts,
-    policies: &[Policy],
-    commands: &[Command],
-    wanted: &[Reply],
-    ends: &[(&str, Storage)],
-) {
-    assert!(rt; texts.len() == policies.len() && texts.len() == ends.len());
-    let starts = starts_of(rt, alloc, texts, policies);
-    assert!(rt; starts.len() == ends.len());
-    // No text here has this reply.
-    let mut room = [NotUtf8; 16];
-    let count = texts.len().checked_mul(commands.len());
-    let count = count.expect(rt, "a number of replies");
-    assert!(rt; count <= room.len());
-    let hoard = match memory {
-        Memory::Ample => None,
-        Memory::Refused => Some(all_memory(rt, alloc)),
-    };
-    run_each(texts, commands, &mut room[..count]);
-    drop(hoard);
-    let replies = &room[..count];
-    assert!(rt; replies == wanted, "{replies:?}");
-    check_ends(rt, alloc, starts, texts, commands, replies, ends);
-}
+/// No commands, and then some.
+const EACH_STORAGE_LISTS: &[Given] = &[
+    Given {
+        memory: Ample,
+        commands: &[],
+        replies: &[],
+        ends: &[("x", Heap), ("x", Inline), ("x", Heap)],
+    },
+    Given {
+        memory: Ample,
+        commands: COMMANDS,
+        replies: THRICE,
+        ends: &[("", Heap), ("", Inline), ("", Heap)],
+    },
+];
 
 #[test]
 fn boxed_texts_of_each_storage_have_a_run_each(rt: HostRuntime) -> Result<(), Fail> {
-    let alloc = rt.alloc();
-    let mut texts: Texts = Vec::new(alloc);
-    texts.push(Box::new(alloc, <String as StringMake>::new(alloc))?)?;
-    texts.push(Box::new(alloc, BoxableString(InlinableString::new(alloc)))?)?;
-    let heap = InlinableString::with_capacity(alloc, 31)?;
-    texts.push(Box::new(alloc, BoxableString(heap))?)?;
-    push_to_each(&mut texts, &["x"; 3])?;
-    let policies = [HEAP, inlinable(30), inlinable(30)];
-    let before = [("x", Heap), ("x", Inline), ("x", Heap)];
-    check_each(
-        &rt,
-        alloc,
-        Memory::Ample,
-        &mut texts,
-        &policies,
-        &[],
-        &[],
-        &before,
-    );
-    let after = [("", Heap), ("", Inline), ("", Heap)];
-    check_each(
-        &rt,
-        alloc,
-        Memory::Ample,
-        &mut texts,
-        &policies,
-        COMMANDS,
-        THRICE,
-        &after,
-    );
+    check_boxed(&rt, rt.alloc(), EACH_STORAGE, EACH_STORAGE_LISTS);
     Ok(())
 }
 
-/// Commands to which the texts "a", "é", "hello" and "€" have unlike replies.
-const UNLIKE_COMMANDS: &[Command<'static>] = &[Truncate(1), PushStr("7 bytes"), Pop, Remove(1)];
-
-const UNLIKE_REPLIES: &[Reply] = &[
-    Done,
-    Done,
-    Char('s'),
-    Char('7'),
-    BadPlace,
-    Done,
-    Char('s'),
-    BadPlace,
-    Done,
-    Done,
-    Char('s'),
-    Char('7'),
-    BadPlace,
-    Done,
-    Char('s'),
-    BadPlace,
+const UNLIKE: &[Boxed] = &[
+    (Kind::String, None, "a"),
+    (Kind::Inlinable, None, "é"),
+    (Kind::EightBytes, None, "hello"),
+    (Kind::OnHeap, None, "€"),
 ];
 
-const UNLIKE_ENDS: &[(&str, Storage)] = &[
-    ("a byte", Heap),
-    ("é7 byte", Inline),
-    ("h byte", Inline),
-    ("€7 byte", Heap),
-];
+/// Commands to which these texts have unlike replies.
+const UNLIKE_LISTS: &[Given] = &[Given {
+    memory: Ample,
+    commands: &[Truncate(1), PushStr("7 bytes"), Pop, Remove(1)],
+    replies: &[
+        Done,
+        Done,
+        Char('s'),
+        Char('7'),
+        BadPlace,
+        Done,
+        Char('s'),
+        BadPlace,
+        Done,
+        Done,
+        Char('s'),
+        Char('7'),
+        BadPlace,
+        Done,
+        Char('s'),
+        BadPlace,
+    ],
+    ends: &[
+        ("a byte", Heap),
+        ("é7 byte", Inline),
+        ("h byte", Inline),
+        ("€7 byte", Heap),
+    ],
+}];
 
 #[test]
 fn unlike_texts_have_unlike_replies(rt: HostRuntime) -> Result<(), Fail> {
-    let alloc = rt.alloc();
-    let mut texts: Texts = Vec::new(alloc);
-    texts.push(Box::new(alloc, <String as StringMake>::new(alloc))?)?;
-    texts.push(Box::new(alloc, BoxableString(InlinableString::new(alloc)))?)?;
-    texts.push(Box::new(alloc, EightBytes(InlinableStringN::new(alloc)))?)?;
-    texts.push(Box::new(alloc, OnHeap(String::new(alloc)))?)?;
-    push_to_each(&mut texts, &["a", "é", "hello", "€"])?;
-    let policies = [HEAP, inlinable(30), inlinable(8), HEAP];
-    let (commands, wanted) = (UNLIKE_COMMANDS, UNLIKE_REPLIES);
-    check_each(
-        &rt,
-        alloc,
-        Memory::Ample,
-        &mut texts,
-        &policies,
-        commands,
-        wanted,
-        UNLIKE_ENDS,
-    );
+    check_boxed(&rt, rt.alloc(), UNLIKE, UNLIKE_LISTS);
     Ok(())
 }
 
+const OWN: &[Boxed] = &[
+    (Kind::EightBytes, None, "x"),
+    (Kind::EightBytes, Some(9), "x"),
+    (Kind::OnHeap, None, "x"),
+];
+
+const OWN_LISTS: &[Given] = &[Given {
+    memory: Ample,
+    commands: COMMANDS,
+    replies: THRICE,
+    ends: &[("", Inline), ("", Heap), ("", Heap)],
+}];
+
 #[test]
 fn boxed_texts_of_a_callers_own_have_a_run_each(rt: HostRuntime) -> Result<(), Fail> {
-    let alloc = rt.alloc();
-    let mut texts: Texts = Vec::new(alloc);
-    texts.push(Box::new(alloc, EightBytes(InlinableStringN::new(alloc)))?)?;
-    let heap = InlinableStringN::with_capacity(alloc, 9)?;
-    texts.push(Box::new(alloc, EightBytes(heap))?)?;
-    texts.push(Box::new(alloc, OnHeap(String::new(alloc)))?)?;
-    push_to_each(&mut texts, &["x"; 3])?;
-    let policies = [inlinable(8), inlinable(8), HEAP];
-    let after = [("", Inline), ("", Heap), ("", Heap)];
-    check_each(
-        &rt,
-        alloc,
-        Memory::Ample,
-        &mut texts,
-        &policies,
-        COMMANDS,
-        THRICE,
-        &after,
-    );
+    check_boxed(&rt, rt.alloc(), OWN, OWN_LISTS);
     Ok(())
 }
 
 /// A `String`, a full text, a short one, and one on the heap with room.
-const REFUSED_STARTS: &[&str] = &["", A30, "x", "x"];
-
-const REFUSED_REPLIES: &[Reply] = &[
-    NoMemory,
-    NoChar,
-    NoMemory,
-    Char('a'),
-    Done,
-    Char('b'),
-    Done,
-    Char('b'),
+const REFUSED: &[Boxed] = &[
+    (Kind::String, None, ""),
+    (Kind::Inlinable, None, A30),
+    (Kind::Inlinable, None, "x"),
+    (Kind::Inlinable, Some(31), "x"),
 ];
 
-const REFUSED_ENDS: &[(&str, Storage)] = &[
-    ("", Heap),
-    ("aaaaaaaaaaaaaaaaaaaaaaaaaaaaa", Inline),
-    ("x", Inline),
-    ("x", Heap),
-];
+const REFUSED_LISTS: &[Given] = &[Given {
+    memory: Refused,
+    commands: &[Push('b'), Pop],
+    replies: &[
+        NoMemory,
+        NoChar,
+        NoMemory,
+        Char('a'),
+        Done,
+        Char('b'),
+        Done,
+        Char('b'),
+    ],
+    ends: &[
+        ("", Heap),
+        ("aaaaaaaaaaaaaaaaaaaaaaaaaaaaa", Inline),
+        ("x", Inline),
+        ("x", Heap),
+    ],
+}];
 
 #[test]
 fn each_text_is_refused_memory_by_itself(rt: HostRuntime) -> Result<(), Fail> {
-    let alloc = rt.alloc();
-    let mut texts: Texts = Vec::new(alloc);
-    texts.push(Box::new(alloc, <String as StringMake>::new(alloc))?)?;
-    texts.push(Box::new(alloc, BoxableString(InlinableString::new(alloc)))?)?;
-    texts.push(Box::new(alloc, BoxableString(InlinableString::new(alloc)))?)?;
-    let heap = InlinableString::with_capacity(alloc, 31)?;
-    texts.push(Box::new(alloc, BoxableString(heap))?)?;
-    push_to_each(&mut texts, REFUSED_STARTS)?;
-    let policies = [HEAP, inlinable(30), inlinable(30), inlinable(30)];
-    let (commands, wanted, ends) = ([Push('b'), Pop], REFUSED_REPLIES, REFUSED_ENDS);
-    let memory = Memory::Refused;
-    check_each(
-        &rt, alloc, memory, &mut texts, &policies, &commands, wanted, ends,
-    );
+    check_boxed(&rt, rt.alloc(), REFUSED, REFUSED_LISTS);
     Ok(())
 }
 
+/// Some commands, and no commands, without a text that they are for.
+const NO_TEXTS_LISTS: &[Given] = &[
+    Given {
+        memory: Ample,
+        commands: COMMANDS,
+        replies: &[],
+        ends: &[],
+    },
+    Given {
+        memory: Ample,
+        commands: &[],
+        replies: &[],
+        ends: &[],
+    },
+];
+
 #[test]
 fn no_texts_take_any_commands_and_no_replies(rt: HostRuntime) -> Result<(), Fail> {
-    let alloc = rt.alloc();
-    let mut texts: Texts = Vec::new(alloc);
-    check_each(
-        &rt,
-        alloc,
-        Memory::Ample,
-        &mut texts,
-        &[],
-        COMMANDS,
-        &[],
-        &[],
-    );
-    check_each(&rt, alloc, Memory::Ample, &mut texts, &[], &[], &[], &[]);
-    assert!(rt; texts.is_empty());
+    check_boxed(&rt, rt.alloc(), &[], NO_TEXTS_LISTS);
     Ok(())
 }
+
+/// The same commands on a text on the heap.
+const X: &Row = &(
+    None,
+    "x",
+    &[
+        (PushStr("y"), Done, Heap),
+        (Remove(0), Char('x'), Heap),
+        (Pop, Char('y'), Heap),
+        (Pop, NoChar, Heap),
+    ],
+    "",
+);
 
 #[test]
 fn a_text_of_a_callers_own_has_the_replies_of_a_string(rt: HostRuntime) -> Result<(), Fail> {
     let alloc = rt.alloc();
     let mut string = <String as StringMake>::new(alloc);
-    StringExt::push_str(&mut string, "x")?;
-    let mut replies = [NoMemory; 4];
-    run_beside(&rt, alloc, &mut string, HEAP, COMMANDS, &mut replies);
-    assert_eq!(rt; replies, REPLIES);
+    check_steps(&rt, alloc, &mut string, HEAP, 0, *X, 4);
     let mut text = OnHeap(String::new(alloc));
     for _ in 0..2u8 {
-        text.push_str("x")?;
-        let mut replies = [NoMemory; 4];
-        run_beside(&rt, alloc, &mut text, HEAP, COMMANDS, &mut replies);
-        assert_eq!(rt; replies, REPLIES);
-        assert_eq!(rt; (text.as_str(), text.storage()), ("", Heap));
-        text.push_str("x")?;
-        let mut replies = [NoMemory; 4];
-        run_dyn_beside(&rt, alloc, &mut text, HEAP, COMMANDS, &mut replies);
-        assert_eq!(rt; replies, REPLIES);
-        assert_eq!(rt; (text.as_str(), text.storage()), ("", Heap));
+        check_steps(&rt, alloc, &mut text, HEAP, 0, *X, 4);
+        check_row_dyn(&rt, alloc, &mut text, HEAP, 0, *X);
     }
     Ok(())
 }

@@ -29,7 +29,7 @@ const LISTS: usize = 10_000;
 const MOST_COMMANDS: usize = 12;
 
 /// Characters of one to four bytes: the first and the last of each length, and one between.
-const CHARS: [char; 16] = [
+const CHARS: &[char] = &[
     'a',
     '\0',
     'z',
@@ -48,7 +48,7 @@ const CHARS: [char; 16] = [
     '\u{10ffff}',
 ];
 
-const TEXTS: [&str; 12] = [
+const TEXTS: &[&str] = &[
     "",
     "a",
     "é",
@@ -64,10 +64,10 @@ const TEXTS: [&str; 12] = [
 ];
 
 /// Limits that a reservation or a text is drawn for.
-const LIMITS: [usize; 3] = [0, 8, 30];
+const LIMITS: &[usize] = &[0, 8, 30];
 
 /// Texts are made by `new`, or for so many bytes.
-const CAPACITIES: [Option<usize>; 6] = [None, None, None, Some(8), Some(31), Some(40)];
+const CAPACITIES: &[Option<usize>] = &[None, None, None, Some(8), Some(31), Some(40)];
 
 /// Bytes to be put in the place of others are parts of these: one byte a character, and several.
 const NARROW: &str = "The quick brown fox jumps over the lazy dog, and the dog sleeps on and on.";
@@ -115,14 +115,14 @@ impl Draws {
     /// So many bytes that the text just reaches a limit with them, or stays a byte below it, or
     /// goes a byte past it.
     fn near_a_limit(&mut self, text: &[char]) -> usize {
-        let rest = self.one_of(&LIMITS).saturating_sub(size_of(text));
+        let rest = self.one_of(LIMITS).saturating_sub(size_of(text));
         self.one_of(&[rest, rest.saturating_sub(1), rest.saturating_add(1)])
     }
 
     fn string(&mut self, text: &[char]) -> &'static str {
         let count = self.near_a_limit(text);
         if self.mostly() || !NARROW.is_char_boundary(count) {
-            self.one_of(&TEXTS)
+            self.one_of(TEXTS)
         } else {
             &NARROW[..count]
         }
@@ -160,9 +160,9 @@ impl Draws {
     /// A command, of which it is known what text it is given to.
     fn command(&mut self, text: &[char]) -> Command<'static> {
         match self.below(24) {
-            0..=2 => Push(self.one_of(&CHARS)),
+            0..=2 => Push(self.one_of(CHARS)),
             3..=5 => PushStr(self.string(text)),
-            6..=8 => Insert(self.place(text), self.one_of(&CHARS)),
+            6..=8 => Insert(self.place(text), self.one_of(CHARS)),
             9..=10 => InsertStr(self.place(text), self.string(text)),
             11..=12 => Truncate(self.place(text)),
             13..=14 => Pop,
@@ -256,20 +256,11 @@ fn check_replies(
     number: usize,
 ) {
     let limit = start.limit;
-    assert!(rt;
-        replies == list.replies.as_slice(),
-        "{replies:?} to list {number} at limit {limit}"
-    );
     let verdict = judged(alloc, start, &list.commands, replies, end);
     let verdict = verdict.expect(rt, "memory for the plain program");
-    check_verdict(rt, verdict, limit, number);
-}
-
-fn check_verdict(rt: &impl Abort, verdict: Verdict, limit: usize, number: usize) {
-    assert_eq!(rt;
-        verdict,
-        Verdict::Agrees,
-        "to list {number} at limit {limit}"
+    assert!(rt;
+        replies == list.replies.as_slice() && verdict == Verdict::Agrees,
+        "{verdict:?} of {replies:?} to list {number} at limit {limit}"
     );
 }
 
@@ -332,9 +323,8 @@ fn check_kinds(
     check_list::<InlinableString>(rt, alloc, inlinable(30), capacity, list, number)
 }
 
-#[test]
-fn generated_lists_have_the_replies_of_the_plain_program(rt: HostRuntime) -> Result<(), Fail> {
-    let alloc = rt.alloc();
+/// Gives each list to a text of each kind. Answers of what sorts the lists were.
+fn check_lists(rt: &impl Abort, alloc: Global) -> Counts {
     let mut draws = Draws { state: SEED };
     let mut list = List {
         commands: Vec::new(alloc),
@@ -345,11 +335,17 @@ fn generated_lists_have_the_replies_of_the_plain_program(rt: HostRuntime) -> Res
         kinds: [0; 7],
     };
     for number in 0..LISTS {
-        list.draw(alloc, &mut draws)?;
-        let capacity = draws.one_of(&CAPACITIES);
-        let end = check_kinds(&rt, alloc, capacity, &list, number);
+        assert!(rt; list.draw(alloc, &mut draws).is_ok());
+        let capacity = draws.one_of(CAPACITIES);
+        let end = check_kinds(rt, alloc, capacity, &list, number);
         counts.add(&list.replies, end);
     }
+    counts
+}
+
+#[test]
+fn generated_lists_have_the_replies_of_the_plain_program(rt: HostRuntime) -> Result<(), Fail> {
+    let counts = check_lists(&rt, rt.alloc());
     let Counts { on_heap, kinds } = &counts;
     println!(rt; "{LISTS} lists from seed {SEED}")?;
     println!(rt; "replies of each kind {kinds:?}, ends on the heap {on_heap}")?;

@@ -1,7 +1,9 @@
 //! Runs with every request for memory refused from the first command on, or from a later one.
-use super::made;
+ghost use Rattle.std.specs.Prelude.{◌≡◌, length};
+
+use super::made_of;
 use super::rows::{A26, A27, A28, A30, DIGITS};
-use crate::beside::{after, before, run_beside};
+use crate::beside::{after, before, check_seen, check_that, run_one_beside};
 use Storage::{Heap, Inline};
 use inlinable_string::run::Command::{
     self, Clear, Insert, InsertStr, Pop, Push, PushStr, Remove, Reserve, ReserveExact, ShrinkToFit,
@@ -233,101 +235,49 @@ const ON_A_STRING: &[Row] = &[Row {
     storage: Heap,
 }];
 
-/// The text of a row as memory begins to be refused, and the replies to what is given then.
-#[derive(Drop)]
-struct Prepared<S: Drop> {
-    text: S,
-    start: PlainText,
-    replies: [Reply; MOST_COMMANDS],
-}
-
-impl<S: StringExt + Drop> Prepared<S> {
-    fn give(&mut self, commands: &[Command]) {
-        let count = commands.len();
-        if count <= MOST_COMMANDS {
-            let replies = &mut self.replies[..];
-            run(&mut self.text, commands, &mut replies[..count]);
-        }
-    }
-}
-
-fn prepare<S: StringMake + Drop>(
+/// Gives the commands while all memory is held.
+fn run_held<S: StringExt>(
     rt: &impl Abort,
     alloc: Global,
-    policy: Policy,
-    row: Row,
-) -> Prepared<S> {
-    let mut text: S = made(rt, alloc, row.capacity);
-    assert!(rt; text.push_str(row.start).is_ok());
+    text: &mut S,
+    commands: &[Command],
+    replies: &mut [Reply],
+)
+    requires { length replies.old ≡ length commands.now }
+{
+    let hoard = all_memory(rt, alloc);
+    run(text, commands, replies);
+    drop(hoard);
+}
+
+/// The text of a row, as memory begins to be refused.
+fn prepared<S: StringMake + Drop>(rt: &impl Abort, alloc: Global, policy: Policy, row: Row) -> S {
+    let mut text: S = made_of(rt, alloc, row.capacity, row.start);
     if let Some(command) = row.granted {
-        let mut replies = [NoMemory];
-        run_beside(rt, alloc, &mut text, policy, &[command], &mut replies);
-        assert_eq!(rt; replies, [Done]);
+        let reply = run_one_beside(rt, alloc, &mut text, policy, command);
+        assert!(rt; reply == Done);
     }
-    let start = before(rt, alloc, seen_of(&text), policy);
-    Prepared {
-        text,
-        start,
-        replies: [NoMemory; MOST_COMMANDS],
-    }
-}
-
-/// The text of each row, as memory begins to be refused.
-fn prepare_each<S: StringMake + Drop>(
-    rt: &impl Abort,
-    alloc: Global,
-    policy: Policy,
-    rows: &[Row],
-) -> Vec<Prepared<S>> {
-    let mut runs: Vec<Prepared<S>> = Vec::new(alloc);
-    for row in rows {
-        let next = prepare(rt, alloc, policy, *row);
-        assert!(rt; runs.push(next).is_ok());
-    }
-    runs
+    text
 }
 
 /// Asserts what a row tells of its run, and that the plain program agrees.
-fn check_run<S: StringExt + Drop>(
-    rt: &impl Abort,
-    alloc: Global,
-    policy: Policy,
-    row: Row,
-    run_of: Prepared<S>,
-) {
-    let Prepared {
-        text,
-        start,
-        replies,
-    } = run_of;
+fn check_row<S: StringMake + Drop>(rt: &impl Abort, alloc: Global, policy: Policy, row: Row) {
     let (told, count) = (row.replies.len(), row.refused.len());
     assert!(rt; told <= count && count <= MOST_COMMANDS);
-    assert!(rt; &replies[..told] == row.replies, "{replies:?}");
+    let mut text: S = prepared(rt, alloc, policy, row);
+    let start = before(rt, alloc, seen_of(&text), policy);
+    let mut room = [NoMemory; MOST_COMMANDS];
+    let replies = &mut room[..count];
+    run_held(rt, alloc, &mut text, row.refused, replies);
+    check_that(rt, &replies[..told] == row.replies, row.start, replies);
     let end = seen_of(&text);
-    assert!(rt;
-        end.string == row.end && end.storage == row.storage,
-        "{replies:?}"
-    );
-    assert!(rt; end.storage == Heap || end.capacity == policy.limit);
-    after(rt, alloc, start, row.refused, &replies[..count], end);
+    check_seen(rt, policy, replies, end, row.end, row.storage);
+    after(rt, alloc, start, row.refused, replies, end);
 }
 
-/// Runs each row while all memory is held, and asserts what it tells once the memory is given back.
-fn check_refused<S: StringMake + Drop>(
-    rt: &impl Abort,
-    alloc: Global,
-    policy: Policy,
-    rows: &[Row],
-) {
-    let mut runs: Vec<Prepared<S>> = prepare_each(rt, alloc, policy, rows);
-    let hoard = all_memory(rt, alloc);
-    for (run_of, row) in runs.iter_mut().zip(rows) {
-        run_of.give(row.refused);
-    }
-    drop(hoard);
-    assert!(rt; runs.len() == rows.len());
-    for (run_of, row) in runs.into_iter().zip(rows) {
-        check_run(rt, alloc, policy, *row, run_of);
+fn check_rows<S: StringMake + Drop>(rt: &impl Abort, alloc: Global, policy: Policy, rows: &[Row]) {
+    for row in rows {
+        check_row::<S>(rt, alloc, policy, *row);
     }
 }
 
@@ -335,78 +285,67 @@ fn check_refused<S: StringMake + Drop>(
 fn an_inline_or_heap_text_asks_for_no_memory_that_its_rules_spare(
     rt: HostRuntime,
 ) -> Result<(), Fail> {
-    check_refused::<InlinableString>(&rt, rt.alloc(), inlinable(30), AT_30);
+    check_rows::<InlinableString>(&rt, rt.alloc(), inlinable(30), AT_30);
     Ok(())
 }
 
 #[test]
 fn a_string_asks_for_no_memory_that_was_reserved(rt: HostRuntime) -> Result<(), Fail> {
-    check_refused::<String>(&rt, rt.alloc(), HEAP, ON_A_STRING);
+    check_rows::<String>(&rt, rt.alloc(), HEAP, ON_A_STRING);
     Ok(())
 }
 
-/// Gives the first three commands while all memory is held, and the last one once it is given
-/// back. Answers where the text lies between.
-fn run_held_and_free<S: StringExt>(
+/// Asserts the reply to a push, how many bytes the text has after it, and where it lies.
+fn check_push<S: StringExt>(
     rt: &impl Abort,
-    alloc: Global,
-    text: &mut S,
-    commands: &[Command; 4],
-    replies: &mut [Reply; 4],
-) -> Storage {
-    let hoard = all_memory(rt, alloc);
-    run(text, &commands[..3], &mut replies[..3]);
-    drop(hoard);
+    reply: Reply,
+    text: &S,
+    wanted: (Reply, usize, Storage),
+) {
+    assert_eq!(rt; (reply, text.len(), text.storage()), wanted);
+}
+
+/// The first three of these are given while all memory is held, and the last one once it is given
+/// back.
+const HELD_AND_FREE: &[Command<'static>] = &[PushStr(A30), Push('b'), Pop, Push('€')];
+
+const HELD_AND_FREE_REPLIES: &[Reply] = &[Done, NoMemory, Char('a'), Done];
+
+fn check_held_and_free<S: StringMake + Drop>(rt: &impl Abort, alloc: Global, policy: Policy) {
+    let mut text = S::new(alloc);
+    let start = before(rt, alloc, seen_of(&text), policy);
+    let mut replies = [BadPlace; 4];
+    run_held(rt, alloc, &mut text, &HELD_AND_FREE[..3], &mut replies[..3]);
     let storage = text.storage();
-    run(text, &commands[3..], &mut replies[3..]);
-    storage
+    run(&mut text, &HELD_AND_FREE[3..], &mut replies[3..]);
+    let holds = &replies[..] == HELD_AND_FREE_REPLIES && storage == Inline;
+    check_that(rt, holds, "a push that was refused", &replies);
+    check_push(rt, replies[3], &text, (Done, 32, Heap));
+    after(rt, alloc, start, HELD_AND_FREE, &replies, seen_of(&text));
 }
 
 #[test]
 fn a_push_that_was_refused_is_done_once_memory_is_back(rt: HostRuntime) -> Result<(), Fail> {
-    let alloc = rt.alloc();
-    let mut text = InlinableString::new(alloc);
-    let start = before(&rt, alloc, seen_of(&text), inlinable(30));
-    let commands = [PushStr(A30), Push('b'), Pop, Push('€')];
-    let mut replies = [BadPlace; 4];
-    let storage = run_held_and_free(&rt, alloc, &mut text, &commands, &mut replies);
-    assert_eq!(rt; replies, [Done, NoMemory, Char('a'), Done]);
-    assert_eq!(rt; (storage, text.len(), text.storage()), (Inline, 32, Heap));
-    after(&rt, alloc, start, &commands, &replies, seen_of(&text));
+    check_held_and_free::<InlinableString>(&rt, rt.alloc(), inlinable(30));
     Ok(())
 }
 
-/// Gives these commands while all memory is held, and one push more. Answers the reply to it.
-fn run_held_and_push<S: StringExt>(
-    rt: &impl Abort,
-    alloc: Global,
-    text: &mut S,
-    commands: &[Command; 300],
-    replies: &mut [Reply; 300],
-) -> Reply {
-    let mut last = [Done];
-    let hoard = all_memory(rt, alloc);
-    run(text, commands, replies);
-    run(text, &[Push('a')], &mut last);
-    drop(hoard);
-    last[0]
-}
+const PUSHES: &[Command<'static>] = &[Push('a'); 300];
+
+const PUSHED: &[Reply] = &[Done; 300];
 
 fn check_300_pushes<S: StringMake + Drop>(rt: &impl Abort, alloc: Global, policy: Policy) {
     let mut text = S::new(alloc);
     let start = before(rt, alloc, seen_of(&text), policy);
-    let commands = [Push('a'); 300];
     let mut replies = [NoMemory; 300];
-    let refused = run_held_and_push(rt, alloc, &mut text, &commands, &mut replies);
-    assert!(rt; replies == [Done; 300]);
-    assert_eq!(rt;
-        (refused, text.len(), text.storage()),
-        (NoMemory, 300, Inline)
-    );
-    after(rt, alloc, start, &commands, &replies, seen_of(&text));
-    let mut last = [NoMemory];
-    run_beside(rt, alloc, &mut text, policy, &[Push('a')], &mut last);
-    assert_eq!(rt; (last, text.len(), text.storage()), ([Done], 301, Heap));
+    run_held(rt, alloc, &mut text, PUSHES, &mut replies);
+    check_that(rt, &replies[..] == PUSHED, "pushes", &replies);
+    let mut last = [Done];
+    run_held(rt, alloc, &mut text, &[Push('a')], &mut last);
+    check_push(rt, last[0], &text, (NoMemory, 300, Inline));
+    after(rt, alloc, start, PUSHES, &replies, seen_of(&text));
+    let last = run_one_beside(rt, alloc, &mut text, policy, Push('a'));
+    check_push(rt, last, &text, (Done, 301, Heap));
 }
 
 #[test]
