@@ -5,7 +5,7 @@
 ghost use Rattle.std.specs.Prelude.{◌≤◌};
 
 use super::InlineStringN;
-use edits::Answer::{self, BadPlace, Char, Done, NoChar, NotEnoughSpace, NotUtf8, WrongLength};
+use edits::Answer::{self, Char, Done, NotEnoughSpace};
 use edits::Edit::{
     self, Clear, Insert, InsertStr, Pop, Push, PushStr, Remove, ReplaceBytes, Truncate,
 };
@@ -14,6 +14,7 @@ use std::fmt::Debug;
 use std::process::Abort;
 
 mod edits;
+mod refused;
 
 /// An edit, the answer to it, and the text and its start after it.
 type Step<'a> = (Edit<'a>, Answer, &'a str, usize);
@@ -340,71 +341,6 @@ fn the_text_slides_to_the_front_where_only_both_sides_together_have_room(rt: Hos
     check::<30>(&rt, SIDES_TOGETHER_30);
     check::<8>(&rt, SIDES_TOGETHER_8);
     check::<4>(&rt, SIDES_TOGETHER_4);
-}
-
-const TWENTY_ONE: &str = "abcdefghijklmnopqrstu";
-
-const TWENTY_SEVEN: &str = "abcdefghijklmnopqrstuvwxyzA";
-
-const TWENTY_NINE: &str = "abcdefghijklmnopqrstuvwxyzABC";
-
-const THIRTY_ONE: &str = "abcdefghijklmnopqrstuvwxyzABCDE";
-
-const REFUSED_30: &[Row] = &[
-    // One byte is wanting on both sides together.
-    (
-        TWENTY_ONE,
-        5,
-        InsertStr(0, NEW),
-        NotEnoughSpace,
-        TWENTY_ONE,
-        5,
-    ),
-    (TWENTY_ONE, 5, PushStr(NEW), NotEnoughSpace, TWENTY_ONE, 5),
-    (
-        TWENTY_SEVEN,
-        2,
-        Insert(13, '𝄞'),
-        NotEnoughSpace,
-        TWENTY_SEVEN,
-        2,
-    ),
-    (TWENTY_NINE, 1, Push('é'), NotEnoughSpace, TWENTY_NINE, 1),
-    (FULL, 0, Push('-'), NotEnoughSpace, FULL, 0),
-    (FULL, 0, Insert(0, '-'), NotEnoughSpace, FULL, 0),
-    (FULL, 0, InsertStr(30, "-"), NotEnoughSpace, FULL, 0),
-    ("", 29, PushStr(THIRTY_ONE), NotEnoughSpace, "", 29),
-    (LENGTHS, 20, ReplaceBytes(b"-"), WrongLength, LENGTHS, 20),
-    (
-        LENGTHS,
-        20,
-        ReplaceBytes(b"012345678\xFF"),
-        NotUtf8,
-        LENGTHS,
-        20,
-    ),
-    (LENGTHS, 20, Insert(2, '-'), BadPlace, LENGTHS, 20),
-    (LENGTHS, 20, InsertStr(5, "-"), BadPlace, LENGTHS, 20),
-    (LENGTHS, 20, Truncate(11), BadPlace, LENGTHS, 20),
-    (LENGTHS, 20, Remove(10), BadPlace, LENGTHS, 20),
-    ("", 20, Pop, NoChar, "", 20),
-];
-
-const REFUSED_8: &[Row] = &[
-    ("abc", 3, InsertStr(2, "012345"), NotEnoughSpace, "abc", 3),
-    ("abc", 3, PushStr("€𝄞"), NotEnoughSpace, "abc", 3),
-];
-
-const REFUSED_4: &[Row] = &[
-    ("ab", 1, Insert(1, '€'), NotEnoughSpace, "ab", 1),
-    ("ab", 2, Push('€'), NotEnoughSpace, "ab", 2),
-];
-
-#[test]
-fn a_refused_edit_leaves_the_start(rt: HostRuntime) {
-    check::<30>(&rt, REFUSED_30);
-    check::<8>(&rt, REFUSED_8);
-    check::<4>(&rt, REFUSED_4);
 }
 
 const REMOVALS_30: &[Row] = &[
