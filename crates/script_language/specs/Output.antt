@@ -1,5 +1,6 @@
 -- What is printed of a run.
-use Rattle.std.specs.Prelude.{ℕ, List, ◌++◌, codes, decimal, encode_utf8}
+use Rattle.std.specs.Prelude.{◌≡◌, ℕ, List, ◌++◌, codes, decimal, encode_utf8, Option}
+use Rattle.std.specs.Io.KnownBytes.{Appends}
 use Rattle.std.specs.List.{flat_map}
 use Rattle.inlinable_string.specs.Text.{bytes_of, size}
 use Rattle.inlinable_string.specs.State.{TextState}
@@ -35,3 +36,10 @@ state_lines s = labelled_line (codes "text ") (bytes_of s.text)
 -- all that is printed
 abbrev pub printed : List Reply → TextState → List ℕ
 printed replies s = flat_map reply_line replies ++ state_lines s
+
+-- of these bytes a front was written
+pub record WritesFront (old new : Option (List ℕ)) (bytes : List ℕ) : Type 0 where
+  pub front : List ℕ
+  pub behind : List ℕ
+  pub split : bytes ≡ front ++ behind
+  pub written : Appends old new front

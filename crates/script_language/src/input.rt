@@ -17,6 +17,9 @@ pub fn read_input<R: Read>(alloc: Global, input: &mut R) -> Result<Vec<u8>, Scri
     ensures bound { IfOk result (λ bytes. vec_len bytes ≤ 65536) }
     ensures whole { IfOk result (λ bytes.
         IfSome (R.remaining input.old) (λ all. bytes.items ≡ all)) }
+    ensures all_read { IfOk result (λ bytes.
+        Consumes (R.remaining input.old) (R.remaining input.new) bytes.items) }
+    ensures at_end { IfOk result (λ bytes. IsAtEnd (R.remaining input.new)) }
     ensures too_long { result ≡ Err ScriptFault.TooLong
         → IfSome (R.remaining input.old) (λ all. 65536 < length all) }
     ensures fault { IfErr result (λ fault. (fault ≡ ScriptFault.NoMemory)

@@ -1,7 +1,7 @@
 //! Prints what a run gave. It takes no memory.
 ghost use Rattle.std.specs.Prelude.{◌≡◌, IfErr, OnOk};
 ghost use Rattle.std.specs.Io.KnownBytes.{Appends};
-ghost use Rattle.script_language.specs.Output.{labelled_line, printed, reply_line, storage_name};
+ghost use Rattle.script_language.specs.Output.{labelled_line, printed, reply_line, storage_name, WritesFront};
 
 use crate::fault::ScriptFault;
 use inlinable_string::run::Reply;
@@ -17,6 +17,8 @@ pub fn print<S: StringExt, W: Write>(
 ) -> Result<(), ScriptFault>
     ensures written { OnOk result (Appends (W.contents out.old) (W.contents out.new)
         (printed replies.now (S.state text.now))) }
+    ensures part { IfErr result (λ _. WritesFront (W.contents out.old) (W.contents out.new)
+        (printed replies.now (S.state text.now))) }
     ensures fault { IfErr result (λ fault. fault ≡ ScriptFault.Write) }
 {
     for reply in replies {
@@ -30,6 +32,8 @@ pub fn print<S: StringExt, W: Write>(
 
 fn print_reply<W: Write>(out: &mut W, reply: Reply) -> Result<(), ScriptFault>
     ensures written { OnOk result (Appends (W.contents out.old) (W.contents out.new)
+        (reply_line reply)) }
+    ensures part { IfErr result (λ _. WritesFront (W.contents out.old) (W.contents out.new)
         (reply_line reply)) }
     ensures fault { IfErr result (λ fault. fault ≡ ScriptFault.Write) }
 {
@@ -59,6 +63,8 @@ fn storage_name(storage: Storage) -> &'static [u8]
 fn print_line<W: Write>(out: &mut W, label: &[u8], value: &[u8]) -> Result<(), ScriptFault>
     ensures written { OnOk result (Appends (W.contents out.old) (W.contents out.new)
         (labelled_line label.now value.now)) }
+    ensures part { IfErr result (λ _. WritesFront (W.contents out.old) (W.contents out.new)
+        (labelled_line label.now value.now)) }
     ensures fault { IfErr result (λ fault. fault ≡ ScriptFault.Write) }
 {
     write_whole(out, label)?;
@@ -72,6 +78,7 @@ fn print_line<W: Write>(out: &mut W, label: &[u8], value: &[u8]) -> Result<(), S
 /// writing ends.
 fn write_whole<W: Write>(out: &mut W, bytes: &[u8]) -> Result<(), ScriptFault>
     ensures written { OnOk result (Appends (W.contents out.old) (W.contents out.new) bytes.now) }
+    ensures part { IfErr result (λ _. WritesFront (W.contents out.old) (W.contents out.new) bytes.now) }
     ensures fault { IfErr result (λ fault. fault ≡ ScriptFault.Write) }
 {
     let mut rest = bytes;

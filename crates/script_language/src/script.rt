@@ -1,6 +1,7 @@
 //! A script from its argument and its input to its printed answers.
-ghost use Rattle.std.specs.Prelude.{◌≡◌, ◌≢◌, ◌+◌, ◌<◌, ◌≤◌, ◌↔◌, ◌⊎◌, ◌∷◌, ℕ, List, IfErr, IfOk, IfSome, IsOk, IsUtf8, OnOk, length};
-ghost use Rattle.std.specs.Io.KnownBytes.{Appends};
+ghost use Rattle.std.specs.Prelude.{◌≡◌, ◌≢◌, ◌+◌, ◌<◌, ◌≤◌, ◌↔◌, ◌⊎◌, ◌∷◌, ℕ, List, IfErr, IfOk, IfSome, IsOk, IsUtf8, Err, OnOk, length};
+ghost use Rattle.std.specs.Io.KnownBytes.{Appends, Consumes, IsAtEnd};
+ghost use Rattle.script_language.specs.Output.{WritesFront};
 ghost use Rattle.script_language.specs.Script.{AskFor, IsFirstBad, IsNamed, IsScript, Prints, PrintsFrom, bytes_left, lines_left, lines_of};
 ghost use Rattle.script_language.specs.declared.start.Start.{Start};
 
@@ -30,9 +31,16 @@ pub fn script<R: Read, W: Write>(
     out: &mut W,
 ) -> Result<(), ScriptFault>
     // What is printed is the run of the lines' commands on the text that is named.
-    ensures ran { OnOk result (IfSome (R.remaining input.old) (λ all. (output : List ℕ)
+    ensures ran { OnOk result ((all output : List ℕ)
+        × Consumes (R.remaining input.old) (R.remaining input.new) all
+        × IsAtEnd (R.remaining input.new)
         × IsScript words.now all output
-        × Appends (W.contents out.old) (W.contents out.new) output)) }
+        × Appends (W.contents out.old) (W.contents out.new) output) }
+    ensures part { result ≡ Err ScriptFault.Write → (all output : List ℕ)
+        × Consumes (R.remaining input.old) (R.remaining input.new) all
+        × IsAtEnd (R.remaining input.new)
+        × IsScript words.now all output
+        × WritesFront (W.contents out.old) (W.contents out.new) output }
 
     // Which fault says what.
     ensures bad_argument { (result ≡ Err ScriptFault.BadArgument)
@@ -40,9 +48,10 @@ pub fn script<R: Read, W: Write>(
     ensures too_long { result ≡ Err ScriptFault.TooLong
         → IfSome (R.remaining input.old) (λ all. 65536 < length all) }
     ensures not_utf8 { result ≡ Err ScriptFault.NotUtf8
-        → IfSome (R.remaining input.old) (λ all. ¬ (IsUtf8 all)) }
+        → IfSome (R.remaining input.old) (λ all. (length all ≤ 65536) × ¬ (IsUtf8 all)) }
     ensures bad_line { (number : ℕ) → result ≡ Err (ScriptFault.BadLine number)
-        → IfSome (R.remaining input.old) (λ all. IsFirstBad (lines_of all) number) }
+        → IfSome (R.remaining input.old) (λ all. (length all ≤ 65536) × IsUtf8 all
+        × IsFirstBad (lines_of all) number) }
 
     // What a fault leaves.
     ensures argument_first { result ≡ Err ScriptFault.BadArgument → input.new ≡ input.old }
@@ -113,6 +122,8 @@ fn run_from<W: Write>(
 ) -> Result<(), ScriptFault>
     ensures ran { OnOk result ((output : List ℕ) × PrintsFrom start commands.now output
         × Appends (W.contents out.old) (W.contents out.new) output) }
+    ensures part { result ≡ Err ScriptFault.Write → (output : List ℕ) × PrintsFrom start commands.now output
+        × WritesFront (W.contents out.old) (W.contents out.new) output }
     ensures fault { IfErr result (λ fault. (fault ≡ ScriptFault.NoMemory)
         ⊎ (fault ≡ ScriptFault.Write)) }
     ensures unwritten { IfErr result (λ fault.
@@ -139,6 +150,8 @@ fn run_on<S: StringExt + Drop, W: Write>(
 ) -> Result<(), ScriptFault>
     ensures ran { OnOk result ((output : List ℕ) × Prints (S.state text) commands.now output
         × Appends (W.contents out.old) (W.contents out.new) output) }
+    ensures part { result ≡ Err ScriptFault.Write → (output : List ℕ) × Prints (S.state text) commands.now output
+        × WritesFront (W.contents out.old) (W.contents out.new) output }
     ensures fault { IfErr result (λ fault. (fault ≡ ScriptFault.NoMemory)
         ⊎ (fault ≡ ScriptFault.Write)) }
     ensures unwritten { IfErr result (λ fault.
