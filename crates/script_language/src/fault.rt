@@ -1,6 +1,6 @@
 //! Why a script was not run, or not printed to its end.
-ghost use Rattle.std.specs.Prelude.{◌≡◌};
-ghost use Rattle.script_language.specs.Fault.{status_of};
+ghost use Rattle.std.specs.Prelude.{◌≡◌, Some};
+ghost use Rattle.script_language.specs.Fault.{status_of, line_of};
 ghost use Rattle.script_language.specs.declared.fault.ScriptFault.TheVariants.{NoMemory};
 
 use std::alloc::{AllocError, AllocFailed};
@@ -41,6 +41,8 @@ impl ScriptFault {
 }
 
 impl fmt::Display for ScriptFault {
+    ghost output = { λ fault. Some (line_of fault) };
+
     fn fmt<W: fmt::Write>(&self, f: &mut fmt::Formatter<W>) -> fmt::Result {
         let line = match self {
             ScriptFault::BadArgument => "bad argument",

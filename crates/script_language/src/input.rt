@@ -1,5 +1,5 @@
 //! Reads a whole input, within a limit.
-ghost use Rattle.std.specs.Prelude.{◌≡◌, ◌⊎◌, ◌≤◌, ◌<◌, IfErr, IfOk, IfSome, take, length, vec_len};
+ghost use Rattle.std.specs.Prelude.{ℕ, List, ◌≡◌, ◌⊎◌, ◌≤◌, ◌<◌, IfErr, IfOk, IfSome, take, length, vec_len};
 ghost use Rattle.std.specs.Io.KnownBytes.{Consumes, IsAtEnd};
 
 use crate::fault::ScriptFault;
@@ -24,6 +24,8 @@ pub fn read_input<R: Read>(alloc: Global, input: &mut R) -> Result<Vec<u8>, Scri
         → IfSome (R.remaining input.old) (λ all. 65536 < length all) }
     ensures fault { IfErr result (λ fault. (fault ≡ ScriptFault.NoMemory)
         ⊎ (fault ≡ ScriptFault.TooLong) ⊎ (fault ≡ ScriptFault.Read)) }
+    ensures reads { (read : List ℕ) × Consumes (R.remaining input.old) (R.remaining input.new) read
+        × (length read ≤ 65537) }
 {
     let mut bytes = vec![in alloc; 0u8; MOST_BYTES + 1]?;
     let length = fill(input, bytes.as_mut_slice())?;
@@ -44,6 +46,8 @@ fn fill<R: Read>(input: &mut R, room: &mut [u8]) -> Result<usize, ScriptFault>
     ensures end { IfOk result (λ count.
         count < length room.new → IsAtEnd (R.remaining input.new)) }
     ensures fault { IfErr result (λ fault. fault ≡ ScriptFault.Read) }
+    ensures reads { (read : List ℕ) × Consumes (R.remaining input.old) (R.remaining input.new) read
+        × (length read ≤ length room.new) }
 {
     let mut filled = 0;
     while filled < room.len() {

@@ -53,6 +53,10 @@ pub fn script<R: Read, W: Write>(
         → IfSome (R.remaining input.old) (λ all. (length all ≤ 65536) × IsUtf8 all
         × IsFirstBad (lines_of all) number) }
 
+    // How much is read at most.
+    ensures reads { (read : List ℕ) × Consumes (R.remaining input.old) (R.remaining input.new) read
+        × (length read ≤ 65537) }
+
     // What a fault leaves.
     ensures argument_first { result ≡ Err ScriptFault.BadArgument → input.new ≡ input.old }
     ensures unwritten { IfErr result (λ fault.
