@@ -14,6 +14,9 @@ use Rattle.inlinable_string.specs.declared.run.Reply.{Reply}
 use Rattle.inlinable_string.specs.declared.run.Reply.TheVariants.{Done, NoMemory}
 use Rattle.inlinable_string.proofs.Edits.{push_grows, push_str_grows, insert_grows, insert_str_grows, never_refused, text_granted}
 use Rattle.inlinable_string.proofs.Determined.{storage_kept}
+use Rattle.inlinable_string.proofs.Joined.{legal_parted}
+use Rattle.inlinable_string.specs.Run.{state_after}
+use Rattle.std.proofs.Common.{◌++◌}
 
 -- a free command has the reply of `edit`
 granted : (s : TextState) (command : Command) (reply : Reply) → IsLegal s command reply → IsFree s command → reply ≡ (edit s.text command).0
@@ -158,3 +161,11 @@ pushes_after_reserve s k commands replies within legal = pushes_within_credit (s
 pub pushes_after_reserve_exact : (s : TextState) (k : ℕ) (commands : List Command) (replies : List Reply) → PushesWithin k commands
     → LegalReplies s (ReserveExact k ∷ commands) (Done ∷ replies) → ¬ Contains replies NoMemory
 pushes_after_reserve_exact s k commands replies within legal = pushes_within_credit (state_after_step s (ReserveExact k) Done) k commands replies within (omega arith) legal.1
+
+pub pushes_anywhere : (s : TextState) (k : ℕ) (before added behind : List Command) (first replies last : List Reply) → PushesWithin k added
+    → length before ≡ length first → length added ≡ length replies
+    → LegalReplies s (before ++ (Reserve k ∷ (added ++ behind))) (first ++ (Done ∷ (replies ++ last))) → ¬ Contains replies NoMemory
+pushes_anywhere s k before added behind first replies last within a b legal =
+    let later = (legal_parted s before (Reserve k ∷ (added ++ behind)) first (Done ∷ (replies ++ last)) a legal).1 in
+    let now = legal_parted (state_after_step (state_after s before first) (Reserve k) Done) added behind replies last b later.1 in
+    pushes_after_reserve (state_after s before first) k added replies within (later.0, now.0)

@@ -39,3 +39,13 @@ legal_joined s [] second [] others h k = k
 legal_joined s [] second (r ∷ replies) others h k = absurd h
 legal_joined s (c ∷ first) second [] others h k = absurd h
 legal_joined s (c ∷ first) second (r ∷ replies) others h k = (h.0, legal_joined (state_after_step s c r) first second replies others h.1 k)
+
+-- and only there
+pub legal_parted : (s : TextState) (first second : List Command) (replies others : List Reply) → length first ≡ length replies
+    → LegalReplies s (first ++ second) (replies ++ others)
+    → LegalReplies s first replies × LegalReplies (state_after s first replies) second others
+legal_parted s [] second [] others h k = (tt, k)
+legal_parted s [] second (r ∷ replies) others h k = absurd (omega (arith, h))
+legal_parted s (c ∷ first) second [] others h k = absurd (omega (arith, h))
+legal_parted s (c ∷ first) second (r ∷ replies) others h k =
+    let rest = legal_parted (state_after_step s c r) first second replies others (omega (arith, h)) k.1 in ((k.0, rest.0), rest.1)

@@ -2,6 +2,7 @@
 use Rattle.std.specs.Prelude.{◌≡◌, ℕ, ◌+◌, ◌≤◌, ◌<◌, ◌^◌, List, Bool, true, false, ◌&&◌, ◌||◌, if◌then◌else◌, nat_le}
 use Rattle.inlinable_string.specs.declared.string_ext.Storage.{Storage}
 use Rattle.inlinable_string.specs.declared.string_ext.Storage.TheVariants.{Inline, Heap}
+use Rattle.std.specs.Str.{all_scalars}
 use Rattle.inlinable_string.specs.Text.{size}
 
 -- what decides where a text lies: whether the value demotes, which is to say whether shrinking
@@ -19,6 +20,7 @@ pub record TextState : Type 0 where
 
 -- what holds of each value that a program has
 pub record IsLawful (s : TextState) : Type 0 where
+  pub scalars : all_scalars s.text ≡ true
   pub within : size s.text ≤ s.capacity
   pub bounded : s.capacity < 2 ^ 64
   pub inline_room : s.storage ≡ Inline → s.capacity ≡ s.policy.limit

@@ -2,8 +2,8 @@
 //!
 //! Use [`InlineStringN`] where no text is longer than the limit, or where a longer one is to be
 //! refused; where a longer one is to be kept, use [`crate::InlinableStringN`].
-ghost use Rattle.std.specs.Prelude.{◌≡◌, ℕ, ◌+◌, ◌-◌, ◌≤◌, ◌<◌, ◌↔◌, List, ◌++◌, [], ◌∷◌, length, drop, replicate, encode_utf8, IsTrue, OnOk, OnErr, Err, MatchOption, MatchResult, IsUtf8};
-ghost use Rattle.std.specs.Str.{chars, IsCharBoundary};
+ghost use Rattle.std.specs.Prelude.{◌≡◌, ℕ, ◌+◌, ◌-◌, ◌≤◌, ◌<◌, ◌↔◌, List, ◌++◌, [], ◌∷◌, length, drop, replicate, encode_utf8, IsTrue, true, OnOk, OnErr, Err, MatchOption, MatchResult, IsUtf8};
+ghost use Rattle.std.specs.Str.{all_scalars, chars, IsCharBoundary};
 ghost use Rattle.inlinable_string.specs.Text.{bytes_of, size, IsCut, IsPlace, IsSplice, IsRemoval};
 
 use crate::cells::{put_byte, put_in, take_out, write_at, write_front};
@@ -265,6 +265,7 @@ impl<const N: usize> InlineStringN<N> {
     pub fn len(&self) -> usize
         ensures value { result ≡ size self.now }
         ensures within { size self.now ≤ N }
+        ensures scalars { all_scalars self.now ≡ true }
     {
         self.len
     }

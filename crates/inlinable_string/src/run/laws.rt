@@ -165,6 +165,11 @@ pub fn reserved_pushes_never_fail()
     ensures start { (s : TextState) (k : ℕ) (commands : List Command) (replies : List Reply)
         → PushesWithin k commands → size s.text + k ≤ s.capacity
         → LegalReplies s commands replies → ¬ Contains replies Reply.NoMemory }
+    ensures anywhere { (s : TextState) (k : ℕ) (before pushes behind : List Command)
+        (first replies last : List Reply) → PushesWithin k pushes
+        → length before ≡ length first → length pushes ≡ length replies
+        → LegalReplies s (before ++ (Command.Reserve k ∷ (pushes ++ behind)))
+        (first ++ (Reply.Done ∷ (replies ++ last))) → ¬ Contains replies Reply.NoMemory }
 {}
 
 /// Two runs join: the second goes on from the state that the first left.
@@ -183,6 +188,9 @@ pub fn runs_join()
     ensures legal { (s : TextState) (first second : List Command) (replies others : List Reply)
         → LegalReplies s first replies → LegalReplies (state_after s first replies) second others
         → LegalReplies s (first ++ second) (replies ++ others) }
+    ensures parted { (s : TextState) (first second : List Command) (replies others : List Reply)
+        → length first ≡ length replies → LegalReplies s (first ++ second) (replies ++ others)
+        → LegalReplies s first replies × LegalReplies (state_after s first replies) second others }
 {}
 
 /// One run after another of one value is a run of both lists: the second may find more credit than

@@ -1,4 +1,4 @@
-use Rattle.inlinable_string.proofs.Free.{pushes_after_reserve, pushes_after_reserve_exact, pushes_from_start}
+use Rattle.inlinable_string.proofs.Free.{pushes_after_reserve, pushes_after_reserve_exact, pushes_from_start, pushes_anywhere}
 use Rattle.inlinable_string.proofs.run.laws.reserved_pushes_never_fail.Goals as goal
 
 pub returns-clause-reserve : goal.returns-clause-reserve
@@ -9,3 +9,6 @@ returns-clause-reserve_exact c = pushes_after_reserve_exact
 
 pub returns-clause-start : goal.returns-clause-start
 returns-clause-start c = pushes_from_start
+
+pub returns-clause-anywhere : goal.returns-clause-anywhere
+returns-clause-anywhere c = pushes_anywhere

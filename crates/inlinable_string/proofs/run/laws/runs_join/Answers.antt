@@ -1,4 +1,4 @@
-use Rattle.inlinable_string.proofs.Joined.{text_joined, storage_joined, credit_joined, legal_joined}
+use Rattle.inlinable_string.proofs.Joined.{text_joined, storage_joined, credit_joined, legal_joined, legal_parted}
 use Rattle.inlinable_string.proofs.run.laws.runs_join.Goals as goal
 
 pub returns-clause-text : goal.returns-clause-text
@@ -12,3 +12,6 @@ returns-clause-credit c = credit_joined
 
 pub returns-clause-legal : goal.returns-clause-legal
 returns-clause-legal c = legal_joined
+
+pub returns-clause-parted : goal.returns-clause-parted
+returns-clause-parted c = legal_parted
