@@ -197,14 +197,14 @@ spliced_grows t u p (Some parts) e h =
 pub push_grows : (t : List ℕ) (c : ℕ) → size (edit t (Push c)).1 ≡ size t + size (c ∷ [])
 push_grows t c = size-append t (c ∷ [])
 
-pub push_str_grows : (t : List ℕ) (u : Bor (List ℕ)) → IsUtf8 u.now → size (edit t (PushStr u)).1 ≡ size t + length u.now
-push_str_grows t u well = size-append t (chars u.now) ∙ ap (λ n. size t + n) (size-chars u.now well)
+pub push_str_grows : (t : List ℕ) (u : Bor (List ℕ)) → size (edit t (PushStr u)).1 ≡ size t + size (chars u.now)
+push_str_grows t u = size-append t (chars u.now)
 
 pub insert_grows : (t : List ℕ) (p c : ℕ) → (edit t (Insert p c)).0 ≡ Done → size (edit t (Insert p c)).1 ≡ size t + size (c ∷ [])
 insert_grows t p c done = spliced_grows t (c ∷ []) p (cut t p) refl done
 
-pub insert_str_grows : (t : List ℕ) (p : ℕ) (u : Bor (List ℕ)) → IsUtf8 u.now → (edit t (InsertStr p u)).0 ≡ Done → size (edit t (InsertStr p u)).1 ≡ size t + length u.now
-insert_str_grows t p u well done = spliced_grows t (chars u.now) p (cut t p) refl done ∙ ap (λ n. size t + n) (size-chars u.now well)
+pub insert_str_grows : (t : List ℕ) (p : ℕ) (u : Bor (List ℕ)) → (edit t (InsertStr p u)).0 ≡ Done → size (edit t (InsertStr p u)).1 ≡ size t + size (chars u.now)
+insert_str_grows t p u done = spliced_grows t (chars u.now) p (cut t p) refl done
 
 -- refusals
 

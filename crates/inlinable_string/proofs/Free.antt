@@ -1,12 +1,11 @@
 -- Runs to which no memory can be refused.
-use Rattle.std.proofs.Common.{◌≡◌, ◌≢◌, ℕ, zero, suc, ◌+◌, ◌-◌, ◌<◌, ◌≤◌, inl, inr, ◌⊎◌, true, List, [], ◌∷◌, length, refl, sym, ap, ◌∙◌, arith, subst, nat_le, All, Contains, slice_index_or}
+use Rattle.std.proofs.Common.{◌≡◌, ◌≢◌, ℕ, zero, suc, ◌+◌, ◌-◌, ◌<◌, ◌≤◌, inl, inr, ◌⊎◌, true, List, [], ◌∷◌, length, refl, sym, ap, ◌∙◌, arith, subst, nat_le, Contains, slice_index_or}
 use Rattle.std.proofs.lemmas.Bool.Decides.{nat_tests}
-use Rattle.std.proofs.lemmas.List.Elements.{All-head, All-tail}
 use Rattle.inlinable_string.specs.Text.{size}
 use Rattle.inlinable_string.specs.State.{TextState, IsLawful, storage_with_room, storage_when_shrunk}
 use Rattle.inlinable_string.specs.Edit.{edit, text_after_step}
 use Rattle.inlinable_string.specs.Run.{Need, pushes, inserts, reserves, shrinks, nothing, need_of, storage_when_met, storage_after_step, credit, credit_when_met, credit_after_step, state_after_step, storage_after, IsMet, IsFree, IsLegal, LegalReplies}
-use Rattle.inlinable_string.specs.Laws.{IsWellFormed, ReservesWithin, StaysWithin, PushesWithin}
+use Rattle.inlinable_string.specs.Laws.{ReservesWithin, StaysWithin, PushesWithin}
 use Rattle.inlinable_string.specs.declared.string_ext.Storage.TheVariants.{Inline}
 use Rattle.inlinable_string.specs.declared.run.Command.{Command}
 use Rattle.inlinable_string.specs.declared.run.Command.TheVariants.{Push, PushStr, Insert, InsertStr, Truncate, Pop, Remove, Clear, ReplaceBytes, Reserve, ReserveExact, ShrinkToFit}
@@ -50,19 +49,19 @@ Grows t shrinks v = v ≡ t
 Grows t nothing v = Unit {0}
 
 -- a command that is carried out adds what it needs
-grows : (t : List ℕ) (command : Command) → IsWellFormed command → (edit t command).0 ≡ Done → Grows t (need_of command) (edit t command).1
-grows t (Push c) well done = push_grows t c
-grows t (PushStr u) well done = push_str_grows t u well
-grows t (Insert p c) well done = insert_grows t p c done
-grows t (InsertStr p u) well done = insert_str_grows t p u well done
-grows t (Truncate p) well done = tt
-grows t Pop well done = tt
-grows t (Remove p) well done = tt
-grows t Clear well done = tt
-grows t (ReplaceBytes b) well done = tt
-grows t (Reserve n) well done = tt
-grows t (ReserveExact n) well done = tt
-grows t ShrinkToFit well done = refl
+grows : (t : List ℕ) (command : Command) → (edit t command).0 ≡ Done → Grows t (need_of command) (edit t command).1
+grows t (Push c) done = push_grows t c
+grows t (PushStr u) done = push_str_grows t u
+grows t (Insert p c) done = insert_grows t p c done
+grows t (InsertStr p u) done = insert_str_grows t p u done
+grows t (Truncate p) done = tt
+grows t Pop done = tt
+grows t (Remove p) done = tt
+grows t Clear done = tt
+grows t (ReplaceBytes b) done = tt
+grows t (Reserve n) done = tt
+grows t (ReserveExact n) done = tt
+grows t ShrinkToFit done = refl
 
 -- with room inline a text stays there
 stays_with_room : (s : TextState) (n : ℕ) → s.storage ≡ Inline → size s.text + n ≤ s.policy.limit → storage_with_room s n ≡ Inline
@@ -90,12 +89,12 @@ done_or_not Done = inl refl
 done_or_not r = inr (λ h. cc)
 
 -- a command that stays within the limit is free, and leaves the text inline
-short_step : (s : TextState) (command : Command) (reply : Reply) → IsWellFormed command → s.policy.demotes ≡ true → s.storage ≡ Inline
+short_step : (s : TextState) (command : Command) (reply : Reply) → s.policy.demotes ≡ true → s.storage ≡ Inline
     → ReservesWithin s.policy.limit s.text (need_of command) → size (edit s.text command).1 ≤ s.policy.limit → IsLegal s command reply
     → (reply ≡ (edit s.text command).0) × (storage_after_step s command reply ≡ Inline)
-short_step s command reply well demotes inline reserved short legal = elim (done_or_not (edit s.text command).0) [
+short_step s command reply demotes inline reserved short legal = elim (done_or_not (edit s.text command).0) [
   | inl done ↦
-      let met = met_inline s (need_of command) (edit s.text command).1 (grows s.text command well done) demotes inline reserved short in
+      let met = met_inline s (need_of command) (edit s.text command).1 (grows s.text command done) demotes inline reserved short in
       let same : reply ≡ (edit s.text command).0 = granted s command reply legal (inr met.0) in
       (same, ap (storage_after_step s command) (same ∙ done) ∙ met.1)
   | inr other ↦
@@ -104,27 +103,27 @@ short_step s command reply well demotes inline reserved short legal = elim (done
 ]
 
 -- so a run of such commands asks for nothing, and leaves it inline
-short_run : (s : TextState) (commands : List Command) (replies : List Reply) → All IsWellFormed commands → s.policy.demotes ≡ true → s.storage ≡ Inline
+short_run : (s : TextState) (commands : List Command) (replies : List Reply) → s.policy.demotes ≡ true → s.storage ≡ Inline
     → StaysWithin s.policy.limit s.text commands → LegalReplies s commands replies → (¬ Contains replies NoMemory) × (storage_after s commands replies ≡ Inline)
-short_run s [] [] well demotes inline within legal = (absent_nil, inline)
-short_run s [] (r ∷ replies) well demotes inline within legal = absurd legal
-short_run s (c ∷ commands) [] well demotes inline within legal = absurd legal
-short_run s (c ∷ commands) (r ∷ replies) well demotes inline within legal =
-    let step = short_step s c r (All-head IsWellFormed c commands well) demotes inline within.0 within.1 legal.0 in
+short_run s [] [] demotes inline within legal = (absent_nil, inline)
+short_run s [] (r ∷ replies) demotes inline within legal = absurd legal
+short_run s (c ∷ commands) [] demotes inline within legal = absurd legal
+short_run s (c ∷ commands) (r ∷ replies) demotes inline within legal =
+    let step = short_step s c r demotes inline within.0 within.1 legal.0 in
     let here : r ≢ NoMemory = not_refused s.text c r step.0 in
     let next : StaysWithin s.policy.limit (text_after_step s.text c r) commands =
     subst (λ t. StaysWithin s.policy.limit t commands) (sym (text_granted s.text c r here)) within.2 in
-    let rest = short_run (state_after_step s c r) commands replies (All-tail IsWellFormed c commands well) demotes step.1 next legal.1 in
+    let rest = short_run (state_after_step s c r) commands replies demotes step.1 next legal.1 in
     (absent r replies here rest.0, rest.1)
 
 -- the clauses on short runs
-pub short_run_never_asks : (s : TextState) (commands : List Command) (replies : List Reply) → All IsWellFormed commands → IsLawful s → s.storage ≡ Inline
+pub short_run_never_asks : (s : TextState) (commands : List Command) (replies : List Reply) → IsLawful s → s.storage ≡ Inline
     → StaysWithin s.policy.limit s.text commands → LegalReplies s commands replies → ¬ Contains replies NoMemory
-short_run_never_asks s commands replies well laws inline within legal = (short_run s commands replies well (laws.inline_demotes inline) inline within legal).0
+short_run_never_asks s commands replies laws inline within legal = (short_run s commands replies (laws.inline_demotes inline) inline within legal).0
 
-pub short_run_stays_inline : (s : TextState) (commands : List Command) (replies : List Reply) → All IsWellFormed commands → IsLawful s → s.storage ≡ Inline
+pub short_run_stays_inline : (s : TextState) (commands : List Command) (replies : List Reply) → IsLawful s → s.storage ≡ Inline
     → StaysWithin s.policy.limit s.text commands → LegalReplies s commands replies → storage_after s commands replies ≡ Inline
-short_run_stays_inline s commands replies well laws inline within legal = (short_run s commands replies well (laws.inline_demotes inline) inline within legal).1
+short_run_stays_inline s commands replies laws inline within legal = (short_run s commands replies (laws.inline_demotes inline) inline within legal).1
 
 -- reserved pushes
 

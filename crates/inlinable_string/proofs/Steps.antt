@@ -2,8 +2,9 @@
 use Rattle.std.proofs.Common.{◌≡◌, ℕ, ◌+◌, ◌-◌, ◌≤◌, inl, inr, true, false, List, [], ◌∷◌, ◌++◌, length, refl, sym, ap, ◌∙◌, arith, Bor, Some}
 use Rattle.std.proofs.lemmas.Str.{chars_from_encodes}
 use Rattle.std.specs.Str.{chars, IsUtf8}
+use Rattle.std.proofs.Common.{subst}
 use Rattle.inlinable_string.specs.Text.{bytes_of, size, IsCut, IsPlace, IsSplice, IsRemoval, cut}
-use Rattle.inlinable_string.specs.State.{TextState, IsLawful, IsSameText, HasInlineRoom, storage_with_room}
+use Rattle.inlinable_string.specs.State.{TextState, IsLawful, IsSameText, HasRoom, HasInlineRoom, storage_with_room}
 use Rattle.inlinable_string.specs.Edit.{edit, text_after_step, spliced, truncated, removed}
 use Rattle.inlinable_string.specs.Run.{need_of, storage_after_step, credit_after_step, AsksMemory, IsMet, IsCounted}
 use Rattle.inlinable_string.specs.Step.{IsStep}
@@ -95,7 +96,17 @@ push_done old new c laws text storage more policy =
 pub push_str_done : (old new : TextState) (string : Bor (List ℕ)) → IsUtf8 string.now → IsLawful new → new.text ≡ old.text ++ chars string.now
     → new.storage ≡ storage_with_room old (length string.now) → old.capacity ≤ new.capacity → new.policy ≡ old.policy → IsStep old (PushStr string) Done new
 push_str_done old new string u laws text storage more policy =
-    pushed old new (PushStr string) (chars string.now) (length string.now) laws (size-chars string.now u) refl (λ k. refl) (λ n. tt) text (λ n. storage) more policy
+    pushed old new (PushStr string) (chars string.now) (size (chars string.now)) laws refl refl (λ k. refl) (λ n. tt) text (λ n. storage ∙ ap (storage_with_room old) (sym (size-chars string.now u))) more policy
+
+pub push_str_refused : (old new : TextState) (string : Bor (List ℕ)) → IsUtf8 string.now → IsLawful new → IsSameText old new
+    → (HasRoom old (length string.now) → false ≡ true) → (HasInlineRoom old (length string.now) → false ≡ true) → new.policy ≡ old.policy
+    → IsStep old (PushStr string) NoMemory new
+push_str_refused old new string u laws same out inline_out policy =
+    let width : size (chars string.now) ≡ length string.now = size-chars string.now u in
+    refused old new (PushStr string) laws same ((λ e. cc), refl) (λ n fits most met. elim met [
+      | inl room ↦ clash (inline_out (subst (HasInlineRoom old) width room))
+      | inr few ↦ clash (out (omega (arith, few, fits, most, width)))
+    ]) (λ n. tt) policy
 
 -- insertions
 
@@ -120,16 +131,16 @@ insert_refused old new p c laws at same out policy =
 pub insert_misplaced : (old : TextState) (p c : ℕ) → (IsPlace old.text p → ⊥) → IsStep old (Insert p c) BadPlace old
 insert_misplaced old p c none = misplaced old (Insert p c) (no_splice old.text (c ∷ []) p none) (λ n. tt)
 
-pub insert_str_done : (old new : TextState) (p : ℕ) (string : Bor (List ℕ)) → IsLawful new → IsSplice old.text p (chars string.now) new.text
+pub insert_str_done : (old new : TextState) (p : ℕ) (string : Bor (List ℕ)) → IsUtf8 string.now → IsLawful new → IsSplice old.text p (chars string.now) new.text
     → new.storage ≡ storage_with_room old (length string.now) → new.policy ≡ old.policy → IsStep old (InsertStr p string) Done new
-insert_str_done old new p string laws s storage policy =
+insert_str_done old new p string u laws s storage policy =
     let is = spliced_is old.text (chars string.now) new.text p s in
-    answered old new (InsertStr p string) Done laws (sym (ap (λ e. e.0) is)) (sym (ap (λ e. e.1) is)) (λ n. storage) (λ n. tt) (λ k. refl) policy
+    answered old new (InsertStr p string) Done laws (sym (ap (λ e. e.0) is)) (sym (ap (λ e. e.1) is)) (λ n. storage ∙ ap (storage_with_room old) (sym (size-chars string.now u))) (λ n. tt) (λ k. refl) policy
 
-pub insert_str_refused : (old new : TextState) (p : ℕ) (string : Bor (List ℕ)) → IsLawful new → IsPlace old.text p → IsSameText old new
+pub insert_str_refused : (old new : TextState) (p : ℕ) (string : Bor (List ℕ)) → IsUtf8 string.now → IsLawful new → IsPlace old.text p → IsSameText old new
     → (HasInlineRoom old (length string.now) → false ≡ true) → new.policy ≡ old.policy → IsStep old (InsertStr p string) NoMemory new
-insert_str_refused old new p string laws at same out policy =
-    refused old new (InsertStr p string) laws same ((λ e. cc), spliced_done old.text (chars string.now) p at) (λ n fits most met. clash (out met)) (λ n. tt) policy
+insert_str_refused old new p string u laws at same out policy =
+    refused old new (InsertStr p string) laws same ((λ e. cc), spliced_done old.text (chars string.now) p at) (λ n fits most met. clash (out (subst (HasInlineRoom old) (size-chars string.now u) met))) (λ n. tt) policy
 
 pub insert_str_misplaced : (old : TextState) (p : ℕ) (string : Bor (List ℕ)) → (IsPlace old.text p → ⊥) → IsStep old (InsertStr p string) BadPlace old
 insert_str_misplaced old p string none = misplaced old (InsertStr p string) (no_splice old.text (chars string.now) p none) (λ n. tt)

@@ -1,19 +1,11 @@
 -- Words for laws over whole runs.
 use Rattle.std.specs.Prelude.{◌≡◌, ℕ, ◌+◌, ◌-◌, ◌≤◌, List, [], ◌∷◌, Bool, true, false}
-use Rattle.std.specs.Str.{IsUtf8}
 use Rattle.inlinable_string.specs.Text.{size}
 use Rattle.inlinable_string.specs.Edit.{edit}
 use Rattle.inlinable_string.specs.Run.{Need, pushes, reserves, need_of}
 use Rattle.inlinable_string.specs.declared.run.Command.{Command}
-use Rattle.inlinable_string.specs.declared.run.Command.TheVariants.{PushStr, InsertStr}
 use Rattle.inlinable_string.specs.declared.run.Reply.{Reply}
 use Rattle.inlinable_string.specs.declared.run.Reply.TheVariants.{NoMemory}
-
--- a `&str` in the command is UTF-8, as each is in a program
-abbrev pub IsWellFormed : Command → Type 0
-IsWellFormed (PushStr u) = IsUtf8 u.now
-IsWellFormed (InsertStr p u) = IsUtf8 u.now
-IsWellFormed command = Unit {0}
 
 -- what is reserved, if it is, has room within n bytes beside the text t
 abbrev pub ReservesWithin : ℕ → List ℕ → Need → Type 0

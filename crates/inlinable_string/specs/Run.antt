@@ -1,5 +1,6 @@
 -- What a list of commands does to a value, and which replies are legal, whatever memory answers.
 use Rattle.std.specs.Prelude.{◌≡◌, ℕ, ◌+◌, ◌-◌, ◌≤◌, ◌<◌, ◌^◌, ◌⊎◌, List, [], ◌∷◌, length, take, drop, IsTrue}
+use Rattle.std.specs.Str.{chars}
 use Rattle.inlinable_string.specs.Text.{size}
 use Rattle.inlinable_string.specs.State.{TextState, HasInlineRoom, storage_with_room, storage_when_shrunk}
 use Rattle.inlinable_string.specs.Edit.{edit, text_after_step, text_after}
@@ -23,9 +24,9 @@ pub data Need : Type 0 where
 
 abbrev pub need_of : Command → Need
 need_of (Push c) = pushes (size (c ∷ []))
-need_of (PushStr u) = pushes (length u.now)
+need_of (PushStr u) = pushes (size (chars u.now))
 need_of (Insert p c) = inserts (size (c ∷ []))
-need_of (InsertStr p u) = inserts (length u.now)
+need_of (InsertStr p u) = inserts (size (chars u.now))
 need_of (Truncate p) = nothing
 need_of Pop = nothing
 need_of (Remove p) = nothing

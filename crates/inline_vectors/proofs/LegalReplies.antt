@@ -1,6 +1,7 @@
 -- Replies that are legal: that of `edit`, and want of memory where room is needed and is not there.
 use Rattle.std.proofs.Common.{◌≡◌, ℕ, ◌≤◌, List, [], ◌∷◌, length, refl, ap, inl, inr}
 use Rattle.std.specs.Borrow.{Bor}
+use Rattle.std.specs.Str.{chars}
 use Rattle.inlinable_string.specs.Text.{size}
 use Rattle.inlinable_string.specs.State.{TextState, HasInlineRoom}
 use Rattle.inlinable_string.specs.Edit.{edit, spliced}
@@ -16,8 +17,8 @@ pub answered : (s : TextState) (c : Command) (r : Reply) → r ≡ (edit s.text 
 answered s c r h k = record { answer = inl h; counted = k }
 
 -- memory may be refused to a push that has no room
-pub push_refused : (s : TextState) (u : Bor (List ℕ)) → (HasInlineRoom s (length u.now) → ⊥)
-    → (length u.now ≤ credit s → ⊥) → IsLegal s (PushStr u) NoMemory
+pub push_refused : (s : TextState) (u : Bor (List ℕ)) → (HasInlineRoom s (size (chars u.now)) → ⊥)
+    → (size (chars u.now) ≤ credit s → ⊥) → IsLegal s (PushStr u) NoMemory
 push_refused s u inline behind = record {
   answer = inr (
     refl,

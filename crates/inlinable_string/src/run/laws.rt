@@ -1,13 +1,13 @@
 //! Laws over the definitions that the runs' contracts cite. No function here does anything: its
 //! contract is the law.
-ghost use Rattle.std.specs.Prelude.{◌≡◌, ◌≢◌, ◌↔◌, ℕ, ◌+◌, ◌*◌, ◌<◌, ◌≤◌, List, [], ◌∷◌, ◌++◌, Some, None, length, take, drop, map, slice_get, All, Contains};
+ghost use Rattle.std.specs.Prelude.{◌≡◌, ◌≢◌, ◌↔◌, ℕ, ◌+◌, ◌*◌, ◌<◌, ◌≤◌, List, [], ◌∷◌, ◌++◌, Some, None, length, take, drop, map, slice_get, Contains};
 ghost use Rattle.std.specs.Borrow.{Bor};
 ghost use Rattle.std.specs.Str.{chars, IsUtf8};
 ghost use Rattle.inlinable_string.specs.Text.{bytes_of, size, cut, IsCut, IsPlace, IsSplice, IsRemoval};
 ghost use Rattle.inlinable_string.specs.State.{TextState, IsLawful};
 ghost use Rattle.inlinable_string.specs.Edit.{edit, text_after};
 ghost use Rattle.inlinable_string.specs.Run.{IsLegal, LegalReplies, IsRun, EachRun, state_after_step, state_after, storage_after, credit, credit_after};
-ghost use Rattle.inlinable_string.specs.Laws.{IsWellFormed, StaysWithin, PushesWithin, is_refusal};
+ghost use Rattle.inlinable_string.specs.Laws.{StaysWithin, PushesWithin, is_refusal};
 
 use super::{Command, Reply};
 use crate::string_ext::Storage;
@@ -75,13 +75,13 @@ pub fn replacement_has_the_bytes()
 pub fn growths_add_their_bytes()
     ensures push { (t : List ℕ) (c : ℕ)
         → size (edit t (Command.Push c)).1 ≡ size t + size (c ∷ []) }
-    ensures push_str { (t : List ℕ) (u : Bor (List ℕ)) → IsUtf8 u.now
-        → size (edit t (Command.PushStr u)).1 ≡ size t + length u.now }
+    ensures push_str { (t : List ℕ) (u : Bor (List ℕ))
+        → size (edit t (Command.PushStr u)).1 ≡ size t + size (chars u.now) }
     ensures insert { (t : List ℕ) (p c : ℕ) → (edit t (Command.Insert p c)).0 ≡ Reply.Done
         → size (edit t (Command.Insert p c)).1 ≡ size t + size (c ∷ []) }
-    ensures insert_str { (t : List ℕ) (p : ℕ) (u : Bor (List ℕ)) → IsUtf8 u.now
+    ensures insert_str { (t : List ℕ) (p : ℕ) (u : Bor (List ℕ))
         → (edit t (Command.InsertStr p u)).0 ≡ Reply.Done
-        → size (edit t (Command.InsertStr p u)).1 ≡ size t + length u.now }
+        → size (edit t (Command.InsertStr p u)).1 ≡ size t + size (chars u.now) }
 {}
 
 /// Taking out what was just put in gives it back, and leaves the old text.
@@ -144,10 +144,10 @@ pub fn refusals_change_nothing()
 /// what is reserved beside them would pass the limit, no memory is refused, and it stays inline.
 pub fn short_runs_never_ask()
     ensures replies { (s : TextState) (commands : List Command) (replies : List Reply)
-        → All IsWellFormed commands → IsLawful s → s.storage ≡ Storage.Inline
+        → IsLawful s → s.storage ≡ Storage.Inline
         → StaysWithin s.policy.limit s.text commands → LegalReplies s commands replies → ¬ Contains replies Reply.NoMemory }
     ensures storage { (s : TextState) (commands : List Command) (replies : List Reply)
-        → All IsWellFormed commands → IsLawful s → s.storage ≡ Storage.Inline
+        → IsLawful s → s.storage ≡ Storage.Inline
         → StaysWithin s.policy.limit s.text commands → LegalReplies s commands replies → storage_after s commands replies ≡ Storage.Inline }
 {}
 

@@ -1,5 +1,7 @@
 //! Where a plain text lies, and for what it has room.
 ghost use Rattle.std.specs.Prelude.{◌≡◌, ◌↔◌, IfOk, IsTrue};
+ghost use Rattle.std.specs.Str.{chars};
+ghost use Rattle.inlinable_string.specs.Text.{size};
 ghost use Rattle.inlinable_string.specs.State.{HasInlineRoom, storage_with_room, storage_when_shrunk};
 ghost use Rattle.inlinable_string.specs.Run.{need_of, storage_when_met, storage_after_step, credit_when_met, credit_after_step, AsksMemory, IsMet, IsFree, IsCounted, shrinks};
 ghost use Rattle.inline_vectors.specs.Plain.{state_of, need_in};
@@ -39,15 +41,22 @@ pub enum Need {
     Nothing,
 }
 
+/// How many bytes the text of a string has.
+fn bytes_in(string: &str) -> usize
+    ensures { result ≡ size (chars string.now) }
+{
+    string.len()
+}
+
 /// What a command needs.
 pub fn need_of(command: Command) -> Need
     ensures { need_in result ≡ need_of command.entry }
 {
     match command {
         Command::Push(c) => Need::Pushes(c.len_utf8()),
-        Command::PushStr(string) => Need::Pushes(string.len()),
+        Command::PushStr(string) => Need::Pushes(bytes_in(string)),
         Command::Insert(_, c) => Need::Inserts(c.len_utf8()),
-        Command::InsertStr(_, string) => Need::Inserts(string.len()),
+        Command::InsertStr(_, string) => Need::Inserts(bytes_in(string)),
         Command::Truncate(_) => Need::Nothing,
         Command::Pop => Need::Nothing,
         Command::Remove(_) => Need::Nothing,

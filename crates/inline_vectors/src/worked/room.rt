@@ -1,5 +1,6 @@
 //! Where texts lie, for how many bytes they have room, and which commands need no memory.
-ghost use Rattle.std.specs.Prelude.{◌≡◌, ◌≤◌, [], List, ℕ, None, true, length};
+ghost use Rattle.std.specs.Prelude.{◌≡◌, ◌≤◌, [], List, ℕ, None, true};
+ghost use Rattle.std.specs.Str.{chars};
 ghost use Rattle.inlinable_string.specs.Text.{size, cut};
 ghost use Rattle.inlinable_string.specs.State.{TextState};
 ghost use Rattle.inlinable_string.specs.Run.{IsFree, IsLegal, credit, credit_after_step, storage_after_step};
@@ -10,7 +11,7 @@ use inlinable_string::run::{Command, Reply};
 
 /// Of 30 bytes that lie inline at most 26 are taken: four more stay inline.
 pub fn four_bytes_stay_inline(string: &str)
-    requires { length string.now ≡ 4 }
+    requires { size (chars string.now) ≡ 4 }
     ensures { (t : List ℕ) → size t ≡ 26
         → storage_after_step (inline_text t 30) (Command.PushStr string.entry) Reply.Done
         ≡ Storage.Inline }
@@ -19,7 +20,7 @@ pub fn four_bytes_stay_inline(string: &str)
 /// Of 30 bytes that lie inline at most 26 are taken: five more go to the heap, unless memory is
 /// refused.
 pub fn five_bytes_go_to_the_heap(string: &str)
-    requires { length string.now ≡ 5 }
+    requires { size (chars string.now) ≡ 5 }
     ensures done { (t : List ℕ) → size t ≡ 26
         → storage_after_step (inline_text t 30) (Command.PushStr string.entry) Reply.Done
         ≡ Storage.Heap }
@@ -38,14 +39,14 @@ pub fn pop_stays_on_the_heap()
 
 /// Where nothing lies inline, one byte goes to the heap.
 pub fn one_byte_where_none_lies_inline(string: &str)
-    requires { length string.now ≡ 1 }
+    requires { size (chars string.now) ≡ 1 }
     ensures { storage_after_step (inline_text [] 0) (Command.PushStr string.entry) Reply.Done
         ≡ Storage.Heap }
 {}
 
 /// Where nothing lies inline, the empty text still does.
 pub fn no_byte_where_none_lies_inline(string: &str)
-    requires { length string.now ≡ 0 }
+    requires { size (chars string.now) ≡ 0 }
     ensures { storage_after_step (inline_text [] 0) (Command.PushStr string.entry) Reply.Done
         ≡ Storage.Inline }
 {}
@@ -53,7 +54,7 @@ pub fn no_byte_where_none_lies_inline(string: &str)
 /// Ten bytes in room for 40 leave a credit of 30; ten more bytes leave 20, a bad place leaves it,
 /// and a character taken off or a refusal of memory ends it.
 pub fn credit_of_ten_bytes(string: &str)
-    requires { length string.now ≡ 10 }
+    requires { size (chars string.now) ≡ 10 }
     ensures before { (t : List ℕ) → size t ≡ 10 → credit (heap_text t 40) ≡ 30 }
     ensures push { credit_after_step 30 (Command.PushStr string.entry) Reply.Done ≡ 20 }
     ensures bad_place { credit_after_step 30 (Command.Truncate 3) Reply.BadPlace ≡ 30 }
@@ -71,7 +72,7 @@ pub fn shrinking_is_free()
 
 /// Memory may not be refused to four bytes where they have room inline.
 pub fn four_bytes_are_free(string: &str)
-    requires { length string.now ≡ 4 }
+    requires { size (chars string.now) ≡ 4 }
     ensures free { (t : List ℕ) → size t ≡ 26
         → IsFree (inline_text t 30) (Command.PushStr string.entry) }
     ensures refused { (t : List ℕ) → size t ≡ 26
@@ -82,7 +83,7 @@ pub fn four_bytes_are_free(string: &str)
 
 /// Memory may be refused to five bytes where four have room inline.
 pub fn five_bytes_are_not_free(string: &str)
-    requires { length string.now ≡ 5 }
+    requires { size (chars string.now) ≡ 5 }
     ensures free { (t : List ℕ) → size t ≡ 26
         → ¬ IsFree (inline_text t 30) (Command.PushStr string.entry) }
     ensures refused { (t : List ℕ) → size t ≡ 26
@@ -93,7 +94,7 @@ pub fn five_bytes_are_not_free(string: &str)
 
 /// On the heap memory may not be refused to as many bytes as the credit.
 pub fn bytes_of_the_credit_are_free(string: &str)
-    requires { length string.now ≡ 30 }
+    requires { size (chars string.now) ≡ 30 }
     ensures within { (t : List ℕ) → size t ≡ 10
         → IsFree (heap_text t 40) (Command.PushStr string.entry) }
     ensures past { (t : List ℕ) → size t ≡ 11
@@ -115,7 +116,7 @@ pub fn room_for_27_bytes_is_inline()
 
 /// Of 30 bytes that lie inline at most 26 are taken: five put in go to the heap.
 pub fn five_bytes_put_in_go_to_the_heap(string: &str)
-    requires { length string.now ≡ 5 }
+    requires { size (chars string.now) ≡ 5 }
     ensures { (t : List ℕ) → (p : ℕ) → size t ≡ 26
         → storage_after_step (inline_text t 30) (Command.InsertStr p string.entry) Reply.Done
         ≡ Storage.Heap }
@@ -149,7 +150,7 @@ pub fn credit_of_a_reservation(bytes: &[u8])
 
 /// Memory may not be refused to four bytes put in where they have room inline.
 pub fn four_bytes_put_in_are_free(string: &str)
-    requires { length string.now ≡ 4 }
+    requires { size (chars string.now) ≡ 4 }
     ensures { (t : List ℕ) → (p : ℕ) → size t ≡ 26
         → IsFree (inline_text t 30) (Command.InsertStr p string.entry) }
 {}

@@ -1,5 +1,7 @@
 //! Lists of commands, with what is left of the text and whether the replies are legal.
 ghost use Rattle.std.specs.Prelude.{◌≡◌, ◌<◌, ◌∷◌, [], List, ℕ, length, codes, replicate};
+ghost use Rattle.std.specs.Str.{chars};
+ghost use Rattle.inlinable_string.specs.Text.{size};
 ghost use Rattle.inlinable_string.specs.State.{TextState};
 ghost use Rattle.inlinable_string.specs.Edit.{text_after};
 ghost use Rattle.inlinable_string.specs.Run.{LegalReplies, storage_after, credit_after};
@@ -60,7 +62,7 @@ pub fn run_of_a_refused_promotion()
 /// Memory may not be refused to ten bytes at the end once room for ten is reserved, whatever the
 /// text is and wherever it lies.
 pub fn reserved_push_is_not_refused(string: &str)
-    requires { length string.now ≡ 10 }
+    requires { size (chars string.now) ≡ 10 }
     ensures { (s : TextState) → ¬ LegalReplies s
         (Command.Reserve 10 ∷ Command.PushStr string.entry ∷ [])
         (Reply.Done ∷ Reply.NoMemory ∷ []) }

@@ -9,12 +9,12 @@ insert_str-requires g c κs =
     let place = place_if_tested _ _ _ _ c.as_str.utf8 c.as_str.ensures c.is_char_boundary.ensures.test c.if-is_char_boundary.true in (refl, λ i. (tt, (λ a m. i a (mem-append_right _ m), place)))
 
 pub returns-in-Ok : goal.returns-in-Ok
-returns-in-Ok g c laws = let e = c.in-Ok.ensures in insert_str_done _ _ _ _ laws e.0 e.1.0 e.1.1.1.1
+returns-in-Ok g c laws = let e = c.in-Ok.ensures in insert_str_done _ _ _ _ c.utf8.string laws e.0 e.1.0 e.1.1.1.1
 
 pub returns-in-Err : goal.returns-in-Err
 returns-in-Err g c laws =
     let place = place_if_tested _ _ _ _ c.as_str.utf8 c.as_str.ensures c.is_char_boundary.ensures.test c.if-is_char_boundary.true in
-    let e = c.in-Err.ensures in insert_str_refused _ _ _ _ laws place e.1.1.0 e.1.1.1.0 e.1.1.1.1
+    let e = c.in-Err.ensures in insert_str_refused _ _ _ _ c.utf8.string laws place e.1.1.0 e.1.1.1.0 e.1.1.1.1
 
 pub returns-else-is_char_boundary : goal.returns-else-is_char_boundary
 returns-else-is_char_boundary g c laws = insert_str_misplaced _ _ _ (no_place_if_tested _ _ _ _ c.as_str.utf8 c.as_str.ensures c.is_char_boundary.ensures.test c.if-is_char_boundary.false)
