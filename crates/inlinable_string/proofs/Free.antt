@@ -168,3 +168,11 @@ pushes_anywhere s k before added behind first replies last within a b legal =
     let later = (legal_parted s before (Reserve k ∷ (added ++ behind)) first (Done ∷ (replies ++ last)) a legal).1 in
     let now = legal_parted (state_after_step (state_after s before first) (Reserve k) Done) added behind replies last b later.1 in
     pushes_after_reserve (state_after s before first) k added replies within (later.0, now.0)
+
+pub pushes_exact_anywhere : (s : TextState) (k : ℕ) (before added behind : List Command) (first replies last : List Reply) → PushesWithin k added
+    → length before ≡ length first → length added ≡ length replies
+    → LegalReplies s (before ++ (ReserveExact k ∷ (added ++ behind))) (first ++ (Done ∷ (replies ++ last))) → ¬ Contains replies NoMemory
+pushes_exact_anywhere s k before added behind first replies last within a b legal =
+    let later = (legal_parted s before (ReserveExact k ∷ (added ++ behind)) first (Done ∷ (replies ++ last)) a legal).1 in
+    let now = legal_parted (state_after_step (state_after s before first) (ReserveExact k) Done) added behind replies last b later.1 in
+    pushes_after_reserve_exact (state_after s before first) k added replies within (later.0, now.0)

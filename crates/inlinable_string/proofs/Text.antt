@@ -106,3 +106,8 @@ kept (Err x) t v p ok err = err
 pub replaced : {T E : Type 0} (r : Result T E) (s new : List ℕ) → IsUtf8 s → new ≡ (if is_ok r then [] ++ s else []) → IsOk r → bytes_of (chars new) ≡ s
 replaced (Ok x) s new u e h = rw e (encodes-chars s u)
 replaced (Err x) s new u e h = absurd (clash h)
+
+pub same_bytes : (t v : List ℕ) → all_scalars t ≡ true → bytes_of t ≡ bytes_of v → t ≡ v
+same_bytes t v are same =
+    let well : IsUtf8 (bytes_of t) = (t, (are, refl)) in
+    chars_from_encodes t (bytes_of t) well refl ∙ sym (chars_from_encodes v (bytes_of t) well (sym same))

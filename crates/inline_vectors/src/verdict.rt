@@ -94,6 +94,9 @@ pub fn judged(
     ensures end { IfOk result (λ verdict. verdict ≡ Verdict.Agrees
         ↔ LegalReplies (state_of start) commands.now replies.now
         × IsSeenAs end.entry (state_after (state_of start) commands.now replies.now)) }
+    ensures other_end { IfOk result (λ verdict. verdict ≡ Verdict.OtherEnd
+        ↔ LegalReplies (state_of start) commands.now replies.now
+        × ¬ (IsSeenAs end.entry (state_after (state_of start) commands.now replies.now))) }
 {
     let Some(plain) = follow(alloc, start, commands, replies)? else {
         return Ok(Verdict::IllegalReply);

@@ -1,8 +1,8 @@
 //! Laws over the definitions that the runs' contracts cite. No function here does anything: its
 //! contract is the law.
-ghost use Rattle.std.specs.Prelude.{◌≡◌, ◌≢◌, ◌↔◌, ℕ, ◌+◌, ◌*◌, ◌<◌, ◌≤◌, List, [], ◌∷◌, ◌++◌, Some, None, length, take, drop, map, slice_get, Contains};
+ghost use Rattle.std.specs.Prelude.{◌≡◌, true, ◌≢◌, ◌↔◌, ℕ, ◌+◌, ◌*◌, ◌<◌, ◌≤◌, List, [], ◌∷◌, ◌++◌, Some, None, length, take, drop, map, slice_get, Contains};
 ghost use Rattle.std.specs.Borrow.{Bor};
-ghost use Rattle.std.specs.Str.{chars, IsUtf8};
+ghost use Rattle.std.specs.Str.{all_scalars, chars, IsUtf8};
 ghost use Rattle.inlinable_string.specs.Text.{bytes_of, size, cut, IsCut, IsPlace, IsSplice, IsRemoval};
 ghost use Rattle.inlinable_string.specs.State.{TextState, IsLawful};
 ghost use Rattle.inlinable_string.specs.Edit.{edit, text_after};
@@ -11,6 +11,11 @@ ghost use Rattle.inlinable_string.specs.Laws.{StaysWithin, PushesWithin, is_refu
 
 use super::{Command, Reply};
 use crate::string_ext::Storage;
+
+/// Texts are told by their bytes: no list of bytes is that of two.
+pub fn texts_are_told_by_their_bytes()
+    ensures { (t v : List ℕ) → all_scalars t ≡ true → bytes_of t ≡ bytes_of v → t ≡ v }
+{}
 
 /// `cut` finds the two parts of a text at each of its places, and none elsewhere.
 pub fn cut_decides_places()
@@ -169,6 +174,11 @@ pub fn reserved_pushes_never_fail()
         (first replies last : List Reply) → PushesWithin k pushes
         → length before ≡ length first → length pushes ≡ length replies
         → LegalReplies s (before ++ (Command.Reserve k ∷ (pushes ++ behind)))
+        (first ++ (Reply.Done ∷ (replies ++ last))) → ¬ Contains replies Reply.NoMemory }
+    ensures exact_anywhere { (s : TextState) (k : ℕ) (before pushes behind : List Command)
+        (first replies last : List Reply) → PushesWithin k pushes
+        → length before ≡ length first → length pushes ≡ length replies
+        → LegalReplies s (before ++ (Command.ReserveExact k ∷ (pushes ++ behind)))
         (first ++ (Reply.Done ∷ (replies ++ last))) → ¬ Contains replies Reply.NoMemory }
 {}
 
