@@ -1,9 +1,10 @@
 -- The cut of a text, and its last character.
-use Rattle.std.proofs.Common.{◌≡◌, ℕ, ◌+◌, ◌-◌, ◌<◌, ◌≤◌, true, false, cond, nat_eq, nat_lt, List, [], ◌∷◌, ◌++◌, length, refl, sym, ap, ◌∙◌, arith, length-append, Option, Some, None, Bool, IsTrue, ◌↔◌}
+use Rattle.std.proofs.Common.{◌≡◌, ℕ, ◌+◌, ◌-◌, ◌<◌, ◌≤◌, true, false, cond, nat_eq, nat_lt, List, [], ◌∷◌, ◌++◌, length, refl, sym, ap, ◌∙◌, arith, length-append, take, drop, take_at, take-append-drop, Option, Some, None, Bool, IsTrue, ◌↔◌}
 use Rattle.std.proofs.lemmas.Bool.Decides.{nat_tests}
+use Rattle.std.proofs.lemmas.List.{append_assoc}
 use Rattle.std.specs.Char.{encode_utf8}
-use Rattle.std.specs.Str.{IsUtf8, IsCharBoundary}
-use Rattle.std.proofs.lemmas.Str.{length-encode, len_utf8_bounds, chars_from_encodes}
+use Rattle.std.specs.Str.{chars, IsUtf8, IsCharBoundary}
+use Rattle.std.proofs.lemmas.Str.{IsCharBoundary-from_take, length-encode, len_utf8_bounds, chars_from_encodes}
 use Rattle.inlinable_string.specs.Text.{bytes_of, size, IsCut, IsPlace, cut, with_first}
 use Rattle.inlinable_string.specs.Edit.{last_off}
 use Rattle.inlinable_string.proofs.Text.{boundary_at_cut, cut_at_boundary}
@@ -101,3 +102,35 @@ place_if_tested t bs p b u e test passed = place_at_boundary t bs p u e (test.0 
 
 pub no_place_if_tested : (t bs : List ℕ) (p : ℕ) (b : Bool) → IsUtf8 bs → bs ≡ bytes_of t → (IsTrue b ↔ IsCharBoundary bs p) → b ≡ false → ¬ (IsPlace t p)
 no_place_if_tested t bs p b u e test failed at = let passed : b ≡ true = test.1 (boundary_at_place t bs p u e at) in cc
+
+-- what a test that fails tells
+pub not_from_test : {P : Type 0} (b : Bool) → (IsTrue b ↔ P) → b ≡ false → ¬ P
+not_from_test b test failed at = let passed : b ≡ true = test.1 at in cc
+
+-- bytes that are those of a text
+pub chars_are : (t bs : List ℕ) → IsUtf8 bs → bs ≡ bytes_of t → chars bs ≡ t
+chars_are t bs u e = sym (chars_from_encodes t bs u (sym e))
+
+pub places_are : (t bs : List ℕ) → IsUtf8 bs → bs ≡ bytes_of t → (p : ℕ) → IsCharBoundary bs p ↔ IsPlace t p
+places_are t bs u e p = (place_at_boundary t bs p u e, boundary_at_place t bs p u e)
+
+pub cut_of_bytes : (t bs a b : List ℕ) (p : ℕ) → IsCut t p a b → IsUtf8 bs → bs ≡ bytes_of t → (a ≡ chars (take p bs)) × (b ≡ chars (drop p bs))
+cut_of_bytes t bs a b p at u e =
+    let at_bytes : IsCut t p (chars (take p bs)) (chars (drop p bs)) = rw (chars_are t bs u e) at (cut_at_boundary bs p u (boundary_at_place t bs p u e (a, b, at))) in
+    parts_are a b (chars (take p bs)) (chars (drop p bs)) (sym (cut_is t p a b at) ∙ cut_is t p (chars (take p bs)) (chars (drop p bs)) at_bytes)
+
+pub back_of_cut : (t bs a b : List ℕ) (p : ℕ) → IsCut t p a b → IsUtf8 bs → bs ≡ bytes_of t → t ≡ a ++ chars (drop p (bytes_of t))
+back_of_cut t bs a b p at u e = at.joined ∙ ap (λ x. a ++ x) ((cut_of_bytes t bs a b p at u e).1 ∙ ap (λ x. chars (drop p x)) e)
+
+-- a front of the bytes that is UTF-8 ends at a place
+pub place_of_front : (t bs xs ys : List ℕ) → IsUtf8 bs → bs ≡ bytes_of t → IsUtf8 xs → bs ≡ xs ++ ys → IsPlace t (length xs)
+place_of_front t bs xs ys u e v h =
+    let short : length xs ≤ length bs = omega (arith, ap length h, length-append xs ys) in
+    let same : take (length xs) bs ≡ xs = ap (take (length xs)) h ∙ take_at xs ys (length xs) refl in
+    place_at_boundary t bs (length xs) u e (IsCharBoundary-from_take bs (length xs) u short (rw same v))
+
+pub place_of_taken : (t bs xs : List ℕ) (n : ℕ) → IsUtf8 bs → bs ≡ bytes_of t → IsUtf8 xs → xs ≡ take n bs → IsPlace t (length xs)
+place_of_taken t bs xs n u e v h = place_of_front t bs xs (drop n bs) u e v (sym (take-append-drop n bs) ∙ ap (λ x. x ++ drop n bs) (sym h))
+
+pub place_of_split : (t bs xs ys : List ℕ) (n : ℕ) → IsUtf8 bs → bs ≡ bytes_of t → IsUtf8 xs → take n bs ≡ xs ++ ys → IsPlace t (length xs)
+place_of_split t bs xs ys n u e v h = place_of_front t bs xs (ys ++ drop n bs) u e v (sym (take-append-drop n bs) ∙ ap (λ x. x ++ drop n bs) h ∙ append_assoc xs ys (drop n bs))

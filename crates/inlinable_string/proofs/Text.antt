@@ -1,15 +1,16 @@
 -- Texts and their bytes.
 use Rattle.std.proofs.Common.{◌≡◌, ℕ, ◌+◌, ◌≤◌, true, false, Bool, ◌&&◌, List, [], ◌∷◌, ◌++◌, length, take, drop, refl, sym, ap, ◌∙◌, arith, subst, length-append, take-append-drop, length-take-le, append-nil, Result, Ok, Err, is_ok, if◌then◌else◌, OnOk, OnErr, IsOk, Option, Some, None, MatchOption, IfSome, IfNone, IsTrue, ◌↔◌, nat_eq}
+use Rattle.std.proofs.lemmas.List.{append_assoc}
 use Rattle.std.proofs.lemmas.Bool.Decides.{nat_tests}
 use lib.Utf8.{scalar}
 use Rattle.std.specs.declared.string.String.{String}
 use Rattle.std.specs.String.{string_bytes, string_len}
-use Rattle.std.proofs.lemmas.Str.{IsUtf8-string_bytes, length-le-encodes}
+use Rattle.std.proofs.lemmas.Str.{IsUtf8-string_bytes, length-le-encodes, length-encode, len_utf8_bounds}
 use Rattle.std.specs.Char.{encode_utf8}
 use Rattle.std.specs.Str.{chars, all_scalars, IsUtf8, IsCharBoundary}
 use Rattle.std.specs.String.Boundary.{IsSplitPoint}
 use Rattle.std.proofs.lemmas.Str.{chars-nil, encodes-chars, scalars-chars, chars-append, chars_from_encodes, encodes-append, IsUtf8-take, IsCharBoundary-at_seam}
-use Rattle.inlinable_string.specs.Text.{bytes_of, size, IsCut, IsPlace, IsSplice}
+use Rattle.inlinable_string.specs.Text.{bytes_of, size, IsCut, IsPlace, IsSplice, IsRemoval}
 
 pub size-chars : (bs : List ℕ) → IsUtf8 bs → size (chars bs) ≡ length bs
 size-chars bs u = ap length (encodes-chars bs u)
@@ -111,3 +112,57 @@ pub same_bytes : (t v : List ℕ) → all_scalars t ≡ true → bytes_of t ≡ 
 same_bytes t v are same =
     let well : IsUtf8 (bytes_of t) = (t, (are, refl)) in
     chars_from_encodes t (bytes_of t) well refl ∙ sym (chars_from_encodes v (bytes_of t) well (sym same))
+
+-- how many bytes there are after an edit
+pub size-pushed : (t u v : List ℕ) → v ≡ t ++ u → size v ≡ size t + size u
+size-pushed t u v e = ap size e ∙ size-append t u
+
+pub size-pushed_str : (t bs v : List ℕ) → IsUtf8 bs → v ≡ t ++ chars bs → size v ≡ size t + length bs
+size-pushed_str t bs v u e = size-pushed t (chars bs) v e ∙ ap (λ n. size t + n) (size-chars bs u)
+
+pub size-spliced : (t u v : List ℕ) (p : ℕ) → IsSplice t p u v → size v ≡ size t + size u
+size-spliced t u v p s = omega (arith, ap size s.joined, size-append (s.front ++ u) s.back, size-append s.front u, ap size s.cut.joined, size-append s.front s.back)
+
+pub size-spliced_str : (t bs v : List ℕ) (p : ℕ) → IsUtf8 bs → IsSplice t p (chars bs) v → size v ≡ size t + length bs
+size-spliced_str t bs v p u s = size-spliced t (chars bs) v p s ∙ ap (λ n. size t + n) (size-chars bs u)
+
+pub size-removed : (t v : List ℕ) (p c : ℕ) → IsRemoval t p c v → size v + size (c ∷ []) ≡ size t
+size-removed t v p c r = omega (arith, ap size r.joined, size-append r.front r.back, ap size r.cut.joined, size-append r.front (c ∷ r.back), size-append (c ∷ []) r.back)
+
+pub size-popped : (r : Option ℕ) (old new : List ℕ) → MatchOption r ((old ≡ []) × (new ≡ [])) (λ c. old ≡ new ++ c ∷ []) → MatchOption r (size old ≡ 0) (λ c. size new + size (c ∷ []) ≡ size old)
+size-popped None old new h = ap size h.0
+size-popped (Some c) old new h = sym (ap size h ∙ size-append new (c ∷ []))
+
+-- a test for 0
+pub zero_at_test : (n : ℕ) → IsTrue (nat_eq n 0) ↔ (n ≡ 0)
+zero_at_test n = (λ h. grind (arith, nat_tests, h), λ e. grind (arith, nat_tests, e))
+
+pub size_bound : (r : Option ℕ) (old new : List ℕ) → MatchOption r ((old ≡ []) × (new ≡ [])) (λ c. old ≡ new ++ c ∷ []) → size new ≤ size old
+size_bound None old new h = omega (arith, ap size h.0, ap size h.1)
+size_bound (Some c) old new h = omega (arith, ap size h, size-append new (c ∷ []))
+
+-- a character has at most four bytes
+pub char_size : (c : ℕ) → size (c ∷ []) ≤ 4
+char_size c = omega (arith, ap length (append-nil (encode_utf8 c)), length-encode c, len_utf8_bounds c)
+
+-- where places are
+pub place_within : (t : List ℕ) (p : ℕ) → IsPlace t p → p ≤ size t
+place_within t p at = omega (arith, ap size at.2.joined, size-append at.0 at.1, at.2.before)
+
+pub place_before : (t u v : List ℕ) (p : ℕ) → IsSplice t p u v → IsPlace v p
+place_before t u v p s = (s.front, u ++ s.back, record { joined = s.joined ∙ append_assoc s.front u s.back; before = s.cut.before })
+
+pub place_behind : (t u v : List ℕ) (p : ℕ) → IsSplice t p u v → IsPlace v (p + size u)
+place_behind t u v p s = (s.front ++ u, s.back, record { joined = s.joined; before = size-append s.front u ∙ ap (λ n. n + size u) s.cut.before })
+
+pub place_left : (t v : List ℕ) (p c : ℕ) → IsRemoval t p c v → IsPlace v p
+place_left t v p c r = (r.front, r.back, record { joined = r.joined; before = r.cut.before })
+
+pub splice_at_start : (t u v : List ℕ) → IsSplice t 0 u v → v ≡ u ++ t
+splice_at_start t u v s =
+    let none : s.front ≡ [] = nil_from_size s.front s.cut.before in
+    let whole : t ≡ s.back = s.cut.joined ∙ ap (λ x. x ++ s.back) none in
+    s.joined ∙ ap (λ x. (x ++ u) ++ s.back) none ∙ ap (λ x. u ++ x) (sym whole)
+
+pub place_behind_str : (t bs v : List ℕ) (p : ℕ) → IsUtf8 bs → IsSplice t p (chars bs) v → IsPlace v (p + length bs)
+place_behind_str t bs v p u s = subst (λ n. IsPlace v (p + n)) (size-chars bs u) (place_behind t (chars bs) v p s)

@@ -39,6 +39,8 @@ impl<const N: usize> InlinableStringN<N> {
         requires place { IsPlace (inlinable_state N self.old).text idx }
         ensures text { OnOk result (IsSplice (inlinable_state N self.old).text idx
             (chars added.now) (inlinable_state N self.new).text) }
+        ensures len { OnOk result (size (inlinable_state N self.new).text
+            ≡ size (inlinable_state N self.old).text + length added.now) }
         ensures storage { OnOk result ((inlinable_state N self.new).storage ≡ Storage.Heap) }
         ensures room { OnOk result
             (size (inlinable_state N self.old).text + length added.now + spare

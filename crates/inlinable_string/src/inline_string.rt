@@ -89,7 +89,8 @@ impl<const N: usize> InlineStringN<N> {
     /// The text of `string`, which must have at most `N` bytes.
     pub fn from(string: &str) -> Self
         requires { length string.now ≤ N }
-        ensures { result ≡ chars string.now }
+        ensures text { result ≡ chars string.now }
+        ensures len { size result ≡ length string.now }
     {
         let mut text = Self::new();
         let _ = text.push_str(string);
@@ -103,6 +104,8 @@ impl<const N: usize> InlineStringN<N> {
             (λ _. size self.old + size (ch ∷ []) ≤ N)
             (λ _. N < size self.old + size (ch ∷ [])) }
         ensures ok { OnOk result (self.new ≡ self.old ++ ch ∷ []) }
+        ensures len { OnOk result (size self.new ≡ size self.old + size (ch ∷ [])) }
+        ensures char_len { size (ch ∷ []) ≤ 4 }
         ensures err { OnErr result (self.new ≡ self.old) }
     {
         if ch.is_ascii() {
@@ -123,6 +126,7 @@ impl<const N: usize> InlineStringN<N> {
             (λ _. size self.old + length string.now ≤ N)
             (λ _. N < size self.old + length string.now) }
         ensures ok { OnOk result (self.new ≡ self.old ++ chars string.now) }
+        ensures len { OnOk result (size self.new ≡ size self.old + length string.now) }
         ensures err { OnErr result (self.new ≡ self.old) }
     {
         let len = self.len;
@@ -151,7 +155,13 @@ impl<const N: usize> InlineStringN<N> {
             (λ _. size self.old + size (ch ∷ []) ≤ N)
             (λ _. N < size self.old + size (ch ∷ [])) }
         ensures ok { OnOk result (IsSplice self.old idx (ch ∷ []) self.new) }
+        ensures len { OnOk result (size self.new ≡ size self.old + size (ch ∷ [])) }
+        ensures char_len { size (ch ∷ []) ≤ 4 }
         ensures err { OnErr result (self.new ≡ self.old) }
+
+        // What was put in ends at a place.
+        ensures within { idx ≤ size self.old }
+        ensures behind { OnOk result (IsPlace self.new (idx + size (ch ∷ []))) }
     {
         if ch.is_ascii() {
             let len = self.len;
@@ -175,7 +185,12 @@ impl<const N: usize> InlineStringN<N> {
             (λ _. size self.old + length string.now ≤ N)
             (λ _. N < size self.old + length string.now) }
         ensures ok { OnOk result (IsSplice self.old idx (chars string.now) self.new) }
+        ensures len { OnOk result (size self.new ≡ size self.old + length string.now) }
         ensures err { OnErr result (self.new ≡ self.old) }
+
+        // What was put in ends at a place.
+        ensures within { idx ≤ size self.old }
+        ensures behind { OnOk result (IsPlace self.new (idx + length string.now)) }
     {
         let old_len = self.len;
         if N - old_len < string.len() {
@@ -197,16 +212,21 @@ impl<const N: usize> InlineStringN<N> {
     /// Keeps the text before `new_len`, a byte offset, which must be a place of the text.
     pub fn truncate(&mut self, new_len: usize)
         requires { IsPlace self.old new_len }
-        ensures { (rest : List ℕ) × IsCut self.old new_len self.new rest }
+        ensures text { (rest : List ℕ) × IsCut self.old new_len self.new rest }
+        ensures len { size self.new ≡ new_len }
+        ensures back { self.old ≡ self.new ++ chars (drop new_len (bytes_of self.old)) }
     {
         self.len = new_len;
     }
 
     /// Takes off the last character; `None` where the text is empty.
     pub fn pop(&mut self) -> Option<char>
-        ensures { MatchOption result
+        ensures text { MatchOption result
             ((self.old ≡ []) × (self.new ≡ []))
             (λ c. self.old ≡ self.new ++ c ∷ []) }
+        ensures len { MatchOption result (size self.old ≡ 0)
+            (λ c. size self.new + size (c ∷ []) ≡ size self.old) }
+        ensures bound { size self.new ≤ size self.old }
     {
         let mut rest = self.as_str().chars();
         let last = rest.next_back()?;
@@ -220,7 +240,9 @@ impl<const N: usize> InlineStringN<N> {
     pub fn remove(&mut self, idx: usize) -> char
         requires place { IsPlace self.old idx }
         requires below { idx < size self.old }
-        ensures { IsRemoval self.old idx result self.new }
+        ensures text { IsRemoval self.old idx result self.new }
+        ensures len { size self.new + size (result ∷ []) ≡ size self.old }
+        ensures at { IsPlace self.new idx }
     {
         let (ch, next) = char_at(self.as_str(), idx);
         let len = self.len;
@@ -272,9 +294,18 @@ impl<const N: usize> InlineStringN<N> {
 
     /// Whether the text has no character.
     pub fn is_empty(&self) -> bool
-        ensures { IsTrue result ↔ (self.now ≡ []) }
+        ensures text { IsTrue result ↔ (self.now ≡ []) }
+        ensures len { IsTrue result ↔ (size self.now ≡ 0) }
     {
         self.len() == 0
+    }
+
+    /// Whether `idx` is a place of the text: 0, its length, or the first byte of a character. It is
+    /// the test for `insert`, `insert_str`, `truncate`, and where `idx < len()` for `remove`.
+    pub fn is_char_boundary(&self, idx: usize) -> bool
+        ensures { IsTrue result ↔ IsPlace self.now idx }
+    {
+        self.as_str().is_char_boundary(idx)
     }
 
     /// The UTF-8 bytes of the text.
@@ -294,9 +325,11 @@ impl<const N: usize> InlineStringN<N> {
         bytes
     }
 
-    /// The text. Its `is_char_boundary` tells the places.
+    /// The text. Its boundaries are the places.
     pub fn as_str(&self) -> &str
         ensures value { result.now ≡ bytes_of self.now }
+        ensures text { chars result.now ≡ self.now }
+        ensures places { (p : ℕ) → IsCharBoundary result.now p ↔ IsPlace self.now p }
         ensures within { length result.now ≤ N }
     {
         let cells = &self.bytes[..];

@@ -88,7 +88,7 @@ macro_rules! obeyed {
             },
             Command::PushStr(string) => $push_str($text, string),
             Command::Insert(idx, ch) => {
-                if $text.as_str().is_char_boundary(idx) {
+                if $text.is_char_boundary(idx) {
                     match $text.insert(idx, ch) {
                         Ok(()) => Reply::Done,
                         Err(_) => Reply::NoMemory,
@@ -99,7 +99,7 @@ macro_rules! obeyed {
             }
             Command::InsertStr(idx, string) => $insert_str($text, idx, string),
             Command::Truncate(new_len) => {
-                if $text.as_str().is_char_boundary(new_len) {
+                if $text.is_char_boundary(new_len) {
                     $text.truncate(new_len);
                     Reply::Done
                 } else {
@@ -111,7 +111,7 @@ macro_rules! obeyed {
                 None => Reply::NoChar,
             },
             Command::Remove(idx) => {
-                if !$text.as_str().is_char_boundary(idx) {
+                if !$text.is_char_boundary(idx) {
                     Reply::BadPlace
                 } else if idx < $text.len() {
                     Reply::Char($text.remove(idx))
@@ -207,7 +207,7 @@ fn insert_str<S: StringExt>(text: &mut S, idx: usize, string: &str) -> Reply
         → IsStep (S.state text.old) (Command.InsertStr idx string.entry) result
         (S.state text.new) }
 {
-    if text.as_str().is_char_boundary(idx) {
+    if text.is_char_boundary(idx) {
         match text.insert_str(idx, string) {
             Ok(()) => Reply::Done,
             Err(_) => Reply::NoMemory,

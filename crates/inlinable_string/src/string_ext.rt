@@ -1,7 +1,7 @@
 //! The traits of a text that can be edited: code over them is written once for `String`, for
 //! [`crate::InlinableStringN`] and for a type of one's own.
-ghost use Rattle.std.specs.Prelude.{◌≡◌, ℕ, ◌≤◌, ◌<◌, ◌↔◌, List, ◌++◌, [], ◌∷◌, length, IsTrue, OnOk, OnErr, IfOk, IsOk, Err, MatchOption, IsUtf8};
-ghost use Rattle.std.specs.Str.{chars};
+ghost use Rattle.std.specs.Prelude.{◌≡◌, ℕ, ◌+◌, ◌≤◌, ◌<◌, ◌↔◌, List, ◌++◌, [], ◌∷◌, length, drop, IsTrue, OnOk, OnErr, IfOk, IsOk, Err, MatchOption, IsUtf8};
+ghost use Rattle.std.specs.Str.{chars, IsCharBoundary};
 ghost use Rattle.inlinable_string.specs.Text.{bytes_of, size, IsCut, IsPlace, IsSplice, IsRemoval};
 ghost use Rattle.inlinable_string.specs.State.{TextState, Policy, IsLawful, IsSameText, HasRoom, HasInlineRoom, storage_with_room, storage_when_shrunk, storage_when_made};
 
@@ -33,6 +33,9 @@ pub trait StringExt {
     fn push(&mut self, ch: char) -> Result<(), AllocError>
         ensures text { OnOk result
             ((state self.new).text ≡ (state self.old).text ++ ch ∷ []) }
+        ensures len { OnOk result
+            (size (state self.new).text ≡ size (state self.old).text + size (ch ∷ [])) }
+        ensures char_len { size (ch ∷ []) ≤ 4 }
         ensures storage { OnOk result
             ((state self.new).storage ≡ storage_with_room (state self.old) (size (ch ∷ []))) }
         ensures err { OnErr result (IsSameText (state self.old) (state self.new)) }
@@ -49,6 +52,8 @@ pub trait StringExt {
     fn push_str(&mut self, string: &str) -> Result<(), AllocError>
         ensures text { OnOk result
             ((state self.new).text ≡ (state self.old).text ++ chars string.now) }
+        ensures len { OnOk result
+            (size (state self.new).text ≡ size (state self.old).text + length string.now) }
         ensures storage { OnOk result
             ((state self.new).storage ≡ storage_with_room (state self.old) (length string.now)) }
         ensures err { OnErr result (IsSameText (state self.old) (state self.new)) }
@@ -66,11 +71,18 @@ pub trait StringExt {
         requires { IsPlace (state self.old).text idx }
         ensures text { OnOk result
             (IsSplice (state self.old).text idx (ch ∷ []) (state self.new).text) }
+        ensures len { OnOk result
+            (size (state self.new).text ≡ size (state self.old).text + size (ch ∷ [])) }
+        ensures char_len { size (ch ∷ []) ≤ 4 }
         ensures storage { OnOk result
             ((state self.new).storage ≡ storage_with_room (state self.old) (size (ch ∷ []))) }
         ensures err { OnErr result (IsSameText (state self.old) (state self.new)) }
         ensures inline_granted { HasInlineRoom (state self.old) (size (ch ∷ [])) → IsOk result }
-        ensures policy { (state self.new).policy ≡ (state self.old).policy };
+        ensures policy { (state self.new).policy ≡ (state self.old).policy }
+
+        // What was put in ends at a place.
+        ensures within { idx ≤ size (state self.old).text }
+        ensures behind { OnOk result (IsPlace (state self.new).text (idx + size (ch ∷ []))) };
 
     /// Puts a text in at `idx`, which must be a place of the text.
     ///
@@ -79,11 +91,17 @@ pub trait StringExt {
         requires { IsPlace (state self.old).text idx }
         ensures text { OnOk result
             (IsSplice (state self.old).text idx (chars string.now) (state self.new).text) }
+        ensures len { OnOk result
+            (size (state self.new).text ≡ size (state self.old).text + length string.now) }
         ensures storage { OnOk result
             ((state self.new).storage ≡ storage_with_room (state self.old) (length string.now)) }
         ensures err { OnErr result (IsSameText (state self.old) (state self.new)) }
         ensures inline_granted { HasInlineRoom (state self.old) (length string.now) → IsOk result }
-        ensures policy { (state self.new).policy ≡ (state self.old).policy };
+        ensures policy { (state self.new).policy ≡ (state self.old).policy }
+
+        // What was put in ends at a place.
+        ensures within { idx ≤ size (state self.old).text }
+        ensures behind { OnOk result (IsPlace (state self.new).text (idx + length string.now)) };
 
     /// Makes room for `additional` bytes more than the text has, and perhaps for others.
     ///
@@ -121,19 +139,25 @@ pub trait StringExt {
         ensures policy { (state self.new).policy ≡ (state self.old).policy };
 
     /// Keeps the text before `new_len`, which must be a place of the text:
-    /// `as_str().is_char_boundary(new_len)` tells. It stays where it lies.
+    /// `is_char_boundary(new_len)` tells. It stays where it lies.
     fn truncate(&mut self, new_len: usize)
         requires { IsPlace (state self.old).text new_len }
         ensures text { (rest : List ℕ)
             × IsCut (state self.old).text new_len (state self.new).text rest }
+        ensures len { size (state self.new).text ≡ new_len }
         ensures storage { (state self.new).storage ≡ (state self.old).storage }
-        ensures policy { (state self.new).policy ≡ (state self.old).policy };
+        ensures policy { (state self.new).policy ≡ (state self.old).policy }
+        ensures back { (state self.old).text
+            ≡ (state self.new).text ++ chars (drop new_len (bytes_of (state self.old).text)) };
 
     /// Takes off the last character; `None` where the text is empty. It stays where it lies.
     fn pop(&mut self) -> Option<char>
         ensures text { MatchOption result
             (((state self.old).text ≡ []) × ((state self.new).text ≡ []))
             (λ c. (state self.old).text ≡ (state self.new).text ++ c ∷ []) }
+        ensures len { MatchOption result (size (state self.old).text ≡ 0)
+            (λ c. size (state self.new).text + size (c ∷ []) ≡ size (state self.old).text) }
+        ensures bound { size (state self.new).text ≤ size (state self.old).text }
         ensures storage { (state self.new).storage ≡ (state self.old).storage }
         ensures policy { (state self.new).policy ≡ (state self.old).policy };
 
@@ -143,8 +167,10 @@ pub trait StringExt {
         requires place { IsPlace (state self.old).text idx }
         requires below { idx < size (state self.old).text }
         ensures text { IsRemoval (state self.old).text idx result (state self.new).text }
+        ensures len { size (state self.new).text + size (result ∷ []) ≡ size (state self.old).text }
         ensures storage { (state self.new).storage ≡ (state self.old).storage }
-        ensures policy { (state self.new).policy ≡ (state self.old).policy };
+        ensures policy { (state self.new).policy ≡ (state self.old).policy }
+        ensures at { IsPlace (state self.new).text idx };
 
     /// Leaves the empty text, where it lies.
     fn clear(&mut self)
@@ -188,18 +214,29 @@ pub trait StringExt {
 
     /// Whether the text has no character.
     fn is_empty(&self) -> bool
-        ensures { IsTrue result ↔ ((state self.now).text ≡ []) }
+        ensures text { IsTrue result ↔ ((state self.now).text ≡ []) }
+        ensures len { IsTrue result ↔ (size (state self.now).text ≡ 0) }
     {
         self.len() == 0
+    }
+
+    /// Whether `idx` is a place of the text: 0, its length, or the first byte of a character. It is
+    /// the test for `insert`, `insert_str`, `truncate`, and where `idx < len()` for `remove`.
+    fn is_char_boundary(&self, idx: usize) -> bool
+        ensures { IsTrue result ↔ IsPlace (state self.now).text idx }
+    {
+        self.as_str().is_char_boundary(idx)
     }
 
     /// The UTF-8 bytes of the text.
     fn as_bytes(&self) -> &[u8]
         ensures { result.now ≡ bytes_of (state self.now).text };
 
-    /// The text. Its `is_char_boundary` tells the places.
+    /// The text. Its boundaries are the places.
     fn as_str(&self) -> &str
-        ensures { result.now ≡ bytes_of (state self.now).text };
+        ensures bytes { result.now ≡ bytes_of (state self.now).text }
+        ensures text { chars result.now ≡ (state self.now).text }
+        ensures places { (p : ℕ) → IsCharBoundary result.now p ↔ IsPlace (state self.now).text p };
 }
 
 /// A type that makes texts that can be edited.

@@ -67,7 +67,7 @@ fn insert_str_dyn(text: &mut dyn StringExt, idx: usize, string: &str) -> Reply
     ensures { IsLawful (state text.new)
         → IsStep (state text.old) (Command.InsertStr idx string.entry) result (state text.new) }
 {
-    if text.as_str().is_char_boundary(idx) {
+    if text.is_char_boundary(idx) {
         match text.insert_str(idx, string) {
             Ok(()) => Reply::Done,
             Err(_) => Reply::NoMemory,

@@ -1,17 +1,14 @@
-use Rattle.inlinable_string.proofs.Cut.{place_if_tested, no_place_if_tested}
+use Rattle.inlinable_string.proofs.Cut.{not_from_test}
 use Rattle.inlinable_string.proofs.Steps.{insert_str_done, insert_str_refused, insert_str_misplaced}
 use Rattle.inlinable_string.proofs.run.insert_str.Goals as goal
-
-pub insert_str-requires : goal.insert_str-requires
-insert_str-requires g c = place_if_tested _ _ _ _ c.as_str.utf8 c.as_str.ensures c.is_char_boundary.ensures.test c.if-is_char_boundary.true
 
 pub returns-in-Ok : goal.returns-in-Ok
 returns-in-Ok g c laws = let e = c.in-Ok.ensures in insert_str_done _ _ _ _ c.utf8.string laws e.text e.storage e.policy
 
 pub returns-in-Err : goal.returns-in-Err
 returns-in-Err g c laws =
-    let place = place_if_tested _ _ _ _ c.as_str.utf8 c.as_str.ensures c.is_char_boundary.ensures.test c.if-is_char_boundary.true in
+    let place = c.is_char_boundary.ensures.0 c.if-is_char_boundary.true in
     let e = c.in-Err.ensures in insert_str_refused _ _ _ _ c.utf8.string laws place e.err e.inline_granted e.policy
 
 pub returns-else-is_char_boundary : goal.returns-else-is_char_boundary
-returns-else-is_char_boundary g c laws = insert_str_misplaced _ _ _ (no_place_if_tested _ _ _ _ c.as_str.utf8 c.as_str.ensures c.is_char_boundary.ensures.test c.if-is_char_boundary.false)
+returns-else-is_char_boundary g c laws = insert_str_misplaced _ _ _ (not_from_test _ c.is_char_boundary.ensures c.if-is_char_boundary.false)

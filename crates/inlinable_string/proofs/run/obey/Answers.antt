@@ -1,16 +1,7 @@
 use Rattle.std.proofs.Common.{refl}
-use Rattle.inlinable_string.proofs.Cut.{place_if_tested, no_place_if_tested}
+use Rattle.inlinable_string.proofs.Cut.{not_from_test}
 use Rattle.inlinable_string.proofs.Steps.{push_done, insert_done, insert_refused, insert_misplaced, truncate_done, truncate_misplaced, pop_char, remove_char, remove_misplaced, remove_at_end, replace_done, replace_not_utf8}
 use Rattle.inlinable_string.proofs.run.obey.Goals as goal
-
-pub insert-requires : goal.insert-requires
-insert-requires g c = place_if_tested _ _ _ _ c.as_str.utf8 c.as_str.ensures c.is_char_boundary.ensures.test c.if-is_char_boundary.true
-
-pub truncate-requires : goal.truncate-requires
-truncate-requires g c = place_if_tested _ _ _ _ c.as_str-in-Truncate.utf8 c.as_str-in-Truncate.ensures c.is_char_boundary-in-Truncate.ensures.test c.if-is_char_boundary-2.true
-
-pub remove-requires-clause-place : goal.remove-requires-clause-place
-remove-requires-clause-place g c = place_if_tested _ _ _ _ c.as_str-in-Remove.utf8 c.as_str-in-Remove.ensures c.is_char_boundary-in-Remove.ensures.test c.if-not-is_char_boundary.false
 
 pub returns-in-Ok : goal.returns-in-Ok
 returns-in-Ok g c laws = let e = c.in-Ok.ensures in rw c.in-Push.is (push_done _ _ _ laws e.text e.storage e.room e.policy)
@@ -20,30 +11,30 @@ returns-in-Ok-insert g c laws = let e = c.in-Ok-insert.ensures in rw c.in-Insert
 
 pub returns-in-Err-insert : goal.returns-in-Err-insert
 returns-in-Err-insert g c laws =
-    let place = place_if_tested _ _ _ _ c.as_str.utf8 c.as_str.ensures c.is_char_boundary.ensures.test c.if-is_char_boundary.true in
+    let place = c.is_char_boundary.ensures.0 c.if-is_char_boundary.true in
     let e = c.in-Err-insert.ensures in rw c.in-Insert.is (insert_refused _ _ _ _ laws place e.err e.inline_granted e.policy)
 
 pub returns-else-is_char_boundary : goal.returns-else-is_char_boundary
-returns-else-is_char_boundary g c laws = rw c.in-Insert.is (insert_misplaced _ _ _ (no_place_if_tested _ _ _ _ c.as_str.utf8 c.as_str.ensures c.is_char_boundary.ensures.test c.if-is_char_boundary.false))
+returns-else-is_char_boundary g c laws = rw c.in-Insert.is (insert_misplaced _ _ _ (not_from_test _ c.is_char_boundary.ensures c.if-is_char_boundary.false))
 
 pub returns-then-is_char_boundary-2 : goal.returns-then-is_char_boundary-2
 returns-then-is_char_boundary-2 g c laws = let e = c.truncate.ensures in rw c.in-Truncate.is (truncate_done _ _ _ _ laws e.text.1 e.storage e.policy)
 
 pub returns-else-is_char_boundary-2 : goal.returns-else-is_char_boundary-2
-returns-else-is_char_boundary-2 g c laws = rw c.in-Truncate.is (truncate_misplaced _ _ (no_place_if_tested _ _ _ _ c.as_str-in-Truncate.utf8 c.as_str-in-Truncate.ensures c.is_char_boundary-in-Truncate.ensures.test c.if-is_char_boundary-2.false))
+returns-else-is_char_boundary-2 g c laws = rw c.in-Truncate.is (truncate_misplaced _ _ (not_from_test _ c.is_char_boundary-in-Truncate.ensures c.if-is_char_boundary-2.false))
 
 pub returns-in-Some : goal.returns-in-Some
 returns-in-Some g c laws = let e = c.in-Some.ensures in rw c.in-Pop.is (pop_char _ _ _ laws e.text e.storage e.policy)
 
 pub returns-then-not-is_char_boundary : goal.returns-then-not-is_char_boundary
-returns-then-not-is_char_boundary g c laws = rw c.in-Remove.is (remove_misplaced _ _ (no_place_if_tested _ _ _ _ c.as_str-in-Remove.utf8 c.as_str-in-Remove.ensures c.is_char_boundary-in-Remove.ensures.test c.if-not-is_char_boundary.true))
+returns-then-not-is_char_boundary g c laws = rw c.in-Remove.is (remove_misplaced _ _ (not_from_test _ c.is_char_boundary-in-Remove.ensures c.if-not-is_char_boundary.true))
 
 pub returns-then-idx-len : goal.returns-then-idx-len
 returns-then-idx-len g c laws = let e = c.remove.ensures in rw c.in-Remove.is (remove_char _ _ _ _ laws e.text e.storage e.policy)
 
 pub returns-else-idx-len : goal.returns-else-idx-len
 returns-else-idx-len g c laws =
-    let place = place_if_tested _ _ _ _ c.as_str-in-Remove.utf8 c.as_str-in-Remove.ensures c.is_char_boundary-in-Remove.ensures.test c.if-not-is_char_boundary.false in
+    let place = c.is_char_boundary-in-Remove.ensures.0 c.if-not-is_char_boundary.false in
     rw c.in-Remove.is (remove_at_end _ _ place (rw c.len.ensures.value at c.if-idx-len.false))
 
 pub returns-in-Ok-replace_bytes : goal.returns-in-Ok-replace_bytes

@@ -1,6 +1,11 @@
+use Rattle.std.proofs.lemmas.Result.{on_ok_weaker}
+use Rattle.inlinable_string.proofs.Text.{place_behind}
 use Rattle.inlinable_string.proofs.Window.{chars_one}
 use Rattle.inlinable_string.proofs.inlinable_string.InlinableStringNStringExt.insert.Goals as goal
 
 pub returns-in-Err-clause-text : goal.returns-in-Err-clause-text
 returns-in-Err-clause-text g c =
     rw (c.in-Inline.is, ← chars_one c.args.ch c.encode_utf8.result.now c.encode_utf8.utf8 c.encode_utf8.ensures.value, ← c.in-Err.ensures.err) c.promote.ensures.text
+
+pub returns-in-Err-clause-behind : goal.returns-in-Err-clause-behind
+returns-in-Err-clause-behind g c = on_ok_weaker c.promote.result (place_behind _ _ _ _) (returns-in-Err-clause-text g c)

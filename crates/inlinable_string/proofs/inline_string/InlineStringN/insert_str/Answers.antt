@@ -1,4 +1,5 @@
 use Rattle.std.proofs.Common.{arith}
+use Rattle.inlinable_string.proofs.Text.{size-spliced_str, place_within, place_behind_str}
 use Rattle.inlinable_string.proofs.Window.{size_of, within, inserted, window_holds}
 use Rattle.inlinable_string.proofs.inline_string.InlineStringN.insert_str.Goals as goal
 
@@ -25,3 +26,15 @@ pub returns-clause-ok : goal.returns-clause-ok
 returns-clause-ok g c =
     let h = window_holds _ _ _ _ _ c.self.view_is c.self.told c.self.invariant.0 c.self.invariant.1 in
     (inserted _ _ _ _ _ _ h c.utf8.string c.requires.place (rw c.as_bytes.ensures.value at c.put_in-start.ensures.text)).1
+
+pub returns-clause-len : goal.returns-clause-len
+returns-clause-len g c = size-spliced_str _ _ _ _ c.utf8.string (returns-clause-ok g c)
+
+pub returns-then-old_len-string-clause-within : goal.returns-then-old_len-string-clause-within
+returns-then-old_len-string-clause-within g c = place_within _ _ c.requires.place
+
+pub returns-clause-within : goal.returns-clause-within
+returns-clause-within g c = place_within _ _ c.requires.place
+
+pub returns-clause-behind : goal.returns-clause-behind
+returns-clause-behind g c = place_behind_str _ _ _ _ c.utf8.string (returns-clause-ok g c)

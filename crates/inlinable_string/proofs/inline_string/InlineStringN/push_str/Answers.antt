@@ -1,4 +1,5 @@
 use Rattle.std.proofs.Common.{◌∙◌, arith}
+use Rattle.inlinable_string.proofs.Text.{size-pushed_str}
 use Rattle.inlinable_string.proofs.Window.{size_of, pushed, window_holds, inserted_last, extended}
 use Rattle.inlinable_string.proofs.inline_string.InlineStringN.push_str.Goals as goal
 
@@ -34,3 +35,9 @@ returns-clause-ok g c =
     let h = window_holds _ _ _ _ _ c.self.view_is c.self.told c.self.invariant.0 c.self.invariant.1 in
     let new = pushed _ _ _ _ _ h c.utf8.string ((rw c.as_bytes-2.ensures.value at c.put_in-start.ensures.text) ∙ inserted_last _ c.args.string.now _ h.long) in
     new.shown
+
+pub returns-then-string-end-clause-len : goal.returns-then-string-end-clause-len
+returns-then-string-end-clause-len g c = size-pushed_str _ _ _ c.utf8.string (returns-then-string-end-clause-ok g c)
+
+pub returns-clause-len : goal.returns-clause-len
+returns-clause-len g c = size-pushed_str _ _ _ c.utf8.string (returns-clause-ok g c)

@@ -8,3 +8,9 @@ returns-clause-text c =
     let new = c.pop.new.self in
     text.popped-text _ _ _ (IsUtf8-string_bytes old) (IsUtf8-string_bytes new) c.pop.ensures.bytes (rw (← old.bytes.ok.0) c.pop.ensures.none)
     (rw (← old.bytes.ok.0, ← new.bytes.ok.0) c.pop.ensures.bound)
+
+pub returns-clause-len : goal.returns-clause-len
+returns-clause-len c = text.size-popped _ _ _ (returns-clause-text c)
+
+pub returns-clause-bound : goal.returns-clause-bound
+returns-clause-bound c = text.size_bound _ _ _ (returns-clause-text c)

@@ -1,8 +1,9 @@
+use Rattle.std.proofs.lemmas.Result.{on_ok_weaker}
 use Rattle.std.proofs.Common.{◌≡◌, ◌++◌, refl, subst, OnOk}
 use Rattle.std.specs.Str.{chars}
 use Rattle.std.specs.String.{string_bytes}
 use Rattle.std.proofs.lemmas.Str.{IsUtf8-string_bytes, IsUtf8-encode}
-use Rattle.inlinable_string.proofs.Text.{pushed-chars, size-string}
+use Rattle.inlinable_string.proofs.Text.{pushed-chars, size-string, size-pushed}
 use Rattle.inlinable_string.proofs.Window.{chars_one, size_one}
 use Rattle.inlinable_string.proofs.string_ext.std_string.StringStringExt.push.Goals as goal
 
@@ -13,3 +14,6 @@ returns-clause-text c =
 
 pub returns-clause-granted : goal.returns-clause-granted
 returns-clause-granted c h = c.push.ensures.succeeds (rw (size-string, ← size_one) at h)
+
+pub returns-clause-len : goal.returns-clause-len
+returns-clause-len c = on_ok_weaker c.push.result (size-pushed _ _ _) (returns-clause-text c)
