@@ -12,6 +12,7 @@ mod boxable_string;
 mod cells;
 mod inlinable_string;
 pub mod inline_string;
+pub mod laws;
 pub mod run;
 pub mod string_ext;
 

@@ -1,0 +1,39 @@
+//! Laws of places and sizes, for callers: a call of one, which does nothing, makes its clauses
+//! known to the proof of the function that calls it.
+ghost use Rattle.std.specs.Prelude.{◌≡◌, ℕ, ◌+◌, ◌≤◌, List, ◌++◌, [], ◌∷◌, length, take, drop, IsUtf8};
+ghost use Rattle.std.specs.Str.{chars, IsCharBoundary};
+ghost use Rattle.inlinable_string.specs.Text.{bytes_of, size, IsCut, IsPlace, IsSplice, IsRemoval};
+
+/// A place is at most the length, and a boundary of the bytes.
+pub fn places_are_boundaries()
+    ensures within { (t : List ℕ) (p : ℕ) → IsPlace t p → p ≤ size t }
+    ensures boundaries { (t bs : List ℕ) (p : ℕ) → IsPlace t p → IsUtf8 bs → bs ≡ bytes_of t
+        → IsCharBoundary bs p }
+{}
+
+/// Where a front of the bytes that is UTF-8 ends, there is a place.
+pub fn fronts_end_at_places()
+    ensures taken { (t bs xs : List ℕ) (n : ℕ) → IsUtf8 bs → bs ≡ bytes_of t → IsUtf8 xs
+        → xs ≡ take n bs → length xs ≡ n → IsPlace t (length xs) }
+    ensures split { (t bs xs ys : List ℕ) (n : ℕ) → IsUtf8 bs → bs ≡ bytes_of t → IsUtf8 xs
+        → take n bs ≡ xs ++ ys → IsPlace t (length xs) }
+{}
+
+/// The ends of what was put in, and the edges of what was taken out, are places.
+pub fn edits_leave_places()
+    ensures before { (t u v : List ℕ) (p : ℕ) → IsSplice t p u v → IsPlace v p }
+    ensures behind { (t u v : List ℕ) (p : ℕ) → IsSplice t p u v → IsPlace v (p + size u) }
+    ensures removed { (t v : List ℕ) (p c : ℕ) → IsRemoval t p c v → IsPlace v p }
+{}
+
+/// What is put in at the start stands before the text, and what is put in at the end behind it.
+pub fn splices_at_the_ends()
+    ensures start { (t u v : List ℕ) → IsSplice t 0 u v → v ≡ u ++ t }
+    ensures end { (t u v : List ℕ) → IsSplice t (size t) u v → v ≡ t ++ u }
+{}
+
+/// A cut of the text is a cut of its bytes.
+pub fn cuts_are_cuts_of_bytes()
+    ensures { (t bs a b : List ℕ) (p : ℕ) → IsCut t p a b → IsUtf8 bs → bs ≡ bytes_of t
+        → (a ≡ chars (take p bs)) × (b ≡ chars (drop p bs)) }
+{}
