@@ -9,7 +9,7 @@ use Rattle.inlinable_string.specs.declared.run.Command.{Command}
 use Rattle.inlinable_string.specs.declared.run.Command.TheVariants.{Push, PushStr, Insert, InsertStr, Truncate, Pop, Remove, Clear, ReplaceBytes, Reserve, ReserveExact, ShrinkToFit}
 use Rattle.inlinable_string.specs.declared.run.Reply.{Reply}
 use Rattle.inlinable_string.specs.declared.run.Reply.TheVariants.{Done, Char, NoChar, BadPlace, NotUtf8, WrongLength, NoMemory}
-use Rattle.inlinable_string.proofs.Text.{size-append, size-chars}
+use Rattle.inlinable_string.proofs.Text.{size-append}
 use Rattle.inlinable_string.proofs.Cut.{cut_is, is_cut, no_cut, last_off-append}
 
 -- places

@@ -23,8 +23,7 @@ pub use laws::{
     insertions_are_splices, pop_takes_off_the_last_character, refusals_change_nothing,
     refusals_determine_the_run, remove_is_a_removal, remove_undoes_insert,
     replacement_has_the_bytes, reserved_pushes_never_fail, runs_join, short_runs_never_ask,
-    texts_are_told_by_their_bytes,
-    truncations_are_cuts,
+    texts_are_told_by_their_bytes, truncations_are_cuts,
 };
 pub use over_dyn::run_dyn;
 
