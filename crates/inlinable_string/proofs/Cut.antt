@@ -96,13 +96,6 @@ place_at_boundary t bs p u e at = rw (chars_from_encodes t bs u (sym e)) (_, _, 
 pub boundary_at_place : (t bs : List ℕ) (p : ℕ) → IsUtf8 bs → bs ≡ bytes_of t → IsPlace t p → IsCharBoundary bs p
 boundary_at_place t bs p u e at = boundary_at_cut bs p at.0 at.1 u (rw (← chars_from_encodes t bs u (sym e)) at.2)
 
--- what the test for a place tells, from the bytes of the text
-pub place_if_tested : (t bs : List ℕ) (p : ℕ) (b : Bool) → IsUtf8 bs → bs ≡ bytes_of t → (IsTrue b ↔ IsCharBoundary bs p) → b ≡ true → IsPlace t p
-place_if_tested t bs p b u e test passed = place_at_boundary t bs p u e (test.0 passed)
-
-pub no_place_if_tested : (t bs : List ℕ) (p : ℕ) (b : Bool) → IsUtf8 bs → bs ≡ bytes_of t → (IsTrue b ↔ IsCharBoundary bs p) → b ≡ false → ¬ (IsPlace t p)
-no_place_if_tested t bs p b u e test failed at = let passed : b ≡ true = test.1 (boundary_at_place t bs p u e at) in cc
-
 -- what a test that fails tells
 pub not_from_test : {P : Type 0} (b : Bool) → (IsTrue b ↔ P) → b ≡ false → ¬ P
 not_from_test b test failed at = let passed : b ≡ true = test.1 at in cc

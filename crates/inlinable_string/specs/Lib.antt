@@ -1,5 +1,6 @@
 pub mod Text
 pub mod Cells
+pub mod Errors
 pub mod State
 pub mod Values
 pub mod Edit

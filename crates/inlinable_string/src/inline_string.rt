@@ -2,9 +2,10 @@
 //!
 //! Use [`InlineStringN`] where no text is longer than the limit, or where a longer one is to be
 //! refused; where a longer one is to be kept, use [`crate::InlinableStringN`].
-ghost use Rattle.std.specs.Prelude.{◌≡◌, ℕ, ◌+◌, ◌-◌, ◌≤◌, ◌<◌, ◌↔◌, List, ◌++◌, [], ◌∷◌, length, drop, replicate, encode_utf8, IsTrue, true, OnOk, OnErr, Err, MatchOption, MatchResult, IsUtf8};
+ghost use Rattle.std.specs.Prelude.{◌≡◌, ℕ, ◌+◌, ◌-◌, ◌≤◌, ◌<◌, ◌↔◌, List, ◌++◌, [], ◌∷◌, length, drop, replicate, encode_utf8, IsTrue, true, OnOk, OnErr, Err, Some, MatchOption, MatchResult, IsUtf8, codes};
 ghost use Rattle.std.specs.Str.{all_scalars, chars, IsCharBoundary};
 ghost use Rattle.inlinable_string.specs.Text.{bytes_of, size, IsCut, IsPlace, IsSplice, IsRemoval};
+ghost use Rattle.inlinable_string.specs.Errors.{replacement_message};
 
 use crate::cells::{put_byte, put_in, take_out, write_at, write_front};
 use std::error::Error;
@@ -27,6 +28,8 @@ pub struct NotEnoughSpaceError;
 impl Error for NotEnoughSpaceError {}
 
 impl fmt::Display for NotEnoughSpaceError {
+    ghost output = { λ _. Some (codes "the text does not fit") };
+
     fn fmt<W: fmt::Write>(&self, f: &mut fmt::Formatter<W>) -> fmt::Result {
         f.write_str("the text does not fit")
     }
@@ -44,6 +47,8 @@ pub enum ReplaceError {
 impl Error for ReplaceError {}
 
 impl fmt::Display for ReplaceError {
+    ghost output = { λ error. Some (replacement_message error) };
+
     fn fmt<W: fmt::Write>(&self, f: &mut fmt::Formatter<W>) -> fmt::Result {
         match self {
             ReplaceError::WrongLength => f.write_str("the bytes are not as many as the text's"),

@@ -1,8 +1,11 @@
-//! Laws of places and sizes, for callers: a call of one, which does nothing, makes its clauses
-//! known to the proof of the function that calls it.
-ghost use Rattle.std.specs.Prelude.{◌≡◌, ℕ, ◌+◌, ◌≤◌, List, ◌++◌, [], ◌∷◌, length, take, drop, IsUtf8};
+//! Laws of places, sizes and values, for callers: a call of one, which does nothing, makes its
+//! clauses known to the proof of the function that calls it.
+ghost use Rattle.std.specs.Prelude.{◌≡◌, ◌↔◌, Some, codes, ℕ, ◌+◌, ◌≤◌, List, ◌++◌, [], ◌∷◌, length, take, drop, IsUtf8};
 ghost use Rattle.std.specs.Str.{chars, IsCharBoundary};
 ghost use Rattle.inlinable_string.specs.Text.{bytes_of, size, IsCut, IsPlace, IsSplice, IsRemoval};
+
+use crate::inline_string::{InlineStringN, NotEnoughSpaceError, ReplaceError};
+use std::fmt;
 
 /// A place is at most the length, and a boundary of the bytes.
 pub fn places_are_boundaries()
@@ -36,4 +39,21 @@ pub fn splices_at_the_ends()
 pub fn cuts_are_cuts_of_bytes()
     ensures { (t bs a b : List ℕ) (p : ℕ) → IsCut t p a b → IsUtf8 bs → bs ≡ bytes_of t
         → (a ≡ chars (take p bs)) × (b ≡ chars (drop p bs)) }
+{}
+
+/// `Default` makes the empty text.
+pub fn default_is_the_empty_text<const N: usize>()
+    ensures { (text : List ℕ)
+        → ⟦<InlineStringN<N> as Default>⟧.is_default text ↔ (text ≡ []) }
+{}
+
+/// What the errors print.
+pub fn errors_print_their_reason()
+    ensures full { (error : NotEnoughSpaceError)
+        → ⟦<NotEnoughSpaceError as fmt::Display>⟧.output error
+        ≡ Some (codes "the text does not fit") }
+    ensures wrong_length { ⟦<ReplaceError as fmt::Display>⟧.output ReplaceError.WrongLength
+        ≡ Some (codes "the bytes are not as many as the text's") }
+    ensures not_utf8 { ⟦<ReplaceError as fmt::Display>⟧.output ReplaceError.NotUtf8
+        ≡ Some (codes "the bytes are not UTF-8") }
 {}

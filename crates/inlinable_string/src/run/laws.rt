@@ -150,10 +150,12 @@ pub fn refusals_change_nothing()
 pub fn short_runs_never_ask()
     ensures replies { (s : TextState) (commands : List Command) (replies : List Reply)
         → IsLawful s → s.storage ≡ Storage.Inline
-        → StaysWithin s.policy.limit s.text commands → LegalReplies s commands replies → ¬ Contains replies Reply.NoMemory }
+        → StaysWithin s.policy.limit s.text commands → LegalReplies s commands replies
+        → ¬ Contains replies Reply.NoMemory }
     ensures storage { (s : TextState) (commands : List Command) (replies : List Reply)
         → IsLawful s → s.storage ≡ Storage.Inline
-        → StaysWithin s.policy.limit s.text commands → LegalReplies s commands replies → storage_after s commands replies ≡ Storage.Inline }
+        → StaysWithin s.policy.limit s.text commands → LegalReplies s commands replies
+        → storage_after s commands replies ≡ Storage.Inline }
 {}
 
 /// Reserved pushes never fail: pushes directly after a reservation that was carried out, or at the
