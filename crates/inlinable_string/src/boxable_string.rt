@@ -1,4 +1,4 @@
-//! The text of the usual limit, as an owned `dyn` text needs it.
+//! `InlinableString` in a type that can go into a `Box<dyn StringExt + Drop>`.
 ghost use Rattle.inlinable_string.specs.Values.{boxable_state};
 
 use crate::InlinableString;
@@ -8,8 +8,9 @@ use std::alloc::AllocError;
 
 /// An [`InlinableString`] in a type without a parameter.
 ///
-/// Today a `Box<dyn StringExt + Drop>` can't be made of a type that has a const parameter, so an
-/// inline-or-heap text goes into a box inside of this. Each call is that of the text.
+/// For a type with a const parameter the toolchain has no proof of its own that a
+/// `Box<dyn StringExt + Drop>` is made of it, and asks for one by hand in each crate that does so.
+/// Inside of this struct the text goes into a box without one. Each call is that of the text.
 #[derive(Drop)]
 pub struct BoxableString(pub InlinableString);
 

@@ -11,7 +11,7 @@ use crate::inline_string::{INLINE_STRING_CAPACITY, InlineStringN, ReplaceError};
 use crate::string_ext::{Storage, StringExt, StringMake};
 use std::alloc::{AllocError, Global};
 
-/// The text of the usual limit.
+/// An [`InlinableStringN`] of 30 bytes inline, the capacity of the Rust crate.
 pub type InlinableString = InlinableStringN<INLINE_STRING_CAPACITY>;
 
 /// A UTF-8 text of any length: in the value itself, or on the heap once a growth has passed `N`
@@ -86,6 +86,8 @@ fn spliced(
     Ok(made)
 }
 
+// The heap arms call the trait's methods: their contracts speak of characters, and those that
+// `String` has of its own speak of bytes.
 impl<const N: usize> StringExt for InlinableStringN<N> {
     ghost state = { inlinable_state N };
 
@@ -209,6 +211,7 @@ impl<const N: usize> StringExt for InlinableStringN<N> {
     }
 
     fn capacity(&self) -> usize {
+        // Only `len` tells the laws of the value.
         let _ = self.len();
         match self {
             InlinableStringN::Heap(text, _) => StringExt::capacity(text),
@@ -217,6 +220,7 @@ impl<const N: usize> StringExt for InlinableStringN<N> {
     }
 
     fn storage(&self) -> Storage {
+        // Only `len` tells the laws of the value.
         let _ = self.len();
         match self {
             InlinableStringN::Heap(_, _) => Storage::Heap,

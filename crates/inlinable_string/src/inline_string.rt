@@ -18,7 +18,7 @@ mod tests;
 /// How many bytes an [`InlineString`] has at most, as in the crate `inlinable_string`.
 pub const INLINE_STRING_CAPACITY: usize = 30;
 
-/// The text of the usual limit.
+/// An [`InlineStringN`] of 30 bytes, the capacity of the Rust crate.
 pub type InlineString = InlineStringN<INLINE_STRING_CAPACITY>;
 
 /// The text would have more bytes than its limit. It was left as it was.
@@ -57,8 +57,8 @@ impl fmt::Display for ReplaceError {
     }
 }
 
-/// A UTF-8 text of at most `N` bytes, which lie in the value itself. A contract sees the list of
-/// its characters.
+/// An owned text whose UTF-8 lies in `N` bytes of the value, so that no call asks for memory. A
+/// contract sees the list of its characters.
 // The text is the `len` bytes from `start` on, so that an edit near the front moves few bytes.
 #[derive(Drop)]
 pub struct InlineStringN<const N: usize> {
@@ -102,7 +102,7 @@ impl<const N: usize> InlineStringN<N> {
         text
     }
 
-    /// Adds a character at the end. It is refused exactly where the text would have more than `N`
+    /// Appends `ch`. Fails, and changes nothing, exactly where the result would have more than `N`
     /// bytes.
     pub fn push(&mut self, ch: char) -> Result<(), NotEnoughSpaceError>
         ensures fits { MatchResult result
@@ -125,7 +125,8 @@ impl<const N: usize> InlineStringN<N> {
         self.push_str(ch.encode_utf8(&mut buffer))
     }
 
-    /// Adds a text at the end. It is refused exactly where the text would have more than `N` bytes.
+    /// Appends `string`. Fails, and changes nothing, exactly where the result would have more than
+    /// `N` bytes.
     pub fn push_str(&mut self, string: &str) -> Result<(), NotEnoughSpaceError>
         ensures fits { MatchResult result
             (λ _. size self.old + length string.now ≤ N)
@@ -152,8 +153,9 @@ impl<const N: usize> InlineStringN<N> {
         Ok(())
     }
 
-    /// Puts a character in at `idx`, a byte offset, which must be a place of the text. It is refused
-    /// exactly where the text would have more than `N` bytes.
+    /// Inserts `ch` at byte `idx`, which must be a character boundary of the text
+    /// (`is_char_boundary`). Fails, and changes nothing, exactly where the result would have more
+    /// than `N` bytes.
     pub fn insert(&mut self, idx: usize, ch: char) -> Result<(), NotEnoughSpaceError>
         requires { IsPlace self.old idx }
         ensures fits { MatchResult result
@@ -182,8 +184,9 @@ impl<const N: usize> InlineStringN<N> {
         self.insert_str(idx, ch.encode_utf8(&mut buffer))
     }
 
-    /// Puts a text in at `idx`, a byte offset, which must be a place of the text. It is refused
-    /// exactly where the text would have more than `N` bytes.
+    /// Inserts `string` at byte `idx`, which must be a character boundary of the text
+    /// (`is_char_boundary`). Fails, and changes nothing, exactly where the result would have more
+    /// than `N` bytes.
     pub fn insert_str(&mut self, idx: usize, string: &str) -> Result<(), NotEnoughSpaceError>
         requires place { IsPlace self.old idx }
         ensures fits { MatchResult result
@@ -214,7 +217,8 @@ impl<const N: usize> InlineStringN<N> {
         Ok(())
     }
 
-    /// Keeps the text before `new_len`, a byte offset, which must be a place of the text.
+    /// Keeps the first `new_len` bytes. They must end at a character boundary of the text
+    /// (`is_char_boundary`).
     pub fn truncate(&mut self, new_len: usize)
         requires { IsPlace self.old new_len }
         ensures text { (rest : List ℕ) × IsCut self.old new_len self.new rest }
@@ -224,7 +228,7 @@ impl<const N: usize> InlineStringN<N> {
         self.len = new_len;
     }
 
-    /// Takes off the last character; `None` where the text is empty.
+    /// Removes and returns the last character; `None` where the text is empty.
     pub fn pop(&mut self) -> Option<char>
         ensures text { MatchOption result
             ((self.old ≡ []) × (self.new ≡ []))
@@ -240,8 +244,8 @@ impl<const N: usize> InlineStringN<N> {
         Some(last)
     }
 
-    /// Takes out the character that begins at `idx`, a byte offset, which must be a place of the text
-    /// before its end.
+    /// Removes and returns the character that begins at byte `idx`, which must be a character
+    /// boundary of the text before its end.
     pub fn remove(&mut self, idx: usize) -> char
         requires place { IsPlace self.old idx }
         requires below { idx < size self.old }
@@ -257,15 +261,15 @@ impl<const N: usize> InlineStringN<N> {
         ch
     }
 
-    /// Leaves the empty text.
+    /// Empties the text.
     pub fn clear(&mut self)
         ensures { self.new ≡ [] }
     {
         self.len = 0;
     }
 
-    /// Puts bytes in the place of those of the text, as many as it has. The number is tested first,
-    /// then whether the bytes are UTF-8.
+    /// Overwrites the text with `bytes`, which must be as many as the text has, and UTF-8. Their
+    /// number is tested first. A refusal changes nothing.
     pub fn replace_bytes(&mut self, bytes: &[u8]) -> Result<(), ReplaceError>
         ensures ok { OnOk result (bytes_of self.new ≡ bytes.now) }
         ensures err { OnErr result (self.new ≡ self.old) }
@@ -305,8 +309,9 @@ impl<const N: usize> InlineStringN<N> {
         self.len() == 0
     }
 
-    /// Whether `idx` is a place of the text: 0, its length, or the first byte of a character. It is
-    /// the test for `insert`, `insert_str`, `truncate`, and where `idx < len()` for `remove`.
+    /// Whether byte `idx` is a character boundary of the text: 0, its length, or the first byte of a
+    /// character. It is the test for the condition of `insert`, `insert_str`, `truncate`, and where
+    /// `idx < len()` of `remove`.
     pub fn is_char_boundary(&self, idx: usize) -> bool
         ensures { IsTrue result ↔ IsPlace self.now idx }
     {
@@ -330,7 +335,7 @@ impl<const N: usize> InlineStringN<N> {
         bytes
     }
 
-    /// The text. Its boundaries are the places.
+    /// The text as a `str`. Its character boundaries are those of the text.
     pub fn as_str(&self) -> &str
         ensures value { result.now ≡ bytes_of self.now }
         ensures text { chars result.now ≡ self.now }

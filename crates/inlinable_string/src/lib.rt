@@ -1,8 +1,7 @@
-//! Short texts without memory: UTF-8 text that lies in the value itself while it is short, and on
-//! the heap else.
+//! Strings that keep a short text in the value itself, and move to the heap when it outgrows that.
 //!
 //! - [`InlineStringN`] has at most `N` bytes and never asks for memory.
-//! - [`InlinableStringN`] goes to the heap where it outgrows `N` bytes.
+//! - [`InlinableStringN`] moves to the heap when it outgrows `N` bytes.
 //! - [`StringExt`] and [`StringMake`] are implemented by it and by std's `String`, so that code can
 //!   be written once for both.
 //! - [`run`] gives lists of commands to any text.

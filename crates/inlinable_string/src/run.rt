@@ -27,26 +27,27 @@ pub use laws::{
 };
 pub use over_dyn::run_dyn;
 
-/// What can be asked of a text. A place is a byte offset: of a character's first byte, or the end.
+/// What can be asked of a text. A place is a byte offset; one that is no character boundary is
+/// answered `BadPlace`.
 #[derive(Clone, Copy)]
 pub enum Command<'a> {
-    /// Adds a character at the end.
+    /// Appends a character.
     Push(char),
-    /// Adds a text at the end.
+    /// Appends a text.
     PushStr(&'a str),
-    /// Puts a character in at a place.
+    /// Inserts a character at a place.
     Insert(usize, char),
-    /// Puts a text in at a place.
+    /// Inserts a text at a place.
     InsertStr(usize, &'a str),
     /// Keeps the text before a place.
     Truncate(usize),
-    /// Takes off the last character.
+    /// Removes the last character.
     Pop,
-    /// Takes out the character that begins at a place.
+    /// Removes the character that begins at a place.
     Remove(usize),
-    /// Leaves the empty text.
+    /// Empties the text.
     Clear,
-    /// Puts bytes in the place of those of the text, as many as it has.
+    /// Overwrites the text with bytes, which must be as many as it has, and UTF-8.
     ReplaceBytes(&'a [u8]),
     /// Makes room for so many bytes more.
     Reserve(usize),
@@ -62,9 +63,9 @@ pub enum Command<'a> {
 pub enum Reply {
     /// The command was carried out.
     Done,
-    /// This character was taken off or out.
+    /// This character was removed.
     Char(char),
-    /// The text was empty, so no character was taken off.
+    /// The text was empty, so no character was removed.
     NoChar,
     /// The place is inside a character or past the end, or no character begins there.
     BadPlace,
@@ -77,7 +78,8 @@ pub enum Reply {
 }
 
 /// What a command does to a text, of a type of its own or behind a `dyn`. A place is tested before
-/// anything that can ask for memory.
+/// anything that can ask for memory. Two arms go by functions, since a `&str` out of a variant is
+/// known to be text only as an argument.
 macro_rules! obeyed {
     ($text:ident, $command:ident, $push_str:ident, $insert_str:ident) => {
         match $command {

@@ -27,7 +27,7 @@ pub trait StringExt {
     /// What a contract sees of the value.
     ghost state: { Self → TextState };
 
-    /// Adds a character at the end.
+    /// Appends `ch`.
     ///
     /// It is not refused where the text has room for it, be it on the heap or inline.
     fn push(&mut self, ch: char) -> Result<(), AllocError>
@@ -46,7 +46,7 @@ pub trait StringExt {
         ensures room { OnOk result ((state self.old).capacity ≤ (state self.new).capacity) }
         ensures policy { (state self.new).policy ≡ (state self.old).policy };
 
-    /// Adds a text at the end.
+    /// Appends `string`.
     ///
     /// It is not refused where the text has room for it, be it on the heap or inline.
     fn push_str(&mut self, string: &str) -> Result<(), AllocError>
@@ -64,7 +64,8 @@ pub trait StringExt {
         ensures room { OnOk result ((state self.old).capacity ≤ (state self.new).capacity) }
         ensures policy { (state self.new).policy ≡ (state self.old).policy };
 
-    /// Puts a character in at `idx`, which must be a place of the text.
+    /// Inserts `ch` at byte `idx`, which must be a character boundary of the text
+    /// (`is_char_boundary`).
     ///
     /// It is not refused where the text lies inline and the result has room there.
     fn insert(&mut self, idx: usize, ch: char) -> Result<(), AllocError>
@@ -84,7 +85,8 @@ pub trait StringExt {
         ensures within { idx ≤ size (state self.old).text }
         ensures behind { OnOk result (IsPlace (state self.new).text (idx + size (ch ∷ []))) };
 
-    /// Puts a text in at `idx`, which must be a place of the text.
+    /// Inserts `string` at byte `idx`, which must be a character boundary of the text
+    /// (`is_char_boundary`).
     ///
     /// It is not refused where the text lies inline and the result has room there.
     fn insert_str(&mut self, idx: usize, string: &str) -> Result<(), AllocError>
@@ -138,8 +140,8 @@ pub trait StringExt {
             → size (state self.old).text ≤ (state self.old).policy.limit → IsOk result }
         ensures policy { (state self.new).policy ≡ (state self.old).policy };
 
-    /// Keeps the text before `new_len`, which must be a place of the text:
-    /// `is_char_boundary(new_len)` tells. It stays where it lies.
+    /// Keeps the first `new_len` bytes. They must end at a character boundary of the text
+    /// (`is_char_boundary`). It stays where it lies.
     fn truncate(&mut self, new_len: usize)
         requires { IsPlace (state self.old).text new_len }
         ensures text { (rest : List ℕ)
@@ -150,7 +152,8 @@ pub trait StringExt {
         ensures back { (state self.old).text
             ≡ (state self.new).text ++ chars (drop new_len (bytes_of (state self.old).text)) };
 
-    /// Takes off the last character; `None` where the text is empty. It stays where it lies.
+    /// Removes and returns the last character; `None` where the text is empty. It stays where it
+    /// lies.
     fn pop(&mut self) -> Option<char>
         ensures text { MatchOption result
             (((state self.old).text ≡ []) × ((state self.new).text ≡ []))
@@ -161,8 +164,8 @@ pub trait StringExt {
         ensures storage { (state self.new).storage ≡ (state self.old).storage }
         ensures policy { (state self.new).policy ≡ (state self.old).policy };
 
-    /// Takes out the character that begins at `idx`, which must be a place of the text before its
-    /// end. It stays where it lies.
+    /// Removes and returns the character that begins at byte `idx`, which must be a character
+    /// boundary of the text before its end. It stays where it lies.
     fn remove(&mut self, idx: usize) -> char
         requires place { IsPlace (state self.old).text idx }
         requires below { idx < size (state self.old).text }
@@ -172,7 +175,7 @@ pub trait StringExt {
         ensures policy { (state self.new).policy ≡ (state self.old).policy }
         ensures at { IsPlace (state self.new).text idx };
 
-    /// Leaves the empty text, where it lies.
+    /// Empties the text. It stays inline or on the heap.
     fn clear(&mut self)
         ensures text { (state self.new).text ≡ [] }
         ensures storage { (state self.new).storage ≡ (state self.old).storage }
@@ -181,8 +184,9 @@ pub trait StringExt {
         self.truncate(0);
     }
 
-    /// Puts bytes in the place of those of the text, as many as it has. The number is tested first,
-    /// then whether the bytes are UTF-8. It takes no memory, and stays where it lies.
+    /// Overwrites the text with `bytes`, which must be as many as the text has, and UTF-8. Their
+    /// number is tested first. A refusal changes nothing. It takes no memory, and the text stays where
+    /// it lies.
     fn replace_bytes(&mut self, bytes: &[u8]) -> Result<(), ReplaceError>
         ensures text { OnOk result (bytes_of (state self.new).text ≡ bytes.now) }
         ensures err { OnErr result (IsSameText (state self.old) (state self.new)) }
@@ -197,7 +201,7 @@ pub trait StringExt {
         ensures storage { (state self.new).storage ≡ (state self.old).storage }
         ensures policy { (state self.new).policy ≡ (state self.old).policy };
 
-    /// How many bytes the text can have where it lies.
+    /// How many bytes have room where the text lies, its own included.
     fn capacity(&self) -> usize
         ensures value { result ≡ (state self.now).capacity }
         ensures laws { IsLawful (state self.now) };
@@ -220,8 +224,9 @@ pub trait StringExt {
         self.len() == 0
     }
 
-    /// Whether `idx` is a place of the text: 0, its length, or the first byte of a character. It is
-    /// the test for `insert`, `insert_str`, `truncate`, and where `idx < len()` for `remove`.
+    /// Whether byte `idx` is a character boundary of the text: 0, its length, or the first byte of a
+    /// character. It is the test for the condition of `insert`, `insert_str`, `truncate`, and where
+    /// `idx < len()` of `remove`.
     fn is_char_boundary(&self, idx: usize) -> bool
         ensures { IsTrue result ↔ IsPlace (state self.now).text idx }
     {
@@ -232,7 +237,7 @@ pub trait StringExt {
     fn as_bytes(&self) -> &[u8]
         ensures { result.now ≡ bytes_of (state self.now).text };
 
-    /// The text. Its boundaries are the places.
+    /// The text as a `str`. Its character boundaries are those of the text.
     fn as_str(&self) -> &str
         ensures bytes { result.now ≡ bytes_of (state self.now).text }
         ensures text { chars result.now ≡ (state self.now).text }
