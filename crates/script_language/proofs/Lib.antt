@@ -1,5 +1,6 @@
 mod Pieces
 mod Cuts
+mod HexTexts
 mod Lines
 mod OneCommand
 mod Scripts

@@ -1,13 +1,13 @@
 -- A line asks for one command at most.
-use Rattle.std.proofs.Common.{◌≡◌, refl, sym, ap, subst, ◌∙◌, ℕ, ◌==◌, List, [], ◌∷◌, ◌++◌, ◌⊎◌, inl, inr, length, slice_index, if◌then◌else◌}
-use Rattle.std.specs.Prelude.{Ok}
+use Rattle.std.proofs.Common.{arith, map, ◌≡◌, refl, sym, ap, subst, ◌∙◌, ℕ, ◌==◌, List, [], ◌∷◌, ◌++◌, ◌⊎◌, inl, inr, length, slice_index, if◌then◌else◌}
 use Rattle.std.proofs.lemmas.Str.{IsUtf8-encode}
+use Rattle.std.specs.Simd.{first_chunks}
 use Rattle.std.specs.Str.{IsUtf8}
-use Rattle.hex.specs.Hex.{decode_of}
+use Rattle.std.specs.Str.Parse.{digits_value}
 use Rattle.inlinable_string.proofs.Window.{chars_one}
 use Rattle.inlinable_string.specs.declared.run.Command.{Command}
 use Rattle.inlinable_string.specs.declared.run.Command.TheVariants.{Push, PushStr, Insert, InsertStr, Truncate, Pop, Remove, Clear, ReplaceBytes, Reserve, ReserveExact, ShrinkToFit}
-use Rattle.script_language.specs.Line.{arguments_of, IsCharText, IsFirstCut, IsLine, IsNumberText, IsTail, space, word_of}
+use Rattle.script_language.specs.Line.{arguments_of, IsCharText, IsFirstCut, IsHexText, IsLine, IsNumberText, IsTail, space, word_of}
 use Rattle.script_language.proofs.Cuts.{digits_lack_space, same_cut}
 use Rattle.std.specs.Str.Iter.{LacksByte}
 use Rattle.std.proofs.lemmas.List.{append-nil}
@@ -80,7 +80,7 @@ Reads number_and_text tail args = (n : ℕ) × (digits : List ℕ) × (behind : 
     × (tail ≡ space ∷ digits ++ space ∷ behind) × IsNumberText digits n
     × (args ≡ (n ∷ []) ∷ behind ∷ [])
 Reads bytes tail args = (digits : List ℕ) × (bs : List ℕ)
-    × (tail ≡ space ∷ digits) × (decode_of digits ≡ Ok bs) × (args ≡ bs ∷ [])
+    × (tail ≡ space ∷ digits) × IsHexText digits bs × (args ≡ bs ∷ [])
 
 reads : (command : Command) (tail : List ℕ) → IsTail command tail
     → Reads (form_of command) tail (arguments_of command)
@@ -92,7 +92,7 @@ reads (Truncate place) tail (digits, at, written) = (place, digits, at, written,
 reads Pop tail none = refl
 reads (Remove place) tail (digits, at, written) = (place, digits, at, written, refl)
 reads Clear tail none = refl
-reads (ReplaceBytes bs) tail (digits, at, decoded) = (digits, bs.now, at, decoded, refl)
+reads (ReplaceBytes bs) tail (digits, at, written) = (digits, bs.now, at, written, refl)
 reads (Reserve n) tail (digits, at, written) = (n, digits, at, written, refl)
 reads (ReserveExact n) tail (digits, at, written) = (n, digits, at, written, refl)
 reads ShrinkToFit tail none = refl
@@ -104,6 +104,14 @@ one_char bs c d char other =
 
 one_number : (bs : List ℕ) (m n : ℕ) → IsNumberText bs m → IsNumberText bs n → m ≡ n
 one_number bs m n written other = written.value ∙ sym other.value
+
+-- as many digits are written for as many bytes, and for these bytes
+one_hex_text : (digits bs cs : List ℕ) → IsHexText digits bs → IsHexText digits cs → bs ≡ cs
+one_hex_text digits bs cs written other =
+    let same : length bs ≡ length cs = omega (arith, written.pairs, other.pairs) in
+    written.values
+    ∙ ap (λ n. map (digits_value 16) (first_chunks 2 n digits)) same
+    ∙ sym other.values
 
 -- a form reads one list of arguments
 one_reading : (form : Form) (tail : List ℕ) (args others : List (List ℕ))
@@ -132,10 +140,9 @@ one_reading number_and_text tail args others (m, digits, behind, at, written, is
     ∙ ap (λ k. (k ∷ []) ∷ behind ∷ []) (one_number digits m n written (subst (λ b. IsNumberText b n) cuts.0 written'))
     ∙ ap (λ b. (n ∷ []) ∷ b ∷ []) (sym cuts.1)
     ∙ sym are
-one_reading bytes tail args others (digits, bs, at, decoded, is) (digits', bs', at', decoded', are) =
-    let same : digits ≡ digits' = search (sym at ∙ at') in
-    let equal : bs ≡ bs' = search (sym decoded ∙ ap decode_of same ∙ decoded') in
-    is ∙ ap (λ b. b ∷ []) equal ∙ sym are
+one_reading bytes tail args others (digits, bs, at, written, is) (digits', bs', at', written', are) =
+    let same : digits' ≡ digits = search (sym at' ∙ at) in
+    is ∙ ap (λ b. b ∷ []) (one_hex_text digits bs bs' written (subst (λ d. IsHexText d bs') same written')) ∙ sym are
 
 -- two commands with one word and one tail behind it have the same arguments
 same_arguments : (tail : List ℕ) (one other : Command) → word_of one ≡ word_of other

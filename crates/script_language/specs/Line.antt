@@ -1,9 +1,9 @@
 -- What a line and its parts are written as.
-use Rattle.std.specs.Prelude.{◌≡◌, ℕ, ◌≤◌, ◌<◌, ◌^◌, List, [], ◌∷◌, ◌++◌, length, codes, encode_utf8, Ok}
+use Rattle.std.specs.Prelude.{◌≡◌, ℕ, ◌*◌, ◌≤◌, ◌<◌, ◌^◌, List, [], ◌∷◌, ◌++◌, length, codes, encode_utf8, map}
 use Rattle.std.specs.Char.{IsScalar}
 use Rattle.std.specs.Str.Iter.{LacksByte}
-use Rattle.std.specs.Str.Parse.{IsNumeral, digits_value}
-use Rattle.hex.specs.Hex.{decode_of}
+use Rattle.std.specs.Simd.{first_chunks}
+use Rattle.std.specs.Str.Parse.{AllDigits, IsNumeral, digits_value}
 use Rattle.inlinable_string.specs.declared.run.Command.{Command}
 use Rattle.inlinable_string.specs.declared.run.Command.TheVariants.{Push, PushStr, Insert, InsertStr, Truncate, Pop, Remove, Clear, ReplaceBytes, Reserve, ReserveExact, ShrinkToFit}
 
@@ -27,6 +27,12 @@ pub record IsNumberText (digits : List ℕ) (number : ℕ) : Type 0 where
 pub record IsCharText (text : List ℕ) (c : ℕ) : Type 0 where
   pub scalar : IsScalar c
   pub encoded : text ≡ encode_utf8 c
+
+-- the digits are hexadecimal, two for each byte, which is the number that they write
+pub record IsHexText (digits bytes : List ℕ) : Type 0 where
+  pub hexadecimal : AllDigits 16 digits
+  pub pairs : length digits ≡ 2 * length bytes
+  pub values : bytes ≡ map (digits_value 16) (first_chunks 2 (length bytes) digits)
 
 -- the word that a command's line begins with
 abbrev pub word_of : Command → List ℕ
@@ -76,7 +82,7 @@ IsTail Pop tail = tail ≡ []
 IsTail (Remove place) tail = IsNumberTail place tail
 IsTail Clear tail = tail ≡ []
 IsTail (ReplaceBytes bytes) tail =
-    (digits : List ℕ) × (tail ≡ space ∷ digits) × (decode_of digits ≡ Ok bytes.now)
+    (digits : List ℕ) × (tail ≡ space ∷ digits) × IsHexText digits bytes.now
 IsTail (Reserve n) tail = IsNumberTail n tail
 IsTail (ReserveExact n) tail = IsNumberTail n tail
 IsTail ShrinkToFit tail = tail ≡ []

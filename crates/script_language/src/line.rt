@@ -1,8 +1,9 @@
 //! One line of a script, as the command that it asks for.
-ghost use Rattle.std.specs.Prelude.{◌≡◌, ◌≢◌, ℕ, ◌+◌, ◌≤◌, ◌∷◌, ◌++◌, List, [], IfNone, IfSome, IsErr, Ok, codes, length};
-ghost use Rattle.hex.specs.Hex.{decode_of};
+ghost use Rattle.std.specs.Prelude.{◌≡◌, ◌≢◌, ℕ, ◌+◌, ◌≤◌, ◌∷◌, ◌++◌, List, [], IfNone, IfSome, codes, length};
+ghost use Rattle.std.specs.Option.{SomeIff};
+ghost use Rattle.std.specs.Str.Parse.{AllDigits, digits_value};
 ghost use Rattle.inlinable_string.specs.declared.run.Command.{Command};
-ghost use Rattle.script_language.specs.Line.{arguments_of, IsCharText, IsLine, IsNumberText, IsTail, space, word_of};
+ghost use Rattle.script_language.specs.Line.{arguments_of, IsCharText, IsHexText, IsLine, IsNumberText, IsTail, space, word_of};
 
 use crate::cut::cut_at;
 use inlinable_string::run::Command;
@@ -25,7 +26,7 @@ pub fn command_of<'a>(line: &'a str, room: &'a mut [u8]) -> Option<(Command<'a>,
         None => Some((command_alone(line)?, room)),
         Some((word, rest)) => match word {
             "replace_bytes" => {
-                let (bytes, left) = bytes_of(rest, room)?;
+                let (bytes, left) = bytes_from_digits(rest, room)?;
                 Some((Command::ReplaceBytes(bytes), left))
             }
             _ => Some((command_with(word, rest)?, room)),
@@ -112,14 +113,30 @@ fn char_of(text: &str) -> Option<char>
 }
 
 /// The bytes that pairs of digits are written for, at the front of the room, and the room left.
-fn bytes_of<'a>(digits: &str, room: &'a mut [u8]) -> Option<(&'a [u8], &'a mut [u8])>
+fn bytes_from_digits<'a>(digits: &str, room: &'a mut [u8]) -> Option<(&'a [u8], &'a mut [u8])>
     requires room { length digits.now ≤ length room.old }
-    ensures some { IfSome result (λ found. decode_of digits.now ≡ Ok found.0.now) }
-    ensures none { IfNone result (IsErr (decode_of digits.now)) }
+    ensures some { IfSome result (λ found. IsHexText digits.now found.0.now) }
+    ensures none { IfNone result ((bytes : List ℕ) → ¬ (IsHexText digits.now bytes)) }
     ensures left { IfSome result (λ found.
         length room.old ≤ length found.1.now + length digits.now) }
 {
-    let (bytes, left) = room.split_at_mut(digits.len() / 2);
-    hex::decode_to_slice(digits, bytes).ok()?;
+    let (pairs, odd) = digits.as_bytes().as_chunks::<2>();
+    if !odd.is_empty() {
+        return None;
+    }
+    let (bytes, left) = room.split_at_mut(pairs.len());
+    for (index, pair) in pairs.iter().enumerate() {
+        bytes[index] = byte_from_digits(*pair)?;
+    }
     Some((bytes, left))
+}
+
+/// The byte that two hexadecimal digits are written for.
+fn byte_from_digits(digits: [u8; 2]) -> Option<u8>
+    ensures { SomeIff result (AllDigits 16 digits) (digits_value 16 digits) }
+{
+    let [high, low] = digits;
+    let high = char::from(high).to_digit(16)?;
+    let low = char::from(low).to_digit(16)?;
+    Some((16 * high + low) as u8)
 }
