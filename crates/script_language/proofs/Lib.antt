@@ -1,5 +1,6 @@
 mod Pieces
 mod Cuts
+mod Decimals
 mod HexTexts
 mod Lines
 mod OneCommand

@@ -1,13 +1,15 @@
 //! Prints what a run gave. It takes no memory.
-ghost use Rattle.std.specs.Prelude.{◌≡◌, IfErr, OnOk};
+ghost use Rattle.std.specs.Prelude.{◌≡◌, IfErr, OnOk, decimal};
 ghost use Rattle.std.specs.Io.KnownBytes.{Appends};
 ghost use Rattle.script_language.specs.Output.{labelled_line, printed, reply_line, storage_name, WritesFront};
 
 use crate::fault::ScriptFault;
 use inlinable_string::run::Reply;
 use inlinable_string::{Storage, StringExt};
-use itoa::Buffer;
 use std::io::Write;
+
+/// The most digits that a length has.
+const LENGTH_DIGITS: usize = 20;
 
 /// Prints a line for each reply, and then the text, its length and its storage.
 pub fn print<S: StringExt, W: Write>(
@@ -25,8 +27,8 @@ pub fn print<S: StringExt, W: Write>(
         print_reply(out, *reply)?;
     }
     print_line(out, b"text ", text.as_bytes())?;
-    let mut digits = Buffer::new();
-    print_line(out, b"length ", digits.format(text.len()).as_bytes())?;
+    let mut room = [0; LENGTH_DIGITS];
+    print_line(out, b"length ", decimal_digits(text.len(), &mut room))?;
     print_line(out, b"storage ", storage_name(text.storage()))
 }
 
@@ -49,6 +51,21 @@ fn print_reply<W: Write>(out: &mut W, reply: Reply) -> Result<(), ScriptFault>
         Reply::WrongLength => write_whole(out, b"wrong length\n"),
         Reply::NoMemory => write_whole(out, b"no memory\n"),
     }
+}
+
+/// The digits of a number, which are put at the end of the room.
+fn decimal_digits(number: usize, room: &mut [u8; LENGTH_DIGITS]) -> &[u8]
+    ensures { result.now ≡ decimal number }
+{
+    let mut rest = number;
+    let mut start = LENGTH_DIGITS - 1;
+    while rest >= 10 {
+        room[start] = b'0' + (rest % 10) as u8;
+        start -= 1;
+        rest /= 10;
+    }
+    room[start] = b'0' + rest as u8;
+    &room[start..]
 }
 
 fn storage_name(storage: Storage) -> &'static [u8]
@@ -78,7 +95,8 @@ fn print_line<W: Write>(out: &mut W, label: &[u8], value: &[u8]) -> Result<(), S
 /// writing ends.
 fn write_whole<W: Write>(out: &mut W, bytes: &[u8]) -> Result<(), ScriptFault>
     ensures written { OnOk result (Appends (W.contents out.old) (W.contents out.new) bytes.now) }
-    ensures part { IfErr result (λ _. WritesFront (W.contents out.old) (W.contents out.new) bytes.now) }
+    ensures part { IfErr result (λ _. WritesFront (W.contents out.old) (W.contents out.new)
+        bytes.now) }
     ensures fault { IfErr result (λ fault. fault ≡ ScriptFault.Write) }
 {
     let mut rest = bytes;

@@ -42,10 +42,10 @@ returns-in_err-print_line-2-clause-part g c =
     let w = front_after _ _ _ _ _ before c.in_err-print_line-2.ensures.part in
     let whole : take i rs ≡ rs = take_all i rs (search rules) in
     let text : c.as_bytes.result.now ≡ bytes_of s.text = search rules in
-    let digits : c.as_bytes-2.result.now ≡ decimal (size s.text) = search rules in
-    let same = regroup (flat_map reply_line (take i rs)) first (labelled_line (codes "length ") c.as_bytes-2.result.now) last
-    ∙ ap (λ l. flat_map reply_line l ++ ((first ++ labelled_line (codes "length ") c.as_bytes-2.result.now) ++ last)) whole
-    ∙ ap (λ b. flat_map reply_line rs ++ ((labelled_line (codes "text ") b ++ labelled_line (codes "length ") c.as_bytes-2.result.now) ++ last)) text
+    let digits : c.decimal_digits.result.now ≡ decimal (size s.text) = search rules in
+    let same = regroup (flat_map reply_line (take i rs)) first (labelled_line (codes "length ") c.decimal_digits.result.now) last
+    ∙ ap (λ l. flat_map reply_line l ++ ((first ++ labelled_line (codes "length ") c.decimal_digits.result.now) ++ last)) whole
+    ∙ ap (λ b. flat_map reply_line rs ++ ((labelled_line (codes "text ") b ++ labelled_line (codes "length ") c.decimal_digits.result.now) ++ last)) text
     ∙ ap (λ b. flat_map reply_line rs ++ ((labelled_line (codes "text ") (bytes_of s.text) ++ labelled_line (codes "length ") b) ++ last)) digits in
     of_any_error _ _ (subst (WritesFront _ _) same (front_of_more _ _ _ last w))
 
@@ -55,12 +55,12 @@ returns-clause-part g c =
     let rs = c.args.replies.now in
     let i = c.loop-reply.reply-index in
     let first = labelled_line (codes "text ") c.as_bytes.result.now in
-    let second = labelled_line (codes "length ") c.as_bytes-2.result.now in
+    let second = labelled_line (codes "length ") c.decimal_digits.result.now in
     let two = Appends-trans _ _ _ _ _ c.loop-reply.invariant c.in_ok-print_line.ensures.written in
     let before = Appends-trans _ _ _ _ _ two c.in_ok-print_line-2.ensures.written in
     let whole : take i rs ≡ rs = take_all i rs (search rules) in
     let text : c.as_bytes.result.now ≡ bytes_of s.text = search rules in
-    let digits : c.as_bytes-2.result.now ≡ decimal (size s.text) = search rules in
+    let digits : c.decimal_digits.result.now ≡ decimal (size s.text) = search rules in
     let name : c.storage_name.result.now ≡ storage_name s.storage = search rules in
     let same = regroup (flat_map reply_line (take i rs)) first second (labelled_line (codes "storage ") c.storage_name.result.now)
     ∙ ap (λ l. flat_map reply_line l ++ ((first ++ second) ++ labelled_line (codes "storage ") c.storage_name.result.now)) whole
