@@ -126,7 +126,8 @@ fn run_from<W: Write>(
 ) -> Result<(), ScriptFault>
     ensures ran { OnOk result ((output : List ℕ) × PrintsFrom start commands.now output
         × Appends (W.contents out.old) (W.contents out.new) output) }
-    ensures part { result ≡ Err ScriptFault.Write → (output : List ℕ) × PrintsFrom start commands.now output
+    ensures part { result ≡ Err ScriptFault.Write → (output : List ℕ)
+        × PrintsFrom start commands.now output
         × WritesFront (W.contents out.old) (W.contents out.new) output }
     ensures fault { IfErr result (λ fault. (fault ≡ ScriptFault.NoMemory)
         ⊎ (fault ≡ ScriptFault.Write)) }
@@ -154,7 +155,8 @@ fn run_on<S: StringExt + Drop, W: Write>(
 ) -> Result<(), ScriptFault>
     ensures ran { OnOk result ((output : List ℕ) × Prints (S.state text) commands.now output
         × Appends (W.contents out.old) (W.contents out.new) output) }
-    ensures part { result ≡ Err ScriptFault.Write → (output : List ℕ) × Prints (S.state text) commands.now output
+    ensures part { result ≡ Err ScriptFault.Write → (output : List ℕ)
+        × Prints (S.state text) commands.now output
         × WritesFront (W.contents out.old) (W.contents out.new) output }
     ensures fault { IfErr result (λ fault. (fault ≡ ScriptFault.NoMemory)
         ⊎ (fault ≡ ScriptFault.Write)) }
