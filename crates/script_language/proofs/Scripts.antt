@@ -7,6 +7,7 @@ use Rattle.std.proofs.lemmas.List.Elements.{All-nil, All-cons}
 use Rattle.std.proofs.lemmas.List.Splits.{slice_split_none, slice_split_at}
 use Rattle.inlinable_string.specs.declared.run.Command.{Command}
 use Rattle.script_language.specs.Line.{IsFirstCut, IsLine}
+use Rattle.script_language.specs.declared.input.TheConstants.{MOST_BYTES}
 use Rattle.script_language.specs.Script.{AskFor, IsFirstBad, bytes_left, lines_left, lines_of}
 
 all-lack : (m : ℕ) (bytes : List ℕ) → LacksByte m bytes → All (λ b. (b == m) ≡ false) bytes
@@ -51,7 +52,7 @@ pub record IsReadTo (lines : List (List ℕ)) (rest : Option (Bor (List ℕ))) (
   pub asked : AskFor done commands
   pub counted : number ≡ length done + 1
   pub roomy : bytes_left rest ≤ 1 + room
-  pub bounded : number + bytes_left rest ≤ 65538
+  pub bounded : number + bytes_left rest ≤ MOST_BYTES + 2
 
 -- the first line of what is left, and what is left then
 pub record IsNextLine (rest more : Option (Bor (List ℕ))) (line : List ℕ) : Type 0 where

@@ -5,6 +5,7 @@ use Rattle.std.specs.Str.Iter.{LacksByte}
 use Rattle.std.specs.Simd.{first_chunks}
 use Rattle.std.specs.Str.Parse.{AllDigits, IsNumeral, digits_value}
 use Rattle.inlinable_string.specs.declared.run.Command.{Command}
+use Rattle.script_language.specs.declared.line.TheConstants.{MOST_DIGITS}
 use Rattle.inlinable_string.specs.declared.run.Command.TheVariants.{Push, PushStr, Insert, InsertStr, Truncate, Pop, Remove, Clear, ReplaceBytes, Reserve, ReserveExact, ShrinkToFit}
 
 -- the byte between a word and its argument, and between two arguments
@@ -16,10 +17,10 @@ pub record IsFirstCut (mark : ℕ) (text front behind : List ℕ) : Type 0 where
   pub joined : text ≡ front ++ mark ∷ behind
   pub first : LacksByte mark front
 
--- the digits are written for the number: at least one, at most twenty, and no sign
+-- the digits are written for the number: at least one, no more than a place may have, and no sign
 pub record IsNumberText (digits : List ℕ) (number : ℕ) : Type 0 where
   pub numeral : IsNumeral 10 digits
-  pub short : length digits ≤ 20
+  pub short : length digits ≤ MOST_DIGITS
   pub value : number ≡ digits_value 10 digits
   pub bounded : number < 2 ^ 64
 

@@ -8,16 +8,14 @@ use Rattle.std.specs.declared.string.String.{String}
 use Rattle.inlinable_string.specs.State.{Policy, TextState, storage_when_made}
 use Rattle.inlinable_string.specs.Values.{heap_policy, inlinable_policy}
 use Rattle.inlinable_string.specs.Run.{IsRun}
+use Rattle.inlinable_string.specs.declared.inline_string.TheConstants.{INLINE_STRING_CAPACITY}
 use Rattle.inlinable_string.specs.declared.run.Command.{Command}
 use Rattle.inlinable_string.specs.declared.run.Reply.{Reply}
 use Rattle.script_language.specs.Line.{IsLine}
 use Rattle.script_language.specs.Output.{printed}
+use Rattle.script_language.specs.declared.input.TheConstants.{MOST_BYTES}
 use Rattle.script_language.specs.declared.start.Start.{Start}
 use Rattle.script_language.specs.declared.start.Start.TheVariants as start
-
--- the most bytes that an input has
-abbrev pub most_bytes : ℕ
-most_bytes = 65536
 
 -- the argument word of a text
 abbrev pub word_of_start : Start → List ℕ
@@ -33,15 +31,15 @@ IsNamed words start = map string_bytes words ≡ word_of_start start ∷ []
 
 -- what decides where that text lies
 abbrev pub policy_of : Start → Policy
-policy_of start.Inline = inlinable_policy 30
+policy_of start.Inline = inlinable_policy INLINE_STRING_CAPACITY
 policy_of start.String = heap_policy
-policy_of start.Heap = inlinable_policy 30
+policy_of start.Heap = inlinable_policy INLINE_STRING_CAPACITY
 policy_of start.Inline0 = inlinable_policy 0
 policy_of start.Inline8 = inlinable_policy 8
 
 -- for how many bytes it is made, at the least
 abbrev pub room_of : Start → ℕ
-room_of start.Heap = 31
+room_of start.Heap = INLINE_STRING_CAPACITY + 1
 room_of other = 0
 
 -- the value is that text, as it is made
@@ -93,7 +91,7 @@ pub record PrintsFrom (start : Start) (commands : List Command) (output : List �
 pub record IsScript {Z : Type 0} (words : List (String Z)) (input output : List ℕ) : Type 0 where
   pub start : Start
   pub named : IsNamed words start
-  pub short : length input ≤ most_bytes
+  pub short : length input ≤ MOST_BYTES
   pub well_formed : IsUtf8 input
   pub commands : List Command
   pub asked : AskFor (lines_of input) commands

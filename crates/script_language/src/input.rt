@@ -1,6 +1,7 @@
 //! Reads a whole input, within a limit.
-ghost use Rattle.std.specs.Prelude.{ℕ, List, ◌≡◌, ◌⊎◌, ◌≤◌, ◌<◌, IfErr, IfOk, IfSome, take, length, vec_len};
+ghost use Rattle.std.specs.Prelude.{ℕ, List, ◌+◌, ◌≡◌, ◌⊎◌, ◌≤◌, ◌<◌, IfErr, IfOk, IfSome, take, length, vec_len};
 ghost use Rattle.std.specs.Io.KnownBytes.{Consumes, IsAtEnd};
+ghost use Rattle.script_language.specs.declared.input.TheConstants.{MOST_BYTES};
 
 use crate::fault::ScriptFault;
 use std::alloc::Global;
@@ -14,18 +15,18 @@ pub const MOST_BYTES: usize = 65_536;
 /// Its one request for memory comes before the first read. A longer input is read to its first
 /// byte past the limit, and no further.
 pub fn read_input<R: Read>(alloc: Global, input: &mut R) -> Result<Vec<u8>, ScriptFault>
-    ensures bound { IfOk result (λ bytes. vec_len bytes ≤ 65536) }
+    ensures bound { IfOk result (λ bytes. vec_len bytes ≤ MOST_BYTES) }
     ensures whole { IfOk result (λ bytes.
         IfSome (R.remaining input.old) (λ all. bytes.items ≡ all)) }
     ensures all_read { IfOk result (λ bytes.
         Consumes (R.remaining input.old) (R.remaining input.new) bytes.items) }
     ensures at_end { IfOk result (λ bytes. IsAtEnd (R.remaining input.new)) }
     ensures too_long { result ≡ Err ScriptFault.TooLong
-        → IfSome (R.remaining input.old) (λ all. 65536 < length all) }
+        → IfSome (R.remaining input.old) (λ all. MOST_BYTES < length all) }
     ensures fault { IfErr result (λ fault. (fault ≡ ScriptFault.NoMemory)
         ⊎ (fault ≡ ScriptFault.TooLong) ⊎ (fault ≡ ScriptFault.Read)) }
     ensures reads { (read : List ℕ) × Consumes (R.remaining input.old) (R.remaining input.new) read
-        × (length read ≤ 65537) }
+        × (length read ≤ MOST_BYTES + 1) }
 {
     let mut bytes = vec![in alloc; 0u8; MOST_BYTES + 1]?;
     let length = fill(input, bytes.as_mut_slice())?;

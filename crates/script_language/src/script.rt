@@ -3,6 +3,7 @@ ghost use Rattle.std.specs.Prelude.{◌≡◌, ◌≢◌, ◌+◌, ◌<◌, ◌�
 ghost use Rattle.std.specs.Io.KnownBytes.{Appends, Consumes, IsAtEnd};
 ghost use Rattle.script_language.specs.Output.{WritesFront};
 ghost use Rattle.script_language.specs.Script.{AskFor, IsFirstBad, IsNamed, IsScript, Prints, PrintsFrom, bytes_left, lines_left, lines_of};
+ghost use Rattle.script_language.specs.declared.input.TheConstants.{MOST_BYTES};
 ghost use Rattle.script_language.specs.declared.start.Start.{Start};
 
 use crate::cut::cut_at;
@@ -12,12 +13,14 @@ use crate::line::command_of;
 use crate::output::print;
 use crate::start::{Start, start_of};
 use inlinable_string::run::{Command, Reply, run};
-use inlinable_string::{InlinableString, InlinableStringN, StringExt, StringMake};
+use inlinable_string::{
+    INLINE_STRING_CAPACITY, InlinableString, InlinableStringN, StringExt, StringMake,
+};
 use std::alloc::Global;
 use std::io::{Read, Write};
 
 /// Room for one byte more than lie inline.
-const HEAP_ROOM: usize = 31;
+const HEAP_ROOM: usize = INLINE_STRING_CAPACITY + 1;
 
 /// Runs the script in `input` on the text that `words` name, and prints each reply, the text,
 /// its length and its storage to `out`.
@@ -46,16 +49,16 @@ pub fn script<R: Read, W: Write>(
     ensures bad_argument { (result ≡ Err ScriptFault.BadArgument)
         ↔ ((start : Start) → ¬ (IsNamed words.now start)) }
     ensures too_long { result ≡ Err ScriptFault.TooLong
-        → IfSome (R.remaining input.old) (λ all. 65536 < length all) }
+        → IfSome (R.remaining input.old) (λ all. MOST_BYTES < length all) }
     ensures not_utf8 { result ≡ Err ScriptFault.NotUtf8
-        → IfSome (R.remaining input.old) (λ all. (length all ≤ 65536) × ¬ (IsUtf8 all)) }
+        → IfSome (R.remaining input.old) (λ all. (length all ≤ MOST_BYTES) × ¬ (IsUtf8 all)) }
     ensures bad_line { (number : ℕ) → result ≡ Err (ScriptFault.BadLine number)
-        → IfSome (R.remaining input.old) (λ all. (length all ≤ 65536) × IsUtf8 all
+        → IfSome (R.remaining input.old) (λ all. (length all ≤ MOST_BYTES) × IsUtf8 all
         × IsFirstBad (lines_of all) number) }
 
     // How much is read at most.
     ensures reads { (read : List ℕ) × Consumes (R.remaining input.old) (R.remaining input.new) read
-        × (length read ≤ 65537) }
+        × (length read ≤ MOST_BYTES + 1) }
 
     // What a fault leaves.
     ensures argument_first { result ≡ Err ScriptFault.BadArgument → input.new ≡ input.old }
@@ -80,7 +83,7 @@ fn commands_of<'a>(
     room: &'a mut [u8],
 ) -> Result<Vec<Command<'a>>, ScriptFault>
     requires room { length lines.now ≤ length room.old }
-    requires short { length lines.now ≤ 65536 }
+    requires short { length lines.now ≤ MOST_BYTES }
     ensures asked { IfOk result (λ commands. AskFor (lines_of lines.now) commands.items) }
     ensures bad_line { (number : ℕ) → result ≡ Err (ScriptFault.BadLine number)
         → IsFirstBad (lines_of lines.now) number }
