@@ -1,0 +1,139 @@
+//! Cuts and insertions at places that are tested first: `is_char_boundary` is the test, of the text
+//! or of its `as_str()`.
+ghost use Rattle.std.specs.Prelude.{◌≡◌, ℕ, ◌+◌, ◌≤◌, ◌<◌, ◌↔◌, List, ◌++◌, [], ◌∷◌, IsTrue, IfOk, OnOk, OnErr, IfNone, IfSome};
+ghost use Rattle.std.specs.Str.{chars};
+ghost use Rattle.inlinable_string.specs.Text.{size, IsCut, IsPlace, IsSplice, IsRemoval};
+ghost use Rattle.inlinable_string.specs.State.{IsSameText};
+ghost use Rattle.inlinable_string.specs.Values.{string_state};
+
+use inlinable_string::laws::{cuts_are_cuts_of_bytes, places_are_boundaries};
+use inlinable_string::{InlineStringN, StringExt, StringMake};
+use std::alloc::{AllocError, Global};
+
+/// Cuts at a place, if it is one.
+pub fn cut_at<S: StringExt>(text: &mut S, place: usize) -> bool
+    ensures when { IsTrue result ↔ IsPlace (S.state text.old).text place }
+    ensures size { IsTrue result → size (S.state text.new).text ≡ place }
+{
+    if text.is_char_boundary(place) {
+        text.truncate(place);
+        return true;
+    }
+    false
+}
+
+/// The same by the test of `str`.
+pub fn cut_by_str<S: StringExt>(text: &mut S, place: usize) -> bool
+    ensures { IsTrue result ↔ IsPlace (S.state text.old).text place }
+{
+    if text.as_str().is_char_boundary(place) {
+        text.truncate(place);
+        return true;
+    }
+    false
+}
+
+/// Cuts a text behind a `dyn`, which stays as it was where there is no place.
+pub fn cut_dyn(text: &mut dyn StringExt, place: usize) -> bool
+    ensures when { IsTrue result ↔ IsPlace (state text.old).text place }
+    ensures none { ¬ (IsPlace (state text.old).text place)
+        → (state text.new).text ≡ (state text.old).text }
+{
+    if text.is_char_boundary(place) {
+        text.truncate(place);
+        return true;
+    }
+    false
+}
+
+/// Cuts a text in an array.
+pub fn cut_inline<const N: usize>(text: &mut InlineStringN<N>, place: usize) -> bool
+    ensures { IsTrue result ↔ IsPlace text.old place }
+{
+    if text.as_str().is_char_boundary(place) {
+        text.truncate(place);
+        return true;
+    }
+    false
+}
+
+/// Cuts std's `String`, called through the trait.
+pub fn cut_string(text: &mut String, place: usize) -> bool
+    ensures { IsTrue result ↔ IsPlace (string_state text.old).text place }
+{
+    if StringExt::is_char_boundary(text, place) {
+        StringExt::truncate(text, place);
+        return true;
+    }
+    false
+}
+
+/// Puts a text in at a place, or does nothing where there is none.
+pub fn insert_at<S: StringExt>(text: &mut S, place: usize, part: &str) -> Result<bool, AllocError>
+    ensures when { IfOk result (λ done. IsTrue done ↔ IsPlace (S.state text.old).text place) }
+    ensures put { IfOk result (λ done. IsTrue done
+        → IsSplice (S.state text.old).text place (chars part.now) (S.state text.new).text) }
+    ensures err { OnErr result (IsSameText (S.state text.old) (S.state text.new)) }
+{
+    if !text.is_char_boundary(place) {
+        return Ok(false);
+    }
+    text.insert_str(place, part)?;
+    Ok(true)
+}
+
+/// Takes out the character at a place, if one begins there.
+pub fn remove_at<S: StringExt>(text: &mut S, place: usize) -> Option<char>
+    ensures taken { IfSome result
+        (λ c. IsRemoval (S.state text.old).text place c (S.state text.new).text) }
+    ensures none { IfNone result (IsSameText (S.state text.old) (S.state text.new)) }
+{
+    if place < text.len() && text.is_char_boundary(place) {
+        return Some(text.remove(place));
+    }
+    None
+}
+
+/// Puts a dash in a text in an array, if there is a place and room.
+pub fn dash_at(text: &mut InlineStringN<16>, place: usize) -> bool
+    ensures done { IsTrue result → IsSplice text.old place (45 ∷ []) text.new }
+    ensures room { IsPlace text.old place → size text.old ≤ 15 → IsTrue result }
+{
+    text.is_char_boundary(place) && text.insert(place, '-').is_ok()
+}
+
+/// Cuts the text behind a place off, into a text of its own.
+pub fn split_off<S: StringMake + Drop>(
+    alloc: Global,
+    text: &mut S,
+    at: usize,
+) -> Result<S, AllocError>
+    requires { IsPlace (S.state text.old).text at }
+    ensures ok { IfOk result (λ tail.
+        (S.state text.old).text ≡ (S.state text.new).text ++ (S.state tail).text) }
+    ensures err { OnErr result (IsSameText (S.state text.old) (S.state text.new)) }
+{
+    places_are_boundaries();
+    let mut tail = S::new(alloc);
+    tail.push_str(&text.as_str()[at..])?;
+    text.truncate(at);
+    Ok(tail)
+}
+
+/// Copies the text before a place and the text behind it to the ends of two others.
+pub fn copy_halves<S: StringExt, T: StringExt>(
+    text: &S,
+    place: usize,
+    front: &mut T,
+    back: &mut T,
+) -> Result<(), AllocError>
+    requires { IsPlace (S.state text.now).text place }
+    ensures { OnOk result ((a b : List ℕ) → IsCut (S.state text.now).text place a b
+        → ((T.state front.new).text ≡ (T.state front.old).text ++ a)
+        × ((T.state back.new).text ≡ (T.state back.old).text ++ b)) }
+{
+    places_are_boundaries();
+    cuts_are_cuts_of_bytes();
+    front.push_str(&text.as_str()[..place])?;
+    back.push_str(&text.as_str()[place..])
+}

@@ -1,0 +1,151 @@
+//! Each generic caller once at std's `String`, at `InlinableStringN<8>` or at `InlinableString`, so
+//! that its bounds are known to be met, and each caller of a `dyn` once over one of them.
+
+use crate::editor::Line;
+use crate::{
+    buffers, cuts, finds, growths, joins, makes, replacements, room, runs, takes, views, wholes,
+};
+use inlinable_string::{InlinableString, InlinableStringN, InlineStringN, StringExt, StringMake};
+use std::alloc::{AllocError, Global};
+
+/// Eight bytes lie inline.
+type Short = InlinableStringN<8>;
+
+pub fn grow(string: &mut String, short: &mut Short) -> Result<(), AllocError> {
+    growths::add_word(string, "one")?;
+    growths::add_word(short, "two")?;
+    growths::add_three_times(short, "ab")?;
+    growths::quote(string)?;
+    growths::put_in_front(short, "no ")?;
+    growths::end_sentence(string)
+}
+
+pub fn grow_inline(alloc: Global, text: &mut InlineStringN<16>) -> Result<Short, AllocError> {
+    let _ = growths::add_if_it_fits(text, 'c');
+    let mut short = Short::new(alloc);
+    growths::add_inline(&mut short, "eight");
+    growths::outgrow(&mut short, "no more than that")?;
+    Ok(short)
+}
+
+pub fn cut(alloc: Global, string: &mut String, short: &mut Short) -> Result<(), AllocError> {
+    cuts::cut_at(string, 3);
+    cuts::cut_by_str(short, 3);
+    cuts::cut_dyn(short, 2);
+    cuts::insert_at(string, 1, "inner")?;
+    cuts::remove_at(short, 0);
+    if StringExt::is_char_boundary(string, 4) {
+        let mut tail: String = cuts::split_off(alloc, string, 4)?;
+        cuts::copy_halves(short, 0, string, &mut tail)?;
+    }
+    Ok(())
+}
+
+pub fn find(string: &mut String, short: &mut Short) -> Result<(), AllocError> {
+    finds::comma(string)?;
+    finds::comma(short)?;
+    finds::first_line(string);
+    finds::strip_extension(string);
+    finds::shorten(short, 5);
+    finds::trim_end(short);
+    Ok(())
+}
+
+pub fn join(alloc: Global, string: &mut String, short: &mut Short) -> Result<(), AllocError> {
+    joins::add_text(string, short)?;
+    joins::add_text(short, string)?;
+    let copy: Short = joins::copy_of(alloc, string)?;
+    let other: String = joins::string_of(alloc, &copy)?;
+    let three: Short = joins::dotted(alloc, "a", "b", "c")?;
+    let replaced: Short = joins::replace_first(alloc, &three, ".", "-")?;
+    let mut last: InlinableString = joins::copy_of(alloc, &other)?;
+    joins::move_to(&mut last, string)?;
+    joins::add_text(&replaced, string)
+}
+
+pub fn make(alloc: Global) -> Result<String, AllocError> {
+    let mut string: String = makes::empty(alloc);
+    let mut short: Short = makes::with_room(alloc, 12)?;
+    room::push_into_room(&mut short, "twelve bytes");
+    let word: Short = makes::first_word(alloc, "word");
+    let usual: InlinableString = makes::inline_with_room(alloc);
+    let made: InlinableString = room::made_with_room(alloc, "a text of more than thirty bytes")?;
+    room::two_letters(&mut string)?;
+    room::two_characters(&mut string, 'c', 'd')?;
+    room::add_both(&mut short, "first", "second")?;
+    joins::add_text(&word, &mut short)?;
+    joins::add_text(&usual, &mut short)?;
+    joins::move_to(&mut short, &mut string)?;
+    joins::add_text(&made, &mut string)?;
+    Ok(string)
+}
+
+pub fn use_again(alloc: Global) -> Short {
+    let mut short = Short::new(alloc);
+    buffers::set_inline(&mut short, "eight");
+    buffers::reuse_twice(&mut short, "one", "two");
+    buffers::release(&mut short);
+    short
+}
+
+pub fn take(string: &mut String, short: &mut Short) -> Result<(), AllocError> {
+    takes::take_first(string);
+    takes::take_first(short);
+    takes::take_two(short);
+    takes::chomp(string);
+    takes::drop_last(short);
+    takes::swap_last(string, 'c')?;
+    takes::push_and_pop(short, 'd')?;
+    Ok(())
+}
+
+pub fn replace(alloc: Global, string: &mut String, short: &mut Short) -> Result<(), AllocError> {
+    replacements::uppercase(alloc, string)?;
+    replacements::uppercase(alloc, short)?;
+    replacements::replaced(string, b"bytes");
+    replacements::take_bytes(short, b"bytes");
+    wholes::replace(alloc, string, "another")?;
+    wholes::try_twice(short, "more")
+}
+
+pub fn add_whole(string: &mut String, short: &mut Short) -> Result<(), AllocError> {
+    wholes::add_pair(string, "key", "value")?;
+    wholes::add_pair(short, "key", "value")?;
+    wholes::add_line(short, "line")
+}
+
+pub fn view(string: &String, short: &Short) -> usize {
+    if views::is_longer(string, short) && views::lies_inline(short) {
+        return views::upper_bound(string);
+    }
+    if views::last_byte(short).is_none() && views::is_nothing(short) {
+        return views::spare(string);
+    }
+    views::length_of(short)
+}
+
+pub fn run_lists(string: &mut String, short: &mut Short) {
+    runs::set_by_run(string, 'c');
+    runs::set_by_run(short, 'c');
+    runs::letters_by_run(short);
+    runs::clear_by_run(string);
+    runs::empties_are_known(short);
+    runs::reserved_by_run(string);
+}
+
+pub fn edit(line: &mut Line<16>, text: &mut InlineStringN<16>) {
+    line.home();
+    line.type_char('c');
+    line.paste("text");
+    line.left();
+    line.right();
+    line.backspace();
+    line.move_to(1);
+    line.delete();
+    line.kill_to_end();
+    line.end();
+    finds::strip_comment(text);
+    cuts::cut_inline(text, views::left(text));
+    let _ = wholes::add_inline_pair(text, "key", "value");
+    *text = joins::inline_copy(text);
+}

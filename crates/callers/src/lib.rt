@@ -1,0 +1,21 @@
+//! Callers of `inlinable_string`, written as a newcomer would write them: each promises what its own
+//! user would want to know, and is proved with nothing written by hand. This crate has no folder of
+//! proofs, and is to have none.
+//!
+//! Where no clause of a call says enough, the body calls a law of the library by its name.
+#![tactic(auto)]
+
+pub mod buffers;
+pub mod cuts;
+pub mod editor;
+pub mod finds;
+pub mod growths;
+pub mod instances;
+pub mod joins;
+pub mod makes;
+pub mod replacements;
+pub mod room;
+pub mod runs;
+pub mod takes;
+pub mod views;
+pub mod wholes;

@@ -1,0 +1,72 @@
+//! Lists of commands: what the replies and the text are where the commands are known.
+ghost use Rattle.std.specs.Prelude.{◌≡◌, ◌+◌, ◌++◌, [], ◌∷◌, vec_len, IsTrue};
+
+use inlinable_string::StringExt;
+use inlinable_string::run::{Command, Reply, reserved_pushes_never_fail, run, run_dyn, run_each};
+use std::alloc::{AllocError, Global};
+
+/// Sets a text by two commands.
+pub fn set_by_run<S: StringExt>(text: &mut S, ch: char) -> bool
+    ensures { IsTrue result → (S.state text.new).text ≡ ch ∷ [] }
+{
+    let mut replies = [Reply::NoMemory; 2];
+    run(text, &[Command::Clear, Command::Push(ch)], &mut replies);
+    replies[1] == Reply::Done
+}
+
+/// Adds two letters by commands, behind a `dyn`.
+pub fn letters_by_run(text: &mut dyn StringExt) -> bool
+    ensures { IsTrue result → (state text.new).text ≡ (state text.old).text ++ 97 ∷ 98 ∷ [] }
+{
+    let mut replies = [Reply::NoMemory; 2];
+    run_dyn(
+        text,
+        &[Command::Push('a'), Command::Push('b')],
+        &mut replies,
+    );
+    replies == [Reply::Done, Reply::Done]
+}
+
+/// A cleared text is empty, whatever it was, and the reply is `Done`.
+pub fn clear_by_run<S: StringExt>(text: &mut S)
+    ensures { (S.state text.new).text ≡ [] }
+{
+    let mut replies = [Reply::NoMemory; 1];
+    run(text, &[Command::Clear], &mut replies);
+}
+
+/// Taking out what was put in gives it back.
+pub fn empties_are_known<S: StringExt>(text: &mut S) -> Reply
+    ensures { result ≡ Reply.NoChar }
+{
+    let mut replies = [Reply::NoMemory; 2];
+    run(text, &[Command::Clear, Command::Pop], &mut replies);
+    replies[1]
+}
+
+/// A push after a reservation that was carried out is carried out too.
+pub fn reserved_by_run<S: StringExt>(text: &mut S) -> bool
+    ensures { IsTrue result → (S.state text.new).text ≡ (S.state text.old).text ++ 97 ∷ [] }
+{
+    reserved_pushes_never_fail();
+    let mut replies = [Reply::NoMemory; 2];
+    run(
+        text,
+        &[Command::Reserve(1), Command::Push('a')],
+        &mut replies,
+    );
+    replies[0] == Reply::Done
+}
+
+/// Empties each text.
+pub fn clear_all(
+    alloc: Global,
+    texts: &mut Vec<Box<dyn StringExt + Drop>>,
+) -> Result<(), AllocError>
+    ensures { vec_len texts.new ≡ vec_len texts.old }
+{
+    let mut replies: Vec<Reply> = Vec::new(alloc);
+    replies.resize(texts.len(), Reply::NoMemory)?;
+    run_each(texts, &[Command::Clear], &mut replies);
+    Ok(())
+}

@@ -1,0 +1,71 @@
+//! Views: what a caller knows once it has asked for a length, for a capacity or for the storage.
+ghost use Rattle.std.specs.Prelude.{◌≡◌, ◌+◌, ◌≤◌, ◌<◌, ◌↔◌, [], IsTrue, IfNone};
+ghost use Rattle.inlinable_string.specs.Text.{size};
+ghost use Rattle.inlinable_string.specs.State.{HasRoom};
+ghost use Rattle.inlinable_string.specs.Values.{inlinable_state};
+
+use inlinable_string::{InlinableStringN, InlineStringN, Storage, StringExt};
+
+/// The capacity is never below the length: only `capacity` is asked.
+pub fn upper_bound<S: StringExt>(text: &S) -> usize
+    ensures { size (S.state text.now).text ≤ result }
+{
+    text.capacity()
+}
+
+/// An inline text has its limit's room: only `storage` is asked.
+pub fn lies_inline(text: &dyn StringExt) -> bool
+    ensures when { IsTrue result ↔ ((state text.now).storage ≡ Storage.Inline) }
+    ensures room { IsTrue result → (state text.now).capacity ≡ (state text.now).policy.limit }
+    ensures size { IsTrue result → size (state text.now).text ≤ (state text.now).policy.limit }
+{
+    text.storage() == Storage::Inline
+}
+
+/// The length is within the capacity: only `len` is asked.
+pub fn length_of<S: StringExt>(text: &S) -> usize
+    ensures size { result ≡ size (S.state text.now).text }
+    ensures within { result ≤ (S.state text.now).capacity }
+{
+    text.len()
+}
+
+/// How many bytes more have room.
+pub fn spare<S: StringExt>(text: &S) -> usize
+    ensures exact { size (S.state text.now).text + result ≡ (S.state text.now).capacity }
+    ensures room { HasRoom (S.state text.now) result }
+{
+    text.capacity() - text.len()
+}
+
+/// What is left of an array.
+pub fn left<const N: usize>(text: &InlineStringN<N>) -> usize
+    ensures { size text.now + result ≡ N }
+{
+    N - text.len()
+}
+
+/// The bytes are as many as the length says.
+pub fn last_byte<S: StringExt>(text: &S) -> Option<u8>
+    ensures { IfNone result (size (S.state text.now).text ≡ 0) }
+{
+    if text.is_empty() {
+        return None;
+    }
+    Some(text.as_bytes()[text.len() - 1])
+}
+
+/// Whether the first text has more bytes.
+pub fn is_longer<S: StringExt, T: StringExt>(first: &S, second: &T) -> bool
+    ensures { IsTrue result
+        ↔ (size (T.state second.now).text < size (S.state first.now).text) }
+{
+    second.len() < first.len()
+}
+
+/// Whether a text is empty, wherever it lies.
+pub fn is_nothing<const N: usize>(text: &InlinableStringN<N>) -> bool
+    ensures { IsTrue result ↔ ((inlinable_state N text.now).text ≡ []) }
+{
+    text.is_empty()
+}
