@@ -2,7 +2,7 @@
 //! clauses known to the proof of the function that calls it.
 ghost use Rattle.std.specs.Prelude.{◌≡◌, ◌↔◌, Some, codes, ℕ, ◌+◌, ◌≤◌, List, ◌++◌, [], ◌∷◌, length, take, drop, IsUtf8};
 ghost use Rattle.std.specs.Str.{chars, IsCharBoundary};
-ghost use Rattle.inlinable_string.specs.Text.{bytes_of, size, IsCut, IsPlace, IsSplice, IsRemoval};
+ghost use Rattle.inlinable_string.specs.Text.{bytes_of, size, cut, IsCut, IsPlace, IsSplice, IsRemoval};
 
 use crate::inline_string::{InlineStringN, NotEnoughSpaceError, ReplaceError};
 use std::fmt;
@@ -39,6 +39,18 @@ pub fn splices_at_the_ends()
 pub fn cuts_are_cuts_of_bytes()
     ensures { (t bs a b : List ℕ) (p : ℕ) → IsCut t p a b → IsUtf8 bs → bs ≡ bytes_of t
         → (a ≡ chars (take p bs)) × (b ≡ chars (drop p bs)) }
+{}
+
+/// A text in two parts is cut between them: so it has one front of each size.
+pub fn parts_are_told_by_their_size()
+    ensures { (a b : List ℕ) → cut (a ++ b) (size a) ≡ Some (a, b) }
+{}
+
+/// How many bytes a text in two parts has, a character at most, and the text of a `&str`.
+pub fn sizes_of_parts()
+    ensures joined { (a b : List ℕ) → size (a ++ b) ≡ size a + size b }
+    ensures character { (c : ℕ) → size (c ∷ []) ≤ 4 }
+    ensures string { (bs : List ℕ) → IsUtf8 bs → size (chars bs) ≡ length bs }
 {}
 
 /// `Default` makes the empty text.
