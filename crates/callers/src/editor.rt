@@ -1,9 +1,10 @@
 //! A line editor: a text in an array, and a cursor that is a place of it after each call.
-ghost use Rattle.std.specs.Prelude.{◌≡◌, ◌+◌, ◌≤◌, ◌<◌, [], ◌∷◌, length, IsTrue};
+ghost use Rattle.std.specs.Prelude.{◌≡◌, ◌+◌, ◌≤◌, ◌<◌, [], ◌∷◌, length, IsTrue, IfOk};
 ghost use Rattle.inlinable_string.specs.Text.{size, IsPlace, IsSplice};
 
-use inlinable_string::InlineStringN;
-use inlinable_string::laws::{fronts_end_at_places, places_are_boundaries};
+use inlinable_string::laws::{edits_leave_places, fronts_end_at_places, places_are_boundaries};
+use inlinable_string::{InlineStringN, StringExt};
+use std::alloc::AllocError;
 
 /// A line of at most `N` bytes, and where the next character goes.
 pub struct Line<const N: usize> {
@@ -55,6 +56,16 @@ impl<const N: usize> Line<N> {
             }
             Err(_) => false,
         }
+    }
+
+    /// Puts a completion behind the cursor, which stays, or does nothing where it does not fit.
+    pub fn complete(&mut self, part: &str)
+        requires { IsPlace self.old.text self.old.cursor }
+        ensures place { IsPlace self.new.text self.new.cursor }
+        ensures stays { self.new.cursor ≡ self.old.cursor }
+    {
+        edits_leave_places();
+        let _ = self.text.insert_str(self.cursor, part);
     }
 
     /// Takes out the character before the cursor.
@@ -141,4 +152,14 @@ impl<const N: usize> Line<N> {
     {
         self.text.truncate(self.cursor);
     }
+}
+
+/// Types a character before the cursor of a text of any length, and tells where the cursor is then.
+pub fn type_into(text: &mut dyn StringExt, cursor: usize, ch: char) -> Result<usize, AllocError>
+    requires { IsPlace (state text.old).text cursor }
+    ensures { IfOk result (λ moved. IsPlace (state text.new).text moved) }
+{
+    text.insert(cursor, ch)?;
+    let _ = text.len();
+    Ok(cursor + ch.len_utf8())
 }

@@ -1,7 +1,9 @@
 //! Lists of commands: what the replies and the text are where the commands are known.
 ghost use Rattle.std.specs.Prelude.{◌≡◌, ◌+◌, ◌++◌, [], ◌∷◌, vec_len, IsTrue};
+ghost use Rattle.std.specs.Str.{chars};
 
 use inlinable_string::StringExt;
+use inlinable_string::laws::sizes_of_parts;
 use inlinable_string::run::{Command, Reply, reserved_pushes_never_fail, run, run_dyn, run_each};
 use std::alloc::{AllocError, Global};
 
@@ -53,6 +55,22 @@ pub fn reserved_by_run<S: StringExt>(text: &mut S) -> bool
     run(
         text,
         &[Command::Reserve(1), Command::Push('a')],
+        &mut replies,
+    );
+    replies[0] == Reply::Done
+}
+
+/// A text that is added after a reservation is not refused.
+pub fn add_by_run<S: StringExt>(text: &mut S, part: &str) -> bool
+    ensures { IsTrue result
+        → (S.state text.new).text ≡ (S.state text.old).text ++ chars part.now }
+{
+    sizes_of_parts();
+    reserved_pushes_never_fail();
+    let mut replies = [Reply::NoMemory; 2];
+    run(
+        text,
+        &[Command::Reserve(part.len()), Command::PushStr(part)],
         &mut replies,
     );
     replies[0] == Reply::Done

@@ -4,6 +4,7 @@ ghost use Rattle.std.specs.Str.{chars};
 ghost use Rattle.inlinable_string.specs.State.{IsSameText};
 
 use inlinable_string::inline_string::NotEnoughSpaceError;
+use inlinable_string::laws::parts_are_told_by_their_size;
 use inlinable_string::{InlineStringN, StringExt, StringMake};
 use std::alloc::{AllocError, Global};
 
@@ -59,6 +60,17 @@ pub fn replace<S: StringMake + Drop>(
     let mut made = S::new(alloc);
     made.push_str(word)?;
     *text = made;
+    Ok(())
+}
+
+/// Adds a text and takes it back by a cut at the old length.
+pub fn add_and_take_back<S: StringExt>(text: &mut S, part: &str) -> Result<(), AllocError>
+    ensures { (S.state text.new).text ≡ (S.state text.old).text }
+{
+    parts_are_told_by_their_size();
+    let end = text.len();
+    text.push_str(part)?;
+    text.truncate(end);
     Ok(())
 }
 
