@@ -5,3 +5,6 @@ mod HexTexts
 mod Lines
 mod OneCommand
 mod Scripts
+mod PlainCommands
+mod BadLines
+mod Outputs

@@ -6,6 +6,7 @@
 mod cut;
 mod fault;
 mod input;
+pub mod laws;
 mod line;
 mod output;
 pub mod script;

@@ -1,0 +1,184 @@
+-- Commands told by their words and their arguments, wherever what they borrow stands.
+use Rattle.std.proofs.Common.{◌≡◌, refl, sym, ap, subst, ◌∙◌, ℕ, ◌+◌, ◌==◌, List, [], ◌∷◌, ◌⊎◌, inl, inr, length, slice_index, get_or, map, if◌then◌else◌}
+use Rattle.std.specs.Borrow.{Bor}
+use Rattle.inlinable_string.specs.State.{TextState}
+use Rattle.inlinable_string.specs.Text.{size}
+use Rattle.inlinable_string.specs.Edit.{edit}
+use Rattle.inlinable_string.specs.Run.{Need, nothing, need_of, storage_when_met, credit, credit_when_met, state_after_step, state_after, IsFree, IsLegal, IsMet, IsCounted, LegalReplies}
+use Rattle.inlinable_string.specs.declared.string_ext.Storage.{Storage}
+use Rattle.inlinable_string.specs.declared.run.Command.{Command}
+use Rattle.inlinable_string.specs.declared.run.Command.TheVariants.{Push, PushStr, Insert, InsertStr, Truncate, Pop, Remove, Clear, ReplaceBytes, Reserve, ReserveExact, ShrinkToFit}
+use Rattle.inlinable_string.specs.declared.run.Reply.{Reply}
+use Rattle.inlinable_string.specs.declared.run.Reply.TheVariants.{Done, Char, NoChar, BadPlace, NotUtf8, WrongLength, NoMemory}
+use Rattle.script_language.specs.Line.{arguments_of, word_of}
+use Rattle.script_language.specs.Script.{AskFor}
+use Rattle.script_language.proofs.OneCommand.{one_command}
+
+-- bytes that are borrowed from nowhere
+abbrev pub borrowed : List ℕ → Bor (List ℕ)
+borrowed bytes = record { ref_ptr = (0, 0); now = bytes }
+
+-- the text, or the number, that is the argument at i
+abbrev text_in : List (List ℕ) → ℕ → Bor (List ℕ)
+text_in args i = borrowed (get_or args i [])
+
+abbrev number_in : List (List ℕ) → ℕ → ℕ
+number_in args i = slice_index (get_or args i []) 0
+
+-- the command of the arguments and a word, which its length and its third letter tell
+abbrev plain_by : ℕ → ℕ → List (List ℕ) → Command
+plain_by size letter args =
+    if size == 4 then Push (number_in args 0) else
+    if size == 5 then Clear else
+    if size == 6 then (if letter == 115 then Insert (number_in args 0) (number_in args 1) else Remove (number_in args 0)) else
+    if size == 7 then Reserve (number_in args 0) else
+    if size == 8 then (if letter == 115 then PushStr (text_in args 0) else Truncate (number_in args 0)) else
+    if size == 10 then InsertStr (number_in args 0) (text_in args 1) else
+    if size == 13 then (if letter == 112 then ReplaceBytes (text_in args 0) else if letter == 115 then ReserveExact (number_in args 0) else ShrinkToFit) else
+    Pop
+
+abbrev pub plain_of : List ℕ → List (List ℕ) → Command
+plain_of word args = plain_by (length word) (slice_index word 2) args
+
+abbrev pub plain : Command → Command
+plain command = plain_of (word_of command) (arguments_of command)
+
+-- the commands do the same, and need the same room
+pub record DoTheSame (one other : Command) : Type 0 where
+  pub edit : (t : List ℕ) → edit t one ≡ edit t other
+  pub need : need_of one ≡ need_of other
+
+pub plain_does : (command : Command) → DoTheSame command (plain command)
+plain_does (Push c) = record { edit = λ t. refl; need = refl }
+plain_does (PushStr string) = record { edit = λ t. refl; need = refl }
+plain_does (Insert place c) = record { edit = λ t. refl; need = refl }
+plain_does (InsertStr place string) = record { edit = λ t. refl; need = refl }
+plain_does (Truncate place) = record { edit = λ t. refl; need = refl }
+plain_does Pop = record { edit = λ t. refl; need = refl }
+plain_does (Remove place) = record { edit = λ t. refl; need = refl }
+plain_does Clear = record { edit = λ t. refl; need = refl }
+plain_does (ReplaceBytes bytes) = record { edit = λ t. refl; need = refl }
+plain_does (Reserve n) = record { edit = λ t. refl; need = refl }
+plain_does (ReserveExact n) = record { edit = λ t. refl; need = refl }
+plain_does ShrinkToFit = record { edit = λ t. refl; need = refl }
+
+-- one word and one list of arguments make one plain command
+pub one_plain : (one other : Command) → word_of one ≡ word_of other
+    → arguments_of one ≡ arguments_of other → plain one ≡ plain other
+one_plain one other words args =
+    ap (λ w. plain_of w (arguments_of one)) words ∙ ap (plain_of (word_of other)) args
+
+pub same_edit : (t : List ℕ) (one other : Command) → word_of one ≡ word_of other
+    → arguments_of one ≡ arguments_of other → edit t one ≡ edit t other
+same_edit t one other words args =
+    (plain_does one).edit t
+    ∙ ap (edit t) (one_plain one other words args)
+    ∙ sym ((plain_does other).edit t)
+
+pub same_need : (one other : Command) → word_of one ≡ word_of other
+    → arguments_of one ≡ arguments_of other → need_of one ≡ need_of other
+same_need one other words args =
+    (plain_does one).need ∙ ap need_of (one_plain one other words args) ∙ sym (plain_does other).need
+
+-- the state after a step that leaves this text, storage and credit
+abbrev left_with : TextState → List ℕ → Storage → ℕ → TextState
+left_with s text storage more = record {
+  text = text;
+  storage = storage;
+  capacity = size text + more;
+  policy = s.policy;
+}
+
+-- the step of one is that of the other
+same_step : (s : TextState) (one other : Command) (reply : Reply) → DoTheSame one other
+    → state_after_step s one reply ≡ state_after_step s other reply
+same_step s one other Done h =
+    ap (λ e. left_with s e.1 (storage_when_met s (need_of one)) (credit_when_met (credit s) (need_of one))) (h.edit s.text)
+    ∙ ap (λ n. left_with s (edit s.text other).1 (storage_when_met s n) (credit_when_met (credit s) n)) h.need
+same_step s one other (Char c) h = ap (λ e. left_with s e.1 s.storage 0) (h.edit s.text)
+same_step s one other NoChar h = ap (λ e. left_with s e.1 s.storage 0) (h.edit s.text)
+same_step s one other BadPlace h = ap (λ e. left_with s e.1 s.storage (credit s)) (h.edit s.text)
+same_step s one other NotUtf8 h = ap (λ e. left_with s e.1 s.storage 0) (h.edit s.text)
+same_step s one other WrongLength h = ap (λ e. left_with s e.1 s.storage 0) (h.edit s.text)
+same_step s one other NoMemory h = refl
+
+-- what is free of memory, by what the command does and needs
+abbrev FreeBy : TextState → Reply → Need → Type 0
+FreeBy s answer need = ¬ (¬ (need ≡ nothing) × (answer ≡ Done)) ⊎ IsMet s need
+
+same_free : (s : TextState) (one other : Command) → DoTheSame one other → IsFree s other → IsFree s one
+same_free s one other h free =
+    subst (λ n. FreeBy s (edit s.text one).0 n) (sym h.need)
+    (subst (λ e. FreeBy s e.0 (need_of other)) (sym (h.edit s.text)) free)
+
+same_legal : (s : TextState) (one other : Command) (reply : Reply) → DoTheSame one other
+    → IsLegal s one reply → IsLegal s other reply
+same_legal s one other reply h legal = record {
+  answer = elim legal.answer [
+    | inl same ↦ inl (same ∙ ap (λ e. e.0) (h.edit s.text))
+    | inr refused ↦ inr (refused.0, λ free. refused.1 (same_free s one other h free))
+  ];
+  counted = subst (λ n. IsCounted s n reply) h.need legal.counted;
+}
+
+-- replies to commands are legal as replies to the plain ones
+pub plain_legal : (s : TextState) (commands : List Command) (replies : List Reply)
+    → LegalReplies s commands replies → LegalReplies s (map plain commands) replies
+plain_legal s [] [] legal = tt
+plain_legal s [] (r ∷ replies) legal = absurd legal
+plain_legal s (c ∷ commands) [] legal = absurd legal
+plain_legal s (c ∷ commands) (r ∷ replies) legal =
+    let does = plain_does c in (
+      same_legal s c (plain c) r does legal.0,
+      subst (λ u. LegalReplies u (map plain commands) replies) (same_step s c (plain c) r does)
+          (plain_legal (state_after_step s c r) commands replies legal.1),
+    )
+
+-- and leave the same state
+pub plain_state : (s : TextState) (commands : List Command) (replies : List Reply)
+    → state_after s commands replies ≡ state_after s (map plain commands) replies
+plain_state s [] replies = refl
+plain_state s (c ∷ commands) [] = refl
+plain_state s (c ∷ commands) (r ∷ replies) =
+    plain_state (state_after_step s c r) commands replies
+    ∙ ap (λ u. state_after u (map plain commands) replies) (same_step s c (plain c) r (plain_does c))
+
+-- lines ask for one list of plain commands
+pub asked_words : (lines : List (List ℕ)) (one other : List Command) → AskFor lines one
+    → AskFor lines other → map word_of one ≡ map word_of other
+asked_words [] [] [] a b = refl
+asked_words [] [] (d ∷ other) a b = absurd b
+asked_words [] (c ∷ one) other a b = absurd a
+asked_words ([] ∷ lines) one other a b = asked_words lines one other a b
+asked_words ((x ∷ line) ∷ lines) [] other a b = absurd a
+asked_words ((x ∷ line) ∷ lines) (c ∷ one) [] a b = absurd b
+asked_words ((x ∷ line) ∷ lines) (c ∷ one) (d ∷ other) a b =
+    let same = one_command (x ∷ line) c d a.0 b.0 in
+    ap (λ w. w ∷ map word_of one) same.0
+    ∙ ap (λ ws. word_of d ∷ ws) (asked_words lines one other a.1 b.1)
+
+pub asked_arguments : (lines : List (List ℕ)) (one other : List Command) → AskFor lines one
+    → AskFor lines other → map arguments_of one ≡ map arguments_of other
+asked_arguments [] [] [] a b = refl
+asked_arguments [] [] (d ∷ other) a b = absurd b
+asked_arguments [] (c ∷ one) other a b = absurd a
+asked_arguments ([] ∷ lines) one other a b = asked_arguments lines one other a b
+asked_arguments ((x ∷ line) ∷ lines) [] other a b = absurd a
+asked_arguments ((x ∷ line) ∷ lines) (c ∷ one) [] a b = absurd b
+asked_arguments ((x ∷ line) ∷ lines) (c ∷ one) (d ∷ other) a b =
+    let same = one_command (x ∷ line) c d a.0 b.0 in
+    ap (λ w. w ∷ map arguments_of one) same.1
+    ∙ ap (λ ws. arguments_of d ∷ ws) (asked_arguments lines one other a.1 b.1)
+
+pub plain_asked : (lines : List (List ℕ)) (one other : List Command) → AskFor lines one
+    → AskFor lines other → map plain one ≡ map plain other
+plain_asked [] [] [] a b = refl
+plain_asked [] [] (d ∷ other) a b = absurd b
+plain_asked [] (c ∷ one) other a b = absurd a
+plain_asked ([] ∷ lines) one other a b = plain_asked lines one other a b
+plain_asked ((x ∷ line) ∷ lines) [] other a b = absurd a
+plain_asked ((x ∷ line) ∷ lines) (c ∷ one) [] a b = absurd b
+plain_asked ((x ∷ line) ∷ lines) (c ∷ one) (d ∷ other) a b =
+    let same = one_command (x ∷ line) c d a.0 b.0 in
+    ap (λ p. p ∷ map plain one) (one_plain c d same.0 same.1)
+    ∙ ap (λ ps. plain d ∷ ps) (plain_asked lines one other a.1 b.1)
