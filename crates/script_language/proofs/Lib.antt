@@ -8,3 +8,4 @@ mod Scripts
 mod PlainCommands
 mod BadLines
 mod Outputs
+mod WorkedScripts

@@ -1,17 +1,16 @@
 -- What is printed of a script is known, but for where memory is refused.
-use Rattle.std.proofs.Common.{◌≡◌, refl, sym, ap, subst, ◌∙◌, ℕ, ◌==◌, List, [], ◌∷◌, length, slice_index, map, if◌then◌else◌}
-use Rattle.std.specs.String.{string_bytes}
+use Rattle.std.proofs.Common.{◌≡◌, refl, sym, ap, subst, ◌∙◌, ℕ, ◌==◌, List, length, slice_index, map, if◌then◌else◌}
 use Rattle.std.specs.declared.string.String.{String}
 use Rattle.inlinable_string.specs.State.{TextState, storage_when_made}
 use Rattle.inlinable_string.specs.Edit.{text_after}
-use Rattle.inlinable_string.specs.Run.{IsRun, LegalReplies, state_after, storage_after}
+use Rattle.inlinable_string.specs.Run.{IsRun, LegalReplies, state_after}
 use Rattle.inlinable_string.specs.Laws.{is_refusal}
 use Rattle.inlinable_string.specs.declared.run.Command.{Command}
 use Rattle.inlinable_string.specs.declared.run.Reply.{Reply}
 use Rattle.inlinable_string.proofs.Determined.{same_replies, same_storage}
 use Rattle.inlinable_string.proofs.Runs.{text_of}
 use Rattle.script_language.specs.Output.{printed}
-use Rattle.script_language.specs.Script.{IsMade, IsNamed, IsScript, Prints, PrintsFrom, lines_of, policy_of, room_of, word_of_start}
+use Rattle.script_language.specs.Script.{IsNamed, IsScript, Prints, PrintsFrom, lines_of, policy_of, room_of, word_of_start}
 use Rattle.script_language.specs.declared.start.Start.{Start}
 use Rattle.script_language.specs.declared.start.Start.TheVariants as start
 use Rattle.script_language.proofs.PlainCommands.{plain, plain_asked, plain_legal, plain_state}

@@ -11,6 +11,7 @@ mod line;
 mod output;
 pub mod script;
 mod start;
+pub mod worked;
 
 pub use fault::ScriptFault;
 pub use input::MOST_BYTES;

@@ -1,0 +1,128 @@
+-- Scripts whose output the prover works out: what a script asks for, and what its run may print.
+use Rattle.std.proofs.Common.{◌≡◌, refl, sym, ap, subst, ◌∙◌, ℕ, ◌≤◌, List, [], ◌∷◌, ◌⊎◌, inl, inr, map}
+use Rattle.std.specs.String.{string_bytes}
+use Rattle.std.specs.declared.string.String.{String}
+use Rattle.inlinable_string.specs.State.{TextState, storage_when_made}
+use Rattle.inlinable_string.specs.Edit.{edit}
+use Rattle.inlinable_string.specs.Run.{IsFree, IsLegal, LegalReplies, state_after_step, state_after}
+use Rattle.inlinable_string.specs.declared.run.Command.{Command}
+use Rattle.inlinable_string.specs.declared.run.Reply.{Reply}
+use Rattle.inlinable_string.specs.declared.run.Reply.TheVariants.{NoMemory}
+use Rattle.script_language.specs.Output.{printed}
+use Rattle.script_language.specs.Script.{AskFor, IsMade, IsScript, lines_of, policy_of, room_of, word_of_start}
+use Rattle.script_language.specs.declared.start.Start.{Start}
+use Rattle.script_language.proofs.PlainCommands.{plain, plain_asked, plain_legal}
+use Rattle.script_language.proofs.Outputs.{one_start, printed_plain}
+
+-- the text that a script begins with, in room for so many bytes
+abbrev pub made : Start → ℕ → TextState
+made start room = record {
+  text = [];
+  storage = storage_when_made (policy_of start) (room_of start);
+  capacity = room;
+  policy = policy_of start;
+}
+
+is_made : (start : Start) (s : TextState) → IsMade start s → s ≡ made start s.capacity
+is_made start s begun =
+    ap (λ t. record s { text = t }) begun.text
+    ∙ ap (λ p. record s { text = []; storage = p }) begun.storage
+    ∙ ap (λ p. record s { text = []; storage = storage_when_made (policy_of start) (room_of start); policy = p }) begun.policy
+
+-- what legal replies to these commands print, on the text of the start
+abbrev pub Printing : Start → List Command → (List ℕ → Type 0) → Type 0
+Printing start commands P = (room : ℕ) (replies : List Reply) → room_of start ≤ room
+    → LegalReplies (made start room) commands replies
+    → P (printed replies (state_after (made start room) commands replies))
+
+-- a script prints what legal replies print to the commands that its lines are known to ask for
+pub script_prints : {Z : Type 0} (words : List (String Z)) (input output : List ℕ) (start : Start)
+    (commands : List Command) (P : List ℕ → Type 0) → IsScript words input output
+    → map string_bytes words ≡ word_of_start start ∷ [] → AskFor (lines_of input) commands
+    → Printing start (map plain commands) P → P output
+script_prints words input output start commands P script named asked prints =
+    let is : script.start ≡ start = one_start words script.start start script.named named in
+    let begun : IsMade start script.run.made = subst (λ b. IsMade b script.run.made) is script.run.begun in
+    let run = script.run.run in
+    let same = plain_asked (lines_of input) script.commands commands script.asked asked in
+    let state = is_made start script.run.made begun in
+    let legal = plain_legal script.run.made script.commands run.replies run.ran.legal in
+    let known = subst (λ cs. LegalReplies script.run.made cs run.replies) same legal in
+    let there = subst (λ s. LegalReplies s (map plain commands) run.replies) state known in
+    let out = run.shown
+    ∙ printed_plain script.run.made run.new script.commands run.replies run.ran
+    ∙ ap (λ cs. printed run.replies (state_after script.run.made cs run.replies)) same
+    ∙ ap (λ s. printed run.replies (state_after s (map plain commands) run.replies)) state in
+    subst P (sym out) (prints script.run.made.capacity run.replies begun.room there)
+
+-- the reply to a command that is free of memory is that of `edit`
+pub answered_free : (s : TextState) (command : Command) (reply : Reply) → IsLegal s command reply
+    → IsFree s command → reply ≡ (edit s.text command).0
+answered_free s command reply legal free =
+    elim legal.answer [ inl same ↦ same | inr refused ↦ absurd (refused.1 free) ]
+
+-- the replies to commands where no memory is refused
+abbrev pub answers : TextState → List Command → List Reply
+answers s [] = []
+answers s (command ∷ commands) =
+    (edit s.text command).0 ∷ answers (state_after_step s command (edit s.text command).0) commands
+
+-- each command is free of memory in its turn
+abbrev pub AllFree : TextState → List Command → Type 0
+AllFree s [] = Unit {0}
+AllFree s (command ∷ commands) =
+    IsFree s command × AllFree (state_after_step s command (edit s.text command).0) commands
+
+pub answered : (s : TextState) (commands : List Command) (replies : List Reply)
+    → LegalReplies s commands replies → AllFree s commands → replies ≡ answers s commands
+answered s [] [] legal free = refl
+answered s [] (r ∷ replies) legal free = absurd legal
+answered s (c ∷ commands) [] legal free = absurd legal
+answered s (c ∷ commands) (r ∷ replies) legal free =
+    let reply = answered_free s c r legal.0 free.0 in
+    let rest = subst (λ x. LegalReplies (state_after_step s c x) commands replies) reply legal.1 in
+    ap (λ x. x ∷ replies) reply
+    ∙ ap (λ rs. (edit s.text c).0 ∷ rs)
+    (answered (state_after_step s c (edit s.text c).0) commands replies rest free.1)
+
+-- where no memory can be refused, one output is printed
+pub free_prints : (start : Start) (commands : List Command) (output : List ℕ)
+    → ((room : ℕ) → room_of start ≤ room → AllFree (made start room) commands)
+    → ((room : ℕ) → printed (answers (made start room) commands) (state_after (made start room) commands (answers (made start room) commands)) ≡ output)
+    → Printing start commands (λ o. o ≡ output)
+free_prints start commands output free is room replies fits legal =
+    ap (λ rs. printed rs (state_after (made start room) commands rs))
+    (answered (made start room) commands replies legal (free room fits))
+    ∙ is room
+
+-- a script in which no memory can be refused has one output
+pub one_output_where_free : {Z : Type 0} (words : List (String Z)) (input output : List ℕ)
+    (start : Start) (commands : List Command) (expected : List ℕ) → IsScript words input output
+    → map string_bytes words ≡ word_of_start start ∷ [] → AskFor (lines_of input) commands
+    → ((room : ℕ) → room_of start ≤ room → AllFree (made start room) (map plain commands))
+    → ((room : ℕ) → printed (answers (made start room) (map plain commands)) (state_after (made start room) (map plain commands) (answers (made start room) (map plain commands))) ≡ expected)
+    → output ≡ expected
+one_output_where_free words input output start commands expected script named asked free is =
+    script_prints words input output start commands (λ o. o ≡ expected) script named asked
+    (free_prints start (map plain commands) expected free is)
+
+-- a script of one command to which memory may be refused has two
+pub two_outputs_of_one : {Z : Type 0} (words : List (String Z)) (input output : List ℕ)
+    (start : Start) (command : Command) (done refused : List ℕ) → IsScript words input output
+    → map string_bytes words ≡ word_of_start start ∷ [] → AskFor (lines_of input) (command ∷ [])
+    → ((room : ℕ) → printed ((edit [] (plain command)).0 ∷ []) (state_after_step (made start room) (plain command) (edit [] (plain command)).0) ≡ done)
+    → ((room : ℕ) → printed (NoMemory ∷ []) (state_after_step (made start room) (plain command) NoMemory) ≡ refused)
+    → (output ≡ done) ⊎ (output ≡ refused)
+two_outputs_of_one words input output start command done refused script named asked is or =
+    script_prints words input output start (command ∷ []) (λ o. (o ≡ done) ⊎ (o ≡ refused)) script named asked
+    (λ room replies fits legal. by room replies legal)
+  where
+    by : (room : ℕ) (replies : List Reply) → LegalReplies (made start room) (plain command ∷ []) replies
+        → (printed replies (state_after (made start room) (plain command ∷ []) replies) ≡ done)
+        ⊎ (printed replies (state_after (made start room) (plain command ∷ []) replies) ≡ refused)
+    by room [] legal = absurd legal
+    by room (r ∷ o ∷ replies) legal = absurd legal.1
+    by room (r ∷ []) legal = elim legal.0.answer [
+      | inl same ↦ inl (ap (λ x. printed (x ∷ []) (state_after_step (made start room) (plain command) x)) same ∙ is room)
+      | inr none ↦ inr (ap (λ x. printed (x ∷ []) (state_after_step (made start room) (plain command) x)) none.0 ∙ or room)
+    ]

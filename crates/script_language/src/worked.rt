@@ -1,0 +1,4 @@
+//! Rows that the prover itself computes from the definitions. Each function has an empty body: its
+//! contract is the rows, worked out from the rules in words.
+
+pub mod scripts;
