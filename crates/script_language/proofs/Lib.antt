@@ -9,3 +9,4 @@ mod PlainCommands
 mod BadLines
 mod Outputs
 mod WorkedScripts
+mod RefusedLines

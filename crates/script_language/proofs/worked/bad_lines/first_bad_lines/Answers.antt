@@ -1,0 +1,26 @@
+use Rattle.std.proofs.Common.{refl, arith, codes, [], ◌∷◌}
+use Rattle.inlinable_string.specs.declared.run.Command.TheVariants.{Pop, Clear}
+use Rattle.script_language.proofs.BadLines.{not_asked, one_first_bad}
+use Rattle.script_language.proofs.RefusedLines.{bad_behind, pop_with_a_capital, pop_with_a_space}
+use Rattle.script_language.proofs.worked.bad_lines.first_bad_lines.Goals as goal
+
+pub returns-clause-first : goal.returns-clause-first
+returns-clause-first c = bad_behind [] (codes "pop" ∷ []) _ [] tt (λ is. cc) pop_with_a_space
+
+pub returns-clause-third : goal.returns-clause-third
+returns-clause-third c =
+    bad_behind (codes "pop" ∷ [] ∷ []) (codes "Pop" ∷ []) _ (Pop ∷ []) ((_, refl, refl), tt)
+    (λ is. cc) pop_with_a_space
+
+pub returns-clause-last : goal.returns-clause-last
+returns-clause-last c =
+    bad_behind (codes "clear" ∷ []) [] _ (Clear ∷ []) ((_, refl, refl), tt) (λ is. cc)
+    pop_with_a_capital
+
+pub returns-clause-none : goal.returns-clause-none
+returns-clause-none c number bad = not_asked _ number (Pop ∷ []) bad ((_, refl, refl), tt)
+
+pub returns-clause-second : goal.returns-clause-second
+returns-clause-second c bad =
+    let first = bad_behind [] (codes "Pop" ∷ []) _ [] tt (λ is. cc) pop_with_a_space in
+    absurd (omega (arith, one_first_bad _ 1 2 first bad))

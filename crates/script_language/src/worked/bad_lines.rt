@@ -1,0 +1,71 @@
+//! Lines that ask for nothing, and the first of them.
+ghost use Rattle.std.specs.Prelude.{◌≡◌, ◌∷◌, ◌++◌, [], ℕ, List, codes};
+ghost use Rattle.inlinable_string.specs.declared.run.Command.{Command};
+ghost use Rattle.script_language.specs.Line.{IsCharText, IsLine, IsNumberText};
+ghost use Rattle.script_language.specs.Script.{IsFirstBad, IsScript};
+
+/// No number: no digit, a sign, a letter, 21 digits, one past the largest, a space.
+pub fn texts_of_no_number()
+    ensures empty { (n : ℕ) → ¬ (IsNumberText [] n) }
+    ensures plus { (n : ℕ) → ¬ (IsNumberText (codes "+5") n) }
+    ensures minus { (n : ℕ) → ¬ (IsNumberText (codes "-5") n) }
+    ensures letter { (n : ℕ) → ¬ (IsNumberText (codes "1a") n) }
+    ensures long { (n : ℕ) → ¬ (IsNumberText (codes "000000000000000000005") n) }
+    ensures large { (n : ℕ) → ¬ (IsNumberText (codes "18446744073709551616") n) }
+    ensures blank { (n : ℕ) → ¬ (IsNumberText (codes "5 ") n) }
+    ensures other { ¬ (IsNumberText (codes "12") 21) }
+{}
+
+/// No character: none, two, and a part of one.
+pub fn texts_of_no_character()
+    ensures none { (c : ℕ) → ¬ (IsCharText [] c) }
+    ensures two { (c : ℕ) → ¬ (IsCharText (codes "ab") c) }
+    ensures other { ¬ (IsCharText (codes "a") 98) }
+{}
+
+/// A word that takes no argument, with a space behind it.
+pub fn lines_with_a_space_too_many()
+    ensures pop { (command : Command) → ¬ (IsLine (codes "pop ") command) }
+    ensures clear { (command : Command) → ¬ (IsLine (codes "clear x") command) }
+{}
+
+/// A word without its argument.
+pub fn lines_without_their_argument()
+    ensures push { (command : Command) → ¬ (IsLine (codes "push") command) }
+    ensures truncate { (command : Command) → ¬ (IsLine (codes "truncate") command) }
+    ensures insert { (command : Command) → ¬ (IsLine (codes "insert 3") command) }
+{}
+
+/// A word with an argument of another kind.
+pub fn lines_with_another_argument()
+    ensures none { (command : Command) → ¬ (IsLine (codes "push ") command) }
+    ensures two { (command : Command) → ¬ (IsLine (codes "push ab") command) }
+    ensures plus { (command : Command) → ¬ (IsLine (codes "truncate +5") command) }
+    ensures long { (command : Command)
+        → ¬ (IsLine (codes "truncate 000000000000000000005") command) }
+    ensures large { (command : Command)
+        → ¬ (IsLine (codes "truncate 18446744073709551616") command) }
+    ensures insert { (command : Command) → ¬ (IsLine (codes "insert 3 ab") command) }
+{}
+
+/// No word of the language.
+pub fn lines_of_no_word()
+    ensures capital { (command : Command) → ¬ (IsLine (codes "Pop") command) }
+    ensures before { (command : Command) → ¬ (IsLine (codes " pop") command) }
+    ensures empty { (command : Command) → ¬ (IsLine [] command) }
+{}
+
+/// The first bad line is counted from 1, with the lines that have no byte.
+pub fn first_bad_lines()
+    ensures first { IsFirstBad (codes "pop " ∷ codes "pop" ∷ []) 1 }
+    ensures third { IsFirstBad (codes "pop" ∷ [] ∷ codes "pop " ∷ codes "Pop" ∷ []) 3 }
+    ensures last { IsFirstBad (codes "clear" ∷ codes "Pop" ∷ []) 2 }
+    ensures none { (number : ℕ) → ¬ (IsFirstBad (codes "pop" ∷ [] ∷ []) number) }
+    ensures second { ¬ (IsFirstBad (codes "pop " ∷ codes "Pop" ∷ []) 2) }
+{}
+
+/// A script with a bad line prints nothing.
+pub fn bad_scripts_have_no_output(words: &[String])
+    ensures space { (output : List ℕ) → ¬ (IsScript words.now (codes "pop \n") output) }
+    ensures second { (output : List ℕ) → ¬ (IsScript words.now (codes "clear\nPop\n") output) }
+{}
