@@ -1,12 +1,12 @@
--- How many commands lines ask for, and which line is the first bad one.
-use Rattle.std.proofs.Common.{◌≡◌, Bool, true, refl, sym, ap, subst, ◌∙◌, ℕ, suc, ◌≤◌, List, [], ◌∷◌, ◌++◌, length, nat_lt, arith, length-append}
+-- How many commands lines ask for, and what stands before a bad one.
+use Rattle.std.proofs.Common.{◌≡◌, Bool, true, refl, sym, ap, subst, ◌∙◌, ℕ, suc, ◌≤◌, List, [], ◌∷◌, ◌++◌, length, nat_lt, arith}
 use Rattle.std.specs.List.{count_by, filter}
 use Rattle.std.proofs.lemmas.Bool.{lt-ltb}
 use Rattle.std.proofs.lemmas.List.Sums.{length-filter}
 use mathlib.Core.Bool.{cond}
 use Rattle.inlinable_string.specs.declared.run.Command.{Command}
 use Rattle.script_language.specs.Line.{IsLine}
-use Rattle.script_language.specs.Script.{AskFor, IsFirstBad}
+use Rattle.script_language.specs.Script.{AskFor}
 
 -- whether a line has a byte
 abbrev has_byte : List ℕ → Bool
@@ -32,7 +32,7 @@ as_many_commands lines commands asked =
     as_many_kept lines commands asked ∙ length-filter has_byte lines
 
 -- lines of which one asks for nothing ask for nothing
-bad_among : (before behind : List (List ℕ)) (line : List ℕ) (commands : List Command)
+pub bad_among : (before behind : List (List ℕ)) (line : List ℕ) (commands : List Command)
     → ¬ (line ≡ []) → ((command : Command) → ¬ (IsLine line command))
     → ¬ (AskFor (before ++ line ∷ behind) commands)
 bad_among [] behind [] commands bytes rejected asked = bytes refl
@@ -44,14 +44,8 @@ bad_among ((b ∷ first) ∷ before) behind line [] bytes rejected asked = asked
 bad_among ((b ∷ first) ∷ before) behind line (command ∷ commands) bytes rejected asked =
     bad_among before behind line commands bytes rejected asked.1
 
-pub not_asked : (lines : List (List ℕ)) (number : ℕ) (commands : List Command)
-    → IsFirstBad lines number → ¬ (AskFor lines commands)
-not_asked lines number commands bad asked =
-    bad_among bad.before bad.behind bad.line commands bad.has_bytes bad.rejected
-    (subst (λ l. AskFor l commands) bad.split asked)
-
 -- no bad line stands before a first bad one
-not_before : (before other : List (List ℕ)) (line last : List ℕ) (behind rest : List (List ℕ))
+pub not_before : (before other : List (List ℕ)) (line last : List ℕ) (behind rest : List (List ℕ))
     (commands : List Command) → before ++ line ∷ behind ≡ other ++ last ∷ rest
     → AskFor other commands → ¬ (line ≡ []) → ((command : Command) → ¬ (IsLine line command))
     → length other ≤ length before
@@ -68,23 +62,3 @@ not_before (x ∷ before) ((b ∷ first) ∷ other) line last behind rest [] sam
 not_before (x ∷ before) ((b ∷ first) ∷ other) line last behind rest (command ∷ commands) same asked bytes rejected =
     let tails : before ++ line ∷ behind ≡ other ++ last ∷ rest = search same in
     omega (arith, not_before before other line last behind rest commands tails asked.1 bytes rejected)
-
-first_bad_first : (lines : List (List ℕ)) (number other : ℕ) → IsFirstBad lines number
-    → IsFirstBad lines other → other ≤ number
-first_bad_first lines number other bad as_well =
-    let before = not_before bad.before as_well.before bad.line as_well.line bad.behind as_well.behind
-    as_well.commands (sym bad.split ∙ as_well.split) as_well.accepted bad.has_bytes bad.rejected in
-    omega (arith, before, bad.counted, as_well.counted)
-
-pub one_first_bad : (lines : List (List ℕ)) (number other : ℕ) → IsFirstBad lines number
-    → IsFirstBad lines other → number ≡ other
-one_first_bad lines number other bad as_well =
-    let low = first_bad_first lines number other bad as_well in
-    let high = first_bad_first lines other number as_well bad in
-    omega (arith, low, high)
-
-pub counted_among : (lines : List (List ℕ)) (number : ℕ) → IsFirstBad lines number
-    → (1 ≤ number) × (number ≤ length lines)
-counted_among lines number bad =
-    let all = ap length bad.split ∙ length-append bad.before (bad.line ∷ bad.behind) in
-    (omega (arith, bad.counted), omega (arith, bad.counted, all))

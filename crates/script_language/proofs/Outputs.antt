@@ -10,7 +10,7 @@ use Rattle.inlinable_string.specs.declared.run.Reply.{Reply}
 use Rattle.inlinable_string.proofs.Determined.{same_replies, same_storage}
 use Rattle.inlinable_string.proofs.Runs.{text_of}
 use Rattle.script_language.specs.Output.{printed}
-use Rattle.script_language.specs.Script.{IsNamed, IsScript, Prints, PrintsFrom, lines_of, policy_of, room_of, word_of_start}
+use Rattle.script_language.specs.Script.{AskFor, IsNamed, Prints, PrintsFrom, lines_of, policy_of, room_of, word_of_start}
 use Rattle.script_language.specs.declared.start.Start.{Start}
 use Rattle.script_language.specs.declared.start.Start.TheVariants as start
 use Rattle.script_language.proofs.PlainCommands.{plain, plain_asked, plain_legal, plain_state}
@@ -90,13 +90,13 @@ from_same_start start begun one other output as_well is first second same refusa
     same refusals
 
 pub one_output : {Z : Type 0} (words : List (String Z)) (input output as_well : List ℕ)
-    (first : IsScript words input output) (second : IsScript words input as_well)
-    → map is_refusal first.run.run.replies ≡ map is_refusal second.run.run.replies
-    → output ≡ as_well
-one_output words input output as_well first second refusals =
-    from_same_start first.start second.start first.commands second.commands output as_well
-    (one_start words first.start second.start first.named second.named) first.run second.run
-    (plain_asked (lines_of input) first.commands second.commands first.asked second.asked) refusals
+    (start begun : Start) (one other : List Command) → IsNamed words start → IsNamed words begun
+    → AskFor (lines_of input) one → AskFor (lines_of input) other
+    → (first : PrintsFrom start one output) (second : PrintsFrom begun other as_well)
+    → map is_refusal first.run.replies ≡ map is_refusal second.run.replies → output ≡ as_well
+one_output words input output as_well start begun one other named also asked too first second refusals =
+    from_same_start start begun one other output as_well (one_start words start begun named also)
+    first second (plain_asked (lines_of input) one other asked too) refusals
 
 pub one_output_of_start : (start : Start) (commands : List Command) (output as_well : List ℕ)
     (first : PrintsFrom start commands output) (second : PrintsFrom start commands as_well)

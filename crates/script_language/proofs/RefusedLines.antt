@@ -1,12 +1,13 @@
 -- Lines that ask for nothing.
 use Rattle.std.proofs.Common.{◌≡◌, ◌≢◌, refl, sym, ap, subst, ℕ, ◌+◌, ◌≤◌, ◌==◌, List, [], ◌∷◌, ◌++◌, codes, length, slice_index, arith}
+use Rattle.std.specs.Char.{encode_utf8, IsScalar}
 use Rattle.std.specs.List.{position_or_len}
 use Rattle.std.specs.Str.{chars, IsUtf8}
 use Rattle.std.specs.Str.Iter.{LacksByte}
 use Rattle.std.proofs.lemmas.Str.{IsUtf8-encode}
 use Rattle.inlinable_string.proofs.Window.{chars_one}
 use Rattle.inlinable_string.specs.declared.run.Command.{Command}
-use Rattle.inlinable_string.specs.declared.run.Command.TheVariants.{Push, Insert, Truncate, Pop, Clear}
+use Rattle.inlinable_string.specs.declared.run.Command.TheVariants.{Push, Insert, Pop}
 use Rattle.script_language.specs.Line.{IsCharText, IsFirstCut, IsLine, IsTail, space, word_of}
 use Rattle.script_language.specs.Script.{AskFor, IsFirstBad}
 use Rattle.script_language.proofs.Cuts.{has_mark, lacks-from_position}
@@ -26,39 +27,23 @@ refused line word rest is lacks none command asked =
     none command parts.0 parts.1
 
 -- nor a word that no command has alone
-pub refused_alone : (line : List ℕ) → position_or_len (λ b. b == space) line ≡ length line
+refused_alone : (line : List ℕ) → position_or_len (λ b. b == space) line ≡ length line
     → ((command : Command) → line ≡ word_of command → ¬ (IsTail command []))
     → (command : Command) → ¬ (IsLine line command)
 refused_alone line lacks none command asked =
     let parts = line_of_word line command (lacks-from_position space line lacks) asked in
     none command parts.0 parts.1
 
-pub pop_has_no_argument : (rest : List ℕ) (command : Command) → codes "pop" ≡ word_of command
+pop_has_no_argument : (rest : List ℕ) (command : Command) → codes "pop" ≡ word_of command
     → ¬ (IsTail command (space ∷ rest))
 pop_has_no_argument rest Pop same tail = cc
 pop_has_no_argument rest command same tail = absurd (omega (arith, ap length same))
-
-pub clear_has_no_argument : (rest : List ℕ) (command : Command) → codes "clear" ≡ word_of command
-    → ¬ (IsTail command (space ∷ rest))
-clear_has_no_argument rest Clear same tail = cc
-clear_has_no_argument rest command same tail = absurd (omega (arith, ap length same))
-
-pub push_has_an_argument : (command : Command) → codes "push" ≡ word_of command
-    → ¬ (IsTail command [])
-push_has_an_argument (Push c) same (text, at, char) = cc
-push_has_an_argument command same tail = absurd (omega (arith, ap length same))
 
 pub push_needs_a_character : (rest : List ℕ) → ((c : ℕ) → ¬ (IsCharText rest c))
     → (command : Command) → codes "push" ≡ word_of command → ¬ (IsTail command (space ∷ rest))
 push_needs_a_character rest none (Push c) same (text, at, char) =
     let is : text ≡ rest = search (sym at) in none c (subst (λ t. IsCharText t c) is char)
 push_needs_a_character rest none command same tail = absurd (omega (arith, ap length same))
-
-pub truncate_has_an_argument : (command : Command) → codes "truncate" ≡ word_of command
-    → ¬ (IsTail command [])
-truncate_has_an_argument (Truncate place) same (digits, at, written) = cc
-truncate_has_an_argument command same tail =
-    absurd (omega (arith, ap length same, ap (λ l. slice_index l 2) same))
 
 pub insert_needs_a_space : (rest : List ℕ) → LacksByte space rest → (command : Command)
     → codes "insert" ≡ word_of command → ¬ (IsTail command (space ∷ rest))
@@ -73,12 +58,8 @@ small_first : (command : Command) → 97 ≤ slice_index (word_of command) 0
 small_first Pop = omega arith
 small_first command = omega arith
 
-pub no_capital : (command : Command) → codes "Pop" ≢ word_of command
+no_capital : (command : Command) → codes "Pop" ≢ word_of command
 no_capital command same =
-    absurd (omega (arith, ap (λ l. slice_index l 0) same, small_first command))
-
-pub no_empty_word : (command : Command) → [] ≢ word_of command
-no_empty_word command same =
     absurd (omega (arith, ap (λ l. slice_index l 0) same, small_first command))
 
 -- two lines that ask for nothing
@@ -106,6 +87,7 @@ bad_behind before behind line commands asked bytes rejected = record {
 }
 
 -- a text of another number of characters is none
-pub one_character : (text : List ℕ) (c : ℕ) → IsCharText text c → chars text ≡ c ∷ []
-one_character text c char =
-    chars_one c text (subst IsUtf8 (sym char.encoded) (IsUtf8-encode c char.scalar)) char.encoded
+pub one_character : (text : List ℕ) (c : ℕ) → IsScalar c → text ≡ encode_utf8 c
+    → chars text ≡ c ∷ []
+one_character text c scalar encoded =
+    chars_one c text (subst IsUtf8 (sym encoded) (IsUtf8-encode c scalar)) encoded

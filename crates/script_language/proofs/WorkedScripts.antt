@@ -4,12 +4,12 @@ use Rattle.std.specs.String.{string_bytes}
 use Rattle.std.specs.declared.string.String.{String}
 use Rattle.inlinable_string.specs.State.{TextState, storage_when_made}
 use Rattle.inlinable_string.specs.Edit.{edit}
-use Rattle.inlinable_string.specs.Run.{IsFree, IsLegal, LegalReplies, state_after_step, state_after}
+use Rattle.inlinable_string.specs.Run.{IsFree, IsLegal, IsRun, LegalReplies, state_after_step, state_after}
 use Rattle.inlinable_string.specs.declared.run.Command.{Command}
 use Rattle.inlinable_string.specs.declared.run.Reply.{Reply}
 use Rattle.inlinable_string.specs.declared.run.Reply.TheVariants.{NoMemory}
 use Rattle.script_language.specs.Output.{printed}
-use Rattle.script_language.specs.Script.{AskFor, IsMade, IsScript, lines_of, policy_of, room_of, word_of_start}
+use Rattle.script_language.specs.Script.{AskFor, IsMade, IsNamed, lines_of, policy_of, room_of, word_of_start}
 use Rattle.script_language.specs.declared.start.Start.{Start}
 use Rattle.script_language.proofs.PlainCommands.{plain, plain_asked, plain_legal}
 use Rattle.script_language.proofs.Outputs.{one_start, printed_plain}
@@ -36,24 +36,25 @@ Printing start commands P = (room : ℕ) (replies : List Reply) → room_of star
     → P (printed replies (state_after (made start room) commands replies))
 
 -- a script prints what legal replies print to the commands that its lines are known to ask for
-pub script_prints : {Z : Type 0} (words : List (String Z)) (input output : List ℕ) (start : Start)
-    (commands : List Command) (P : List ℕ → Type 0) → IsScript words input output
-    → map string_bytes words ≡ word_of_start start ∷ [] → AskFor (lines_of input) commands
-    → Printing start (map plain commands) P → P output
-script_prints words input output start commands P script named asked prints =
-    let is : script.start ≡ start = one_start words script.start start script.named named in
-    let begun : IsMade start script.run.made = subst (λ b. IsMade b script.run.made) is script.run.begun in
-    let run = script.run.run in
-    let same = plain_asked (lines_of input) script.commands commands script.asked asked in
-    let state = is_made start script.run.made begun in
-    let legal = plain_legal script.run.made script.commands run.replies run.ran.legal in
-    let known = subst (λ cs. LegalReplies script.run.made cs run.replies) same legal in
-    let there = subst (λ s. LegalReplies s (map plain commands) run.replies) state known in
-    let out = run.shown
-    ∙ printed_plain script.run.made run.new script.commands run.replies run.ran
-    ∙ ap (λ cs. printed run.replies (state_after script.run.made cs run.replies)) same
-    ∙ ap (λ s. printed run.replies (state_after s (map plain commands) run.replies)) state in
-    subst P (sym out) (prints script.run.made.capacity run.replies begun.room there)
+script_prints : {Z : Type 0} (words : List (String Z)) (input output : List ℕ) (start : Start)
+    (commands : List Command) (P : List ℕ → Type 0) {begun : Start} {asked : List Command}
+    {old new : TextState} {replies : List Reply} → IsNamed words begun
+    → AskFor (lines_of input) asked → IsMade begun old → IsRun old asked replies new
+    → output ≡ printed replies new → map string_bytes words ≡ word_of_start start ∷ []
+    → AskFor (lines_of input) commands → Printing start (map plain commands) P → P output
+script_prints words input output start commands P {begun} {asked} {old} {new} {replies} named asks made_so ran shown known lines prints =
+    let cs = map plain commands in
+    let is : begun ≡ start = one_start words begun start named known in
+    let as_made : IsMade start old = subst (λ b. IsMade b old) is made_so in
+    let same = plain_asked (lines_of input) asked commands asks lines in
+    let state = is_made start old as_made in
+    let legal = subst (λ l. LegalReplies old l replies) same (plain_legal old asked replies ran.legal) in
+    let out = shown
+    ∙ printed_plain old new asked replies ran
+    ∙ ap (λ l. printed replies (state_after old l replies)) same
+    ∙ ap (λ s. printed replies (state_after s cs replies)) state in
+    subst P (sym out)
+    (prints old.capacity replies as_made.room (subst (λ s. LegalReplies s cs replies) state legal))
 
 -- the reply to a command that is free of memory is that of `edit`
 pub answered_free : (s : TextState) (command : Command) (reply : Reply) → IsLegal s command reply
@@ -97,24 +98,29 @@ free_prints start commands output free is room replies fits legal =
 
 -- a script in which no memory can be refused has one output
 pub one_output_where_free : {Z : Type 0} (words : List (String Z)) (input output : List ℕ)
-    (start : Start) (commands : List Command) (expected : List ℕ) → IsScript words input output
-    → map string_bytes words ≡ word_of_start start ∷ [] → AskFor (lines_of input) commands
+    (start : Start) (commands : List Command) (expected : List ℕ) {begun : Start} {asked : List Command}
+    {old new : TextState} {replies : List Reply} → IsNamed words begun
+    → AskFor (lines_of input) asked → IsMade begun old → IsRun old asked replies new
+    → output ≡ printed replies new → map string_bytes words ≡ word_of_start start ∷ [] → AskFor (lines_of input) commands
     → ((room : ℕ) → room_of start ≤ room → AllFree (made start room) (map plain commands))
     → ((room : ℕ) → printed (answers (made start room) (map plain commands)) (state_after (made start room) (map plain commands) (answers (made start room) (map plain commands))) ≡ expected)
     → output ≡ expected
-one_output_where_free words input output start commands expected script named asked free is =
-    script_prints words input output start commands (λ o. o ≡ expected) script named asked
+one_output_where_free words input output start commands expected named asks made_so ran shown known lines free is =
+    script_prints words input output start commands (λ o. o ≡ expected) named asks made_so ran shown known lines
     (free_prints start (map plain commands) expected free is)
 
 -- a script of one command to which memory may be refused has two
 pub two_outputs_of_one : {Z : Type 0} (words : List (String Z)) (input output : List ℕ)
-    (start : Start) (command : Command) (done refused : List ℕ) → IsScript words input output
+    (start : Start) (command : Command) (done refused : List ℕ) {begun : Start} {asked : List Command}
+    {old new : TextState} {replies : List Reply} → IsNamed words begun
+    → AskFor (lines_of input) asked → IsMade begun old → IsRun old asked replies new
+    → output ≡ printed replies new
     → map string_bytes words ≡ word_of_start start ∷ [] → AskFor (lines_of input) (command ∷ [])
     → ((room : ℕ) → printed ((edit [] (plain command)).0 ∷ []) (state_after_step (made start room) (plain command) (edit [] (plain command)).0) ≡ done)
     → ((room : ℕ) → printed (NoMemory ∷ []) (state_after_step (made start room) (plain command) NoMemory) ≡ refused)
     → (output ≡ done) ⊎ (output ≡ refused)
-two_outputs_of_one words input output start command done refused script named asked is or =
-    script_prints words input output start (command ∷ []) (λ o. (o ≡ done) ⊎ (o ≡ refused)) script named asked
+two_outputs_of_one words input output start command done refused named asks made_so ran shown known lines is or =
+    script_prints words input output start (command ∷ []) (λ o. (o ≡ done) ⊎ (o ≡ refused)) named asks made_so ran shown known lines
     (λ room replies fits legal. by room replies legal)
   where
     by : (room : ℕ) (replies : List Reply) → LegalReplies (made start room) (plain command ∷ []) replies

@@ -1,6 +1,7 @@
 //! Laws over the definitions that the contract of `script` cites. No function here does anything:
 //! its contract is the law.
 ghost use Rattle.std.specs.Prelude.{◌≡◌, ℕ, ◌≤◌, List, length, map, nat_lt};
+ghost use Rattle.std.specs.Str.{IsUtf8};
 ghost use Rattle.std.specs.List.{count_by};
 ghost use Rattle.inlinable_string.specs.Edit.{edit};
 ghost use Rattle.inlinable_string.specs.Run.{need_of};
@@ -43,9 +44,11 @@ pub fn lines_with_a_bad_one_ask_for_no_commands()
         → IsFirstBad lines number → ¬ (AskFor lines commands) }
 {}
 
-/// A script has at most 65,536 bytes.
+/// A script has at most 65,536 bytes, and they are UTF-8.
 pub fn a_script_has_at_most_65536_bytes(words: &[String])
-    ensures { (input output : List ℕ) → IsScript words.now input output → length input ≤ 65536 }
+    ensures short { (input output : List ℕ) → IsScript words.now input output
+        → length input ≤ 65536 }
+    ensures utf8 { (input output : List ℕ) → IsScript words.now input output → IsUtf8 input }
 {}
 
 /// The places of the refusals determine what is printed: two outputs of one script, whose runs have

@@ -1,6 +1,7 @@
-use Rattle.std.proofs.Common.{refl, arith, codes, [], ◌∷◌}
+use Rattle.std.proofs.Common.{refl, subst, arith, codes, [], ◌∷◌}
 use Rattle.inlinable_string.specs.declared.run.Command.TheVariants.{Pop, Clear}
-use Rattle.script_language.proofs.BadLines.{not_asked, one_first_bad}
+use Rattle.script_language.specs.Script.{AskFor}
+use Rattle.script_language.proofs.BadLines.{bad_among, not_before}
 use Rattle.script_language.proofs.RefusedLines.{bad_behind, pop_with_a_capital, pop_with_a_space}
 use Rattle.script_language.proofs.worked.bad_lines.first_bad_lines.Goals as goal
 
@@ -18,9 +19,12 @@ returns-clause-last c =
     pop_with_a_capital
 
 pub returns-clause-none : goal.returns-clause-none
-returns-clause-none c number bad = not_asked _ number (Pop ∷ []) bad ((_, refl, refl), tt)
+returns-clause-none c number bad =
+    bad_among bad.before bad.behind bad.line (Pop ∷ []) bad.has_bytes bad.rejected
+    (subst (λ l. AskFor l (Pop ∷ [])) bad.split ((_, refl, refl), tt))
 
 pub returns-clause-second : goal.returns-clause-second
 returns-clause-second c bad =
-    let first = bad_behind [] (codes "Pop" ∷ []) _ [] tt (λ is. cc) pop_with_a_space in
-    absurd (omega (arith, one_first_bad _ 1 2 first bad))
+    let none_before = not_before [] bad.before (codes "pop ") bad.line (codes "Pop" ∷ []) bad.behind
+    bad.commands bad.split bad.accepted (λ is. cc) pop_with_a_space in
+    absurd (omega (arith, none_before, bad.counted))

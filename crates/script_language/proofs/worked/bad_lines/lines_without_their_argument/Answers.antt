@@ -1,14 +1,8 @@
 use Rattle.std.proofs.Common.{refl, codes}
 use Rattle.script_language.specs.Line.{space}
 use Rattle.script_language.proofs.Cuts.{lacks-from_position}
-use Rattle.script_language.proofs.RefusedLines.{refused, refused_alone, push_has_an_argument, truncate_has_an_argument, insert_needs_a_space}
+use Rattle.script_language.proofs.RefusedLines.{insert_needs_a_space, refused}
 use Rattle.script_language.proofs.worked.bad_lines.lines_without_their_argument.Goals as goal
-
-pub returns-clause-push : goal.returns-clause-push
-returns-clause-push c = refused_alone (codes "push") refl push_has_an_argument
-
-pub returns-clause-truncate : goal.returns-clause-truncate
-returns-clause-truncate c = refused_alone (codes "truncate") refl truncate_has_an_argument
 
 pub returns-clause-insert : goal.returns-clause-insert
 returns-clause-insert c =

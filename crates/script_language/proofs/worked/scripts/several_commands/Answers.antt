@@ -11,8 +11,8 @@ use Rattle.script_language.proofs.worked.scripts.several_commands.Goals as goal
 pub returns : goal.returns
 unfolding digits encode chars
 returns c output script =
-    one_output_where_free _ _ output start.Inline
-    (PushStr (borrowed (codes "hi")) ∷ Insert 3 33 ∷ Truncate 1 ∷ Remove 0 ∷ Pop ∷ []) _ script
+    one_output_where_free _ (codes "push_str hi\n\ninsert 3 !\ntruncate 1\nremove 0\npop\n") output start.Inline
+    (PushStr (borrowed (codes "hi")) ∷ Insert 3 33 ∷ Truncate 1 ∷ Remove 0 ∷ Pop ∷ []) _ script.named script.asked script.run.begun script.run.run.ran script.run.run.shown
     c.requires.inline (
       (_, refl, refl),
       (

@@ -1,4 +1,4 @@
-use Rattle.std.proofs.Common.{refl}
+use Rattle.std.proofs.Common.{codes, refl}
 use lib.Utf8.{encode}
 use Rattle.std.specs.Fmt.{digits}
 use Rattle.inlinable_string.specs.declared.run.Command.TheVariants.{ShrinkToFit}
@@ -9,5 +9,5 @@ use Rattle.script_language.proofs.worked.scripts.shrinking_a_string.Goals as goa
 pub returns : goal.returns
 unfolding digits encode
 returns c output script =
-    two_outputs_of_one _ _ output start.String ShrinkToFit _ _ script c.requires.string
+    two_outputs_of_one _ (codes "shrink_to_fit\n") output start.String ShrinkToFit _ _ script.named script.asked script.run.begun script.run.run.ran script.run.run.shown c.requires.string
     ((_, refl, refl), tt) (λ room. refl) (λ room. refl)
