@@ -89,7 +89,7 @@ done_or_not Done = inl refl
 done_or_not r = inr (λ h. cc)
 
 -- a command that stays within the limit is free, and leaves the text inline
-short_step : (s : TextState) (command : Command) (reply : Reply) → s.policy.demotes ≡ true → s.storage ≡ Inline
+pub short_step : (s : TextState) (command : Command) (reply : Reply) → s.policy.demotes ≡ true → s.storage ≡ Inline
     → ReservesWithin s.policy.limit s.text (need_of command) → size (edit s.text command).1 ≤ s.policy.limit → IsLegal s command reply
     → (reply ≡ (edit s.text command).0) × (storage_after_step s command reply ≡ Inline)
 short_step s command reply demotes inline reserved short legal = elim (done_or_not (edit s.text command).0) [

@@ -11,5 +11,6 @@ pub mod Joined
 pub mod Turns
 pub mod Determined
 pub mod Free
+pub mod Unrefused
 pub mod Followed
 pub mod Places

@@ -7,6 +7,17 @@ use Rattle.inlinable_string.specs.declared.run.Command.{Command}
 use Rattle.inlinable_string.specs.declared.run.Reply.{Reply}
 use Rattle.inlinable_string.specs.declared.run.Reply.TheVariants.{NoMemory}
 
+-- the replies to commands from the text t, one after the other, where no memory is refused
+abbrev pub replies_of : List ℕ → List Command → List Reply
+replies_of t [] = []
+replies_of t (command ∷ commands) =
+    (edit t command).0 ∷ replies_of (edit t command).1 commands
+
+-- the text after them
+abbrev pub edited : List ℕ → List Command → List ℕ
+edited t [] = t
+edited t (command ∷ commands) = edited (edit t command).1 commands
+
 -- what is reserved, if it is, has room within n bytes beside the text t
 abbrev pub ReservesWithin : ℕ → List ℕ → Need → Type 0
 ReservesWithin n t (reserves m) = size t + m ≤ n
