@@ -4,3 +4,4 @@ pub mod Follows
 pub mod LegalReplies
 pub mod WorkedRuns
 pub mod Replaced
+pub mod Parts

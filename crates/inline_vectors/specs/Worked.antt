@@ -4,7 +4,7 @@ use Rattle.std.specs.Borrow.{Bor}
 use Rattle.inlinable_string.specs.State.{TextState}
 use Rattle.inlinable_string.specs.declared.string_ext.Storage.TheVariants.{Inline, Heap}
 use Rattle.inlinable_string.specs.declared.run.Command.{Command}
-use Rattle.inlinable_string.specs.declared.run.Command.TheVariants.{PushStr, Insert, Truncate, Pop, Remove, Reserve}
+use Rattle.inlinable_string.specs.declared.run.Command.TheVariants.{Push, PushStr, Insert, Truncate, Pop, Remove, Reserve}
 use Rattle.inlinable_string.specs.declared.run.Reply.{Reply}
 use Rattle.inlinable_string.specs.declared.run.Reply.TheVariants.{Done, Char, BadPlace, NoMemory}
 
@@ -51,3 +51,11 @@ room_commands = Reserve 28 ∷ Insert 1 8364 ∷ Remove 2 ∷ Remove 1 ∷ Reser
 -- the replies to them, where memory is refused to the first
 abbrev pub room_replies : List Reply
 room_replies = NoMemory ∷ Done ∷ BadPlace ∷ Char 8364 ∷ Done ∷ []
+
+-- é put at the end, a place inside it cut at, the first character taken out, and the last taken off
+abbrev pub four_edits : List Command
+four_edits = Push 233 ∷ Truncate 2 ∷ Remove 0 ∷ Pop ∷ []
+
+-- the last character taken off twice
+abbrev pub two_commands : List Command
+two_commands = Pop ∷ Pop ∷ []

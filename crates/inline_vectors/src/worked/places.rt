@@ -1,0 +1,60 @@
+//! Where texts fall into parts, what stands between these, and the ends of texts.
+ghost use Rattle.std.specs.Prelude.{◌≡◌, ◌∷◌, [], List, ℕ, Some, None, codes};
+ghost use Rattle.inlinable_string.specs.Text.{bytes_of, IsCut, IsPlace, IsSplice, IsRemoval, with_first};
+ghost use Rattle.inlinable_string.specs.Edit.{before_last, last_off};
+
+/// The UTF-8 of "aé€" and of the G clef.
+pub fn bytes_of_each_width()
+    ensures { bytes_of (97 ∷ 233 ∷ 8364 ∷ 119070 ∷ [])
+        ≡ 97 ∷ 195 ∷ 169 ∷ 226 ∷ 130 ∷ 172 ∷ 240 ∷ 157 ∷ 132 ∷ 158 ∷ [] }
+{}
+
+/// "éa" falls into "é" and "a" at 2, the size of é, and nowhere else; and into no other two texts.
+pub fn cut_of_two_characters()
+    ensures met { IsCut (233 ∷ 97 ∷ []) 2 (233 ∷ []) (97 ∷ []) }
+    ensures inside { ¬ IsCut (233 ∷ 97 ∷ []) 1 (233 ∷ []) (97 ∷ []) }
+    ensures past { ¬ IsCut (233 ∷ 97 ∷ []) 3 (233 ∷ []) (97 ∷ []) }
+    ensures before { ¬ IsCut (233 ∷ 97 ∷ []) 2 (98 ∷ []) (97 ∷ []) }
+    ensures behind { ¬ IsCut (233 ∷ 97 ∷ []) 2 (233 ∷ []) (98 ∷ []) }
+{}
+
+/// The places of "é" are 0 and 2: 1 is inside, and 3 is past the end.
+pub fn places_of_one_character()
+    ensures start { IsPlace (233 ∷ []) 0 }
+    ensures inside { ¬ IsPlace (233 ∷ []) 1 }
+    ensures end { IsPlace (233 ∷ []) 2 }
+    ensures past { ¬ IsPlace (233 ∷ []) 3 }
+{}
+
+/// "b" put into "é" at 2 makes "éb", and not "bé"; at 1 nothing is put in.
+pub fn splice_of_one_character()
+    ensures met { IsSplice (233 ∷ []) 2 (98 ∷ []) (233 ∷ 98 ∷ []) }
+    ensures turned { ¬ IsSplice (233 ∷ []) 2 (98 ∷ []) (98 ∷ 233 ∷ []) }
+    ensures lost { ¬ IsSplice (233 ∷ []) 2 (98 ∷ []) (98 ∷ []) }
+    ensures inside { (v : List ℕ) → ¬ IsSplice (233 ∷ []) 1 (98 ∷ []) v }
+{}
+
+/// Of "éb" the b is taken out at 2 and leaves "é", and no other character or text; the é is taken
+/// out at 0, and at 3 no character begins.
+pub fn removal_of_one_character()
+    ensures met { IsRemoval (233 ∷ 98 ∷ []) 2 98 (233 ∷ []) }
+    ensures first { IsRemoval (233 ∷ 98 ∷ []) 0 233 (98 ∷ []) }
+    ensures other { ¬ IsRemoval (233 ∷ 98 ∷ []) 2 97 (233 ∷ []) }
+    ensures left { ¬ IsRemoval (233 ∷ 98 ∷ []) 2 98 (233 ∷ 98 ∷ []) }
+    ensures end { (v : List ℕ) (c : ℕ) → ¬ IsRemoval (233 ∷ 98 ∷ []) 3 c v }
+{}
+
+/// A character goes before the first of two parts, where there are any.
+pub fn first_of_two_parts()
+    ensures parts { with_first 97 (Some (codes "b", codes "c"))
+        ≡ Some (codes "ab", codes "c") }
+    ensures none { with_first 97 None ≡ None }
+{}
+
+/// "abc" is "ab" and then c; a character before no text is the last, and before another it is not.
+pub fn last_of_three_characters()
+    ensures three { last_off (codes "abc") ≡ Some (codes "ab", 99) }
+    ensures none { last_off [] ≡ None }
+    ensures before_none { before_last 97 None ≡ ([], 97) }
+    ensures before_some { before_last 97 (Some (codes "b", 99)) ≡ (codes "ab", 99) }
+{}
