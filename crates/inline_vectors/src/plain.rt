@@ -1,7 +1,7 @@
 //! The definitions of `inlinable_string` as a plain, slow program over lists of characters, proved
 //! equal to them. A test runs the real code, hands its replies to `follow`, and compares the text,
 //! its storage and its capacity.
-ghost use Rattle.std.specs.Prelude.{◌≡◌, ◌+◌, ◌≤◌, ◌↔◌, length, IfOk, IfSome, IsSome, IsTrue};
+ghost use Rattle.std.specs.Prelude.{◌≡◌, ◌+◌, ◌≤◌, ◌↔◌, length, max, IfOk, IfSome, IsSome, IsTrue};
 ghost use Rattle.std.specs.Str.{chars};
 ghost use Rattle.inlinable_string.specs.Text.{size};
 ghost use Rattle.inlinable_string.specs.Run.{IsLegal, LegalReplies, state_after_step, state_after};
@@ -17,7 +17,8 @@ pub mod text;
 use room::{PlainText, credit_after_step, is_counted, is_free, need_of, storage_after_step};
 use text::{chars_of, edit, size_of, text_after_step};
 
-/// A string as a plain text, with where it lies and so many bytes of room there.
+/// A string as a plain text, with where it lies and so many bytes of room there, or as many as the
+/// string has where these are more.
 pub fn plain_from(
     alloc: Global,
     string: &str,
@@ -28,8 +29,8 @@ pub fn plain_from(
 ) -> Result<PlainText, AllocError>
     ensures text { IfOk result (λ plain. plain.text.items ≡ chars string.now) }
     ensures storage { IfOk result (λ plain. plain.storage ≡ storage) }
-    ensures capacity { length string.now ≤ capacity
-        → IfOk result (λ plain. (state_of plain).capacity ≡ capacity) }
+    ensures capacity { IfOk result
+        (λ plain. (state_of plain).capacity ≡ max (length string.now) capacity) }
     ensures demotes { IfOk result (λ plain. plain.demotes ≡ demotes) }
     ensures limit { IfOk result (λ plain. plain.limit ≡ limit) }
 {

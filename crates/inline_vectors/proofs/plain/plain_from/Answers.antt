@@ -4,4 +4,4 @@ use Rattle.inline_vectors.proofs.plain.plain_from.Goals as goal
 
 pub returns-clause-capacity : goal.returns-clause-capacity
 returns-clause-capacity c =
-    λ within. omega (arith, size_of_chars _ _ c.in_ok-text.ensures c.utf8.string)
+    omega (arith, size_of_chars _ _ c.in_ok-text.ensures c.utf8.string)
