@@ -105,6 +105,7 @@ pub fn replace(alloc: Global, string: &mut String, short: &mut Short) -> Result<
     replacements::replaced(string, b"bytes");
     replacements::take_bytes(short, b"bytes");
     wholes::replace(alloc, string, "another")?;
+    wholes::add_and_take_back(string, "less")?;
     wholes::try_twice(short, "more")
 }
 
@@ -130,13 +131,15 @@ pub fn run_lists(string: &mut String, short: &mut Short) {
     runs::letters_by_run(short);
     runs::clear_by_run(string);
     runs::empties_are_known(short);
-    runs::reserved_by_run(string);
+    runs::push_by_run(string, 'c');
+    runs::add_by_run(short, "more");
 }
 
 pub fn edit(line: &mut Line<16>, text: &mut InlineStringN<16>) {
     line.home();
     line.type_char('c');
     line.paste("text");
+    line.complete("ure");
     line.left();
     line.right();
     line.backspace();

@@ -1,10 +1,11 @@
 //! Lists of commands: what the replies and the text are where the commands are known.
 ghost use Rattle.std.specs.Prelude.{◌≡◌, ◌+◌, ◌++◌, [], ◌∷◌, vec_len, IsTrue};
 ghost use Rattle.std.specs.Str.{chars};
+ghost use Rattle.inlinable_string.specs.State.{HasInlineRoom};
 
-use inlinable_string::StringExt;
 use inlinable_string::laws::sizes_of_parts;
 use inlinable_string::run::{Command, Reply, reserved_pushes_never_fail, run, run_dyn, run_each};
+use inlinable_string::{Storage, StringExt};
 use std::alloc::{AllocError, Global};
 
 /// Sets a text by two commands.
@@ -46,18 +47,36 @@ pub fn empties_are_known<S: StringExt>(text: &mut S) -> Reply
     replies[1]
 }
 
-/// A push after a reservation that was carried out is carried out too.
-pub fn reserved_by_run<S: StringExt>(text: &mut S) -> bool
-    ensures { IsTrue result → (S.state text.new).text ≡ (S.state text.old).text ++ 97 ∷ [] }
+/// A character after a reservation of four bytes is not refused.
+pub fn push_by_run<S: StringExt>(text: &mut S, ch: char) -> bool
+    ensures { IsTrue result → (S.state text.new).text ≡ (S.state text.old).text ++ ch ∷ [] }
 {
+    sizes_of_parts();
     reserved_pushes_never_fail();
     let mut replies = [Reply::NoMemory; 2];
     run(
         text,
-        &[Command::Reserve(1), Command::Push('a')],
+        &[Command::Reserve(4), Command::Push(ch)],
         &mut replies,
     );
     replies[0] == Reply::Done
+}
+
+/// On an inline text with room both replies are `Done`, so the text is known, and it stays inline.
+pub fn letters_in_room<S: StringExt>(text: &mut S) -> [Reply; 2]
+    requires { HasInlineRoom (S.state text.old) 2 }
+    ensures replies { result ≡ Reply.Done ∷ Reply.Done ∷ [] }
+    ensures text { (S.state text.new).text ≡ (S.state text.old).text ++ 97 ∷ 98 ∷ [] }
+    ensures storage { (S.state text.new).storage ≡ Storage.Inline }
+{
+    sizes_of_parts();
+    let mut replies = [Reply::NoMemory; 2];
+    run(
+        text,
+        &[Command::Push('a'), Command::Push('b')],
+        &mut replies,
+    );
+    replies
 }
 
 /// A text that is added after a reservation is not refused.
