@@ -1,0 +1,24 @@
+"""How much the gate must try at least: a part that has tried less has shown nothing, and fails.
+
+A number is raised when something is added. It is lowered only in the commit that takes away what it
+counts, with the reason.
+"""
+
+# Edits in `must-fail-together/`, by crate.
+EDITS = {'inlinable_string': 97, 'inline_vectors': 34, 'script_language': 29}
+
+# By crate: requests for memory refused one after the other, and how often a test met one.
+REFUSALS = {'inline_refusals': (4, 44), 'inline_script': (7, 36)}
+
+# The stored cases of each file in `replay/`: just so many.
+STORED_CASES = {'named.cases': 258, 'robin.cases': 2277, 'sparrow.cases': 460, 'wren.cases': 400}
+
+# Hostile inputs: how many, the part of them that is accepted and so runs, and how many there must be
+# of each reply and of each fault that an input can lead to. (Want of memory before a run can't be
+# brought about by an input.)
+HOSTILE_INPUTS = 20_000
+HOSTILE_ACCEPTED_PART = 1 / 5
+HOSTILE_OF_EACH = 100
+HOSTILE_REPLIES = ('done', 'char', 'none', 'bad place', 'not utf-8', 'wrong length', 'no memory')
+HOSTILE_FAULTS = ('bad argument', 'read fault', 'input too long', 'input is not utf-8', 'bad command',
+                  'write fault')

@@ -1,0 +1,129 @@
+"""gate edits [CRATE ..] [--jobs N]: tries the wrong code of `must-fail-together`, several edits in one check.
+
+Most of the time of a check goes to reading what an edit has not changed. So edits that each change
+the body of one function, no two of the same one, are tried in one check. It is as strict as to try
+each alone, and stricter than `rt must-fail`: the check must leave open, in each function, the goals
+that the edit names, and no other function may be refused by a goal of its own. One that is refused
+only since it calls such a function does not count.
+
+An edit of several functions, or of anything but the body of the function that it names (a macro, a
+constant), has a check of its own: what it breaks beyond that can't be taken for the work of another
+edit, nor stand for another's goal.
+"""
+import argparse
+import os
+import sys
+from collections import Counter
+from concurrent.futures import ThreadPoolExecutor
+from functools import partial
+from queue import SimpleQueue
+
+from floors import EDITS
+from gate_parts.edit_files import edits_of, texts_with
+from gate_parts.enclosing import function_changed
+from gate_parts.rooms import changed_files, check, copies, require_proof
+from gate_parts.said import refused_in
+from gate_parts.tree import PROCESSORS, TOP, Failure, crate_folder, crates_with, text_of
+
+FOLDER = 'must-fail-together'
+
+
+def own_edits(crate):
+    """The edits of the crate, which name functions of it alone."""
+    edits = edits_of(os.path.join(crate_folder(crate), FOLDER), crate)
+    for edit in edits:
+        for goal in edit.goals:
+            if goal.crate != crate:
+                raise Failure(f'{crate}: {edit.name} names {goal}, which is of another crate')
+    if len(edits) < EDITS.get(crate, 1):
+        raise Failure(f'{crate} has {len(edits)} edits, and must have {EDITS.get(crate, 1)}')
+    return edits
+
+
+def stays_in_its_function(crate, edit):
+    """Whether the edit changes nothing but the body of the one function that it names."""
+    changed = {function_changed(text_of(os.path.join(crate_folder(crate), change.path)), change)
+               for change in edit.changes}
+    return changed == {goal.function for goal in edit.goals} and len(changed) == 1
+
+
+def groups_of(crate, edits):
+    """The edits in lists, each for one check: those that may go together, and those that go alone."""
+    together = [edit for edit in edits if stays_in_its_function(crate, edit)]
+    alone = [[edit] for edit in edits if edit not in together]
+    breaking = Counter(function for edit in together for function in edit.functions())
+    groups = [[] for _ in range(max(breaking.values(), default=0))]
+    for edit in together:
+        able = [group for group in groups
+                if all(edit.functions().isdisjoint(other.functions()) for other in group)]
+        min(able, key=len).append(edit)
+    return groups + alone
+
+
+def breaches(group, refused):
+    """In words, what the check did not refuse as the edits say."""
+    goals = [goal for edit in group for goal in edit.goals]
+    for goal in goals:
+        left = refused.get(goal.function, ())
+        if goal.name not in left:
+            yield f'{goal.function}: {goal.name} is not refused; open goals of it: {listed(left)}'
+    for function in sorted(refused.keys() - {goal.function for goal in goals}):
+        yield f'{function} is refused too: {listed(refused[function])}'
+
+
+def listed(names):
+    return ', '.join(sorted(names)) or 'none'
+
+
+def tried(rooms, task):
+    """Tries a group of edits of a crate in a copy that no other try uses, and puts the copy back."""
+    crate, group = task
+    room = rooms.get()
+    try:
+        folder = crate_folder(crate, room)
+        with changed_files(folder, texts_with(folder, group)):
+            said, _ = check(room, crate, 1)
+    finally:
+        rooms.put(room)
+    found = list(breaches(group, refused_in(crate, said)))
+    names = ', '.join(edit.name for edit in group)
+    print(f'{crate}: {"NOT AS THEY MUST BE" if found else "refused"}: {names}', *found, sep='\n    ')
+    if found:
+        print(said)
+    sys.stdout.flush()
+    return not found
+
+
+def prepared(crate, jobs):
+    """The groups of edits of the crate, which can all be applied; the crate is proved as it is."""
+    groups = groups_of(crate, own_edits(crate))
+    for group in groups:
+        texts_with(crate_folder(crate), group)
+    require_proof(TOP, crate, jobs)
+    alone = sum(len(group) == 1 for group in groups)
+    print(f'{crate}: {sum(map(len, groups))} edits in {len(groups)} checks, {alone} of them of one edit', flush=True)
+    return [(crate, group) for group in groups]
+
+
+def options(words):
+    parser = argparse.ArgumentParser(prog='gate edits', description=__doc__,
+                                     formatter_class=argparse.RawDescriptionHelpFormatter)
+    parser.add_argument('crates', nargs='*', metavar='CRATE')
+    parser.add_argument('--jobs', type=int, default=PROCESSORS, metavar='N')
+    return parser.parse_args(words)
+
+
+def main(words):
+    given = options(words)
+    crates = given.crates or sorted({*crates_with(FOLDER), *EDITS})
+    tasks = [task for crate in crates for task in prepared(crate, given.jobs)]
+    rooms = SimpleQueue()
+    with copies(crates, min(given.jobs, len(tasks))) as places:
+        for place in places:
+            rooms.put(place)
+        with ThreadPoolExecutor(len(places)) as pool:
+            well = list(pool.map(partial(tried, rooms), tasks))
+    good = sum(len(group) for (_, group), is_well in zip(tasks, well) if is_well)
+    others = sum(len(group) for _, group in tasks) - good
+    print(f'{good} edits refused as they say, {others} in checks that are not as they must be')
+    return good > 0 and not others

@@ -1,0 +1,192 @@
+"""The rules of `inline_script` as a small model: what a run writes, and the status it ends with.
+
+Written from the rules alone, for `gate hostile`. A text is a plain list of characters. Memory is
+ample: only a reservation that no machine can grant is refused.
+"""
+MOST_BYTES = 65_536
+GREATEST = 2 ** 64 - 1
+# Memory grants a text of the first size, and no process of an x86-64 machine can have the second.
+AMPLE, ABSURD = 10 ** 7, 2 ** 48
+# Of each word: how many bytes lie inline at most, None where no text does; and where it starts.
+STARTS = {'inline': (30, 'inline'), 'inline0': (0, 'inline'), 'inline8': (8, 'inline'),
+          'heap': (30, 'heap'), 'string': (None, 'heap')}
+
+
+class Undecided(Exception):
+    """A reservation that memory may grant or refuse."""
+
+
+class Fault(Exception):
+    """The line that is all the output, its status, and the name under which it is counted."""
+
+    def __init__(self, line, status, name=None):
+        super().__init__(line)
+        self.line, self.status, self.name = line, status, name or line
+
+
+# The parts of a line. Each answers None where it cannot be read.
+
+def number(digits):
+    if not 1 <= len(digits) <= 20 or set(digits) - set('0123456789'):
+        return None
+    return int(digits) if int(digits) <= GREATEST else None
+
+
+def character(rest):
+    return rest if len(rest) == 1 else None
+
+
+def string(rest):
+    return rest
+
+
+def pairs(rest):
+    if len(rest) % 2 or set(rest) - set('0123456789abcdefABCDEF'):
+        return None
+    return bytes.fromhex(rest)
+
+
+ARGUMENTS = {'push': [character], 'push_str': [string], 'insert': [number, character], 'insert_str': [number, string],
+             'truncate': [number], 'pop': [], 'remove': [number], 'clear': [], 'replace_bytes': [pairs],
+             'reserve': [number], 'reserve_exact': [number], 'shrink_to_fit': []}
+
+
+def command_of(line):
+    """A line's word and its arguments; None where the line is bad."""
+    word = line.split(' ')[0]
+    if word not in ARGUMENTS:
+        return None
+    command, rest = [word], line[len(word):]
+    for read in ARGUMENTS[word]:
+        if not rest.startswith(' '):
+            return None
+        # only a number ends at a space
+        part = rest[1:].split(' ')[0] if read is number else rest[1:]
+        command.append(read(part))
+        rest = rest[1 + len(part):]
+    return None if rest or None in command else command
+
+
+class Text:
+    """A list of characters, and where it lies. Each command answers its reply."""
+
+    def __init__(self, word):
+        self.limit, self.storage = STARTS[word]
+        self.chars, self.size = [], 0
+
+    def obey(self, command):
+        word, *arguments = command
+        return getattr(self, word)(*arguments)
+
+    def index_of(self, place):
+        """How many characters stand before a place; None where the text does not fall in two there."""
+        index = 0
+        while place > 0 and index < len(self.chars):
+            place -= width(self.chars[index])
+            index += 1
+        return None if place else index
+
+    def make_room(self, size):
+        if self.storage == 'inline' and size > self.limit:
+            self.storage = 'heap'
+        return 'done'
+
+    def put_in(self, index, added):
+        self.chars[index:index] = added
+        self.size += width(added)
+        return self.make_room(self.size)
+
+    def take_out(self, index):
+        char = self.chars.pop(index)
+        self.size -= width(char)
+        return 'char ' + char
+
+    def push(self, char):
+        return self.put_in(len(self.chars), char)
+
+    push_str = push
+
+    def insert(self, place, char):
+        index = self.index_of(place)
+        return 'bad place' if index is None else self.put_in(index, char)
+
+    insert_str = insert
+
+    def truncate(self, place):
+        index = self.index_of(place)
+        if index is None:
+            return 'bad place'
+        self.chars, self.size = self.chars[:index], place
+        return 'done'
+
+    def remove(self, place):
+        index = self.index_of(place)
+        return 'bad place' if index in (None, len(self.chars)) else self.take_out(index)
+
+    def pop(self):
+        return self.take_out(-1) if self.chars else 'none'
+
+    def clear(self):
+        return self.truncate(0)
+
+    def replace_bytes(self, data):
+        if len(data) != self.size:
+            return 'wrong length'
+        try:
+            self.chars = list(data.decode())
+        except UnicodeDecodeError:
+            return 'not utf-8'
+        return 'done'
+
+    def reserve(self, more):
+        size = self.size + more
+        if AMPLE < size < ABSURD:
+            raise Undecided
+        return 'no memory' if size >= ABSURD else self.make_room(size)
+
+    reserve_exact = reserve
+
+    def shrink_to_fit(self):
+        if self.limit is not None and self.size <= self.limit:
+            self.storage = 'inline'
+        return 'done'
+
+
+def width(text):
+    return len(text.encode())
+
+
+def accepted(case):
+    """The word and the commands of a case; a fault where it is refused, the first in the order of the rules."""
+    words = [word.decode(errors='replace') for word in case.words]
+    if len(words) != 1 or words[0] not in STARTS:
+        raise Fault('bad argument', 2)
+    if case.io == 'stdin-dir':
+        raise Fault('read fault', 1)
+    if case.io == 'stdin-zero' or len(case.input) > MOST_BYTES:
+        raise Fault('input too long', 2)
+    try:
+        lines = case.input.decode().split('\n')
+    except UnicodeDecodeError:
+        raise Fault('input is not utf-8', 2)
+    commands = [(at, command_of(line)) for at, line in enumerate(lines, 1) if line]
+    for at, command in commands:
+        if command is None:
+            raise Fault(f'line {at}: bad command', 2, 'bad command')
+    return words[0], [command for _, command in commands]
+
+
+def answer(case):
+    """Gives a case its output and status. Answers how it ends, and its replies."""
+    can_write, replies = case.io not in ('stdout-full', 'stdout-closed'), []
+    try:
+        word, commands = accepted(case)
+        text = Text(word)
+        replies = [text.obey(command) for command in commands]
+        lines = [*replies, 'text ' + ''.join(text.chars), f'length {text.size}', 'storage ' + text.storage]
+        ends, case.status = ('accepted', 0) if can_write else ('write fault', 1)
+    except Fault as fault:
+        lines, ends, case.status = [fault.line], fault.name, fault.status
+        ends += '' if can_write else ', not written'
+    case.output = ''.join(line + '\n' for line in lines).encode() if can_write else b''
+    return ends, replies

@@ -1,0 +1,63 @@
+"""Rooms: copies of crates in which edits are tried, so that the tree itself is never changed."""
+import os
+import shutil
+import subprocess
+import tempfile
+from contextlib import contextmanager
+
+from gate_parts.tree import TOP, Failure, crate_folder, text_of, with_those_below, write_text
+
+# Read by `rt` beside the crates.
+AT_THE_TOP = ('crates.txt', 'HANDLES')
+
+
+def check(top, crate, jobs, *options):
+    """What a check of the crate prints, and whether it is proved."""
+    ran = subprocess.run(['rt', 'check', '--jobs', str(jobs), *options], cwd=crate_folder(crate, top),
+                         stdin=subprocess.DEVNULL, stdout=subprocess.PIPE, stderr=subprocess.STDOUT,
+                         encoding='utf-8', errors='replace')
+    return ran.stdout, ran.returncode == 0
+
+
+def require_proof(top, crate, jobs):
+    """Checks that the crate is proved there; what the check keeps in out/ serves all that come after it."""
+    said, is_well = check(top, crate, jobs)
+    if not is_well:
+        raise Failure(f'{crate} is not proved as it is:\n{said}')
+
+
+@contextmanager
+def copies(crates, count):
+    """So many copies of the crates and of all that they stand on, with what their checks have kept."""
+    kept = with_those_below(crates)
+    with tempfile.TemporaryDirectory(prefix='gate-') as place:
+        rooms = [os.path.join(place, str(number)) for number in range(count)]
+        for room in rooms:
+            copy_crates(room, kept)
+        yield rooms
+
+
+def copy_crates(room, kept):
+    """Copies the tree's crates; of those that are not kept only what `rt` may look at."""
+    for crate in os.listdir(os.path.join(TOP, 'crates')):
+        left_out = () if crate in kept else ('out',)
+        shutil.copytree(crate_folder(crate), crate_folder(crate, room), symlinks=True,
+                        ignore=shutil.ignore_patterns(*left_out))
+    for name in AT_THE_TOP:
+        shutil.copy2(os.path.join(TOP, name), os.path.join(room, name))
+
+
+@contextmanager
+def changed_files(folder, texts):
+    """While it lasts, these files of the folder have these texts; then they have their own again."""
+    own = {path: text_of(os.path.join(folder, path)) for path in texts}
+    try:
+        write_all(folder, texts)
+        yield
+    finally:
+        write_all(folder, own)
+
+
+def write_all(folder, texts):
+    for path, text in texts.items():
+        write_text(os.path.join(folder, path), text)
