@@ -22,3 +22,10 @@ HOSTILE_OF_EACH = 100
 HOSTILE_REPLIES = ('done', 'char', 'none', 'bad place', 'not utf-8', 'wrong length', 'no memory')
 HOSTILE_FAULTS = ('bad argument', 'read fault', 'input too long', 'input is not utf-8', 'bad command',
                   'write fault')
+
+# Edits in `wrong-definitions/`, all crates together.
+WRONG_DEFINITIONS = 60
+
+# Edits in `wrong-clauses/`, and public functions of `callers` that promise something.
+WRONG_CLAUSES = 4
+CALLERS = 40

@@ -39,7 +39,7 @@ class Tally:
             if text:
                 self.shortest[name] = sorted([*self.shortest[name], text], key=len)[:MOST_PRINTED]
 
-    def shortfalls(self):
+    def shortfalls(self, of_each=HOSTILE_OF_EACH):
         """In words, of what there is less than there must be."""
         count = sum(self.ends.values())
         least = count * HOSTILE_ACCEPTED_PART
@@ -47,8 +47,8 @@ class Tally:
             yield f'{self.ends["accepted"]} inputs of {count} are accepted, and at least {least:.0f} must be'
         for title, counts, kinds in (('replies', self.replies, HOSTILE_REPLIES), ('faults', self.ends, HOSTILE_FAULTS)):
             for kind in kinds:
-                if counts[kind] < HOSTILE_OF_EACH:
-                    yield f'{counts[kind]} {title} are `{kind}`, and at least {HOSTILE_OF_EACH} must be'
+                if counts[kind] < of_each:
+                    yield f'{counts[kind]} {title} are `{kind}`, and at least {of_each} must be'
 
 
 def tried(programs, seed, number):

@@ -1,0 +1,93 @@
+"""gate callers [--jobs N]: shows that the callers of a library need the clauses of its contracts.
+
+The crate `callers` has functions with contracts and no proof of its own: all that they promise
+follows from the library's contracts. The edits of `wrong-clauses` weaken or drop clauses of these,
+each named with the callers that must then be refused. They are all applied at once, the library is
+proved anew, since a weaker promise is kept all the more, and then just the named callers must be
+refused, each by the goals that are named.
+"""
+import argparse
+import os
+import re
+
+from floors import CALLERS, WRONG_CLAUSES
+from gate_parts.edit_files import edits_of, texts_with
+from gate_parts.edits import breaches
+from gate_parts.rooms import changed_files, check, copies, require_proof
+from gate_parts.said import refused_in
+from gate_parts.tree import PROCESSORS, TOP, Failure, crate_folder, crates_with, text_of
+
+FOLDER = 'wrong-clauses'
+CRATE = 'callers'
+# A public function, up to the brace of its body or of its last clause.
+PUBLIC_FUNCTION = re.compile(r'^ *pub fn .*?(?=^ *pub fn |\Z)', re.MULTILINE | re.DOTALL)
+ENSURES = re.compile(r'^ *ensures\b', re.MULTILINE)
+
+
+def wrong_clauses(library):
+    """The edits of the library's contracts, which name callers alone and can be applied together."""
+    edits = edits_of(os.path.join(crate_folder(library), FOLDER), library)
+    for edit in edits:
+        for goal in edit.goals:
+            if goal.crate != CRATE:
+                raise Failure(f'{library}: {edit.name} names {goal}, which is no function of {CRATE}')
+    texts_with(crate_folder(library), edits)
+    return edits
+
+
+def promising(text):
+    """How many public functions of a source text have an `ensures`."""
+    return sum(bool(ENSURES.search(function)) for function in PUBLIC_FUNCTION.findall(text))
+
+
+def require_callers():
+    """There are as many callers as there must be, and they have no proof of their own."""
+    folder = crate_folder(CRATE)
+    if not os.path.isdir(os.path.join(folder, 'src')):
+        raise Failure(f'there is no crate {CRATE}')
+    if os.path.exists(os.path.join(folder, 'proofs')):
+        raise Failure(f'{CRATE} has a folder proofs: a caller must not need any')
+    sources = [os.path.join(place, name) for place, _, names in os.walk(os.path.join(folder, 'src'))
+               for name in names if name.endswith('.rt')]
+    count = sum(promising(text_of(source)) for source in sources)
+    if count < CALLERS:
+        raise Failure(f'{CRATE} has {count} public functions with an `ensures`, and must have {CALLERS}')
+    return count
+
+
+def said_of_callers(library, edits, jobs):
+    """What a check of the callers says over the library with its weaker contracts, which is still proved."""
+    with copies([library, CRATE], 1) as places:
+        place, = places
+        with changed_files(crate_folder(library, place), texts_with(crate_folder(library), edits)):
+            require_proof(place, library, jobs)
+            return check(place, CRATE, jobs)[0]
+
+
+def options(words):
+    parser = argparse.ArgumentParser(prog='gate callers', description=__doc__,
+                                     formatter_class=argparse.RawDescriptionHelpFormatter)
+    parser.add_argument('--jobs', type=int, default=PROCESSORS, metavar='N')
+    return parser.parse_args(words)
+
+
+def main(words):
+    jobs = options(words).jobs
+    edits = {library: wrong_clauses(library) for library in crates_with(FOLDER)}
+    count = sum(map(len, edits.values()))
+    if count < WRONG_CLAUSES:
+        raise Failure(f'there are {count} edits of clauses, and must be {WRONG_CLAUSES}')
+    functions = require_callers()
+    require_proof(TOP, CRATE, jobs)
+    print(f'{CRATE}: {functions} public functions with an `ensures`, and no proof', flush=True)
+    is_well = True
+    for library, own in edits.items():
+        said = said_of_callers(library, own, jobs)
+        found = list(breaches(own, refused_in(CRATE, said)))
+        names = ', '.join(edit.name for edit in own)
+        print(f'{library}: {"NOT AS THEY MUST BE" if found else "refused"}: {names}', *found, sep='\n    ')
+        if found:
+            print(said)
+            is_well = False
+    print(f'{count} edits of clauses')
+    return is_well

@@ -1,0 +1,172 @@
+"""gate definitions [CRATE ..] [--jobs N]: tries the wrong definitions of `wrong-definitions`, each alone.
+
+A wrong definition changes a file of `specs/`, and a law or a worked row must refuse it: a function of
+the same crate, or one of a crate above, each named with a goal that must stay open. A check of that
+function alone shows it, once the same check has shown that the function is proved as things are.
+
+A crate above can only be checked over a library that is proved. So there the wrong definition is not
+that of the library: the crate has the library's definitions copied among its own, all that it says
+cites the copies, and one of these is changed.
+
+It is no refusal where an error stands in `specs/` or `src/`, since the definition is then not well
+formed, nor where a name has gone: either would refuse whatever stands on it, true or not.
+"""
+import argparse
+import os
+import re
+import sys
+from concurrent.futures import ThreadPoolExecutor
+from functools import partial
+from queue import SimpleQueue
+from typing import List, NamedTuple
+
+from floors import WRONG_DEFINITIONS
+from gate_parts.edit_files import Edit, edits_of, texts_with
+from gate_parts.rooms import changed_files, check, copies, require_proof
+from gate_parts.said import ill_formed, is_proved, open_goals
+from gate_parts.tree import PROCESSORS, TOP, Failure, crate_folder, crates_with, text_of, write_text
+
+FOLDER = 'wrong-definitions'
+# What a crate says of definitions stands in files of these folders and endings.
+SAYING = ('specs', 'src', 'proofs')
+ENDINGS = ('.antt', '.rt')
+
+
+class Task(NamedTuple):
+    """A function, and the edits that it must refuse."""
+    crate: str
+    function: str
+    edits: List[Edit]
+
+
+def wrong_definitions(crate):
+    """The edits of the crate; each changes a definition."""
+    edits = edits_of(os.path.join(crate_folder(crate), FOLDER), crate)
+    for edit in edits:
+        folders = {change.path.split('/')[0] for change in edit.changes}
+        if 'specs' not in folders or not folders <= {'specs', 'proofs'}:
+            raise Failure(f'{crate}: {edit.name} must change a file of specs/, and beside it only proofs/')
+        texts_with(crate_folder(crate), [edit])
+    return edits
+
+
+def tasks_of(edits):
+    """A task for each function that an edit names, those with most edits first."""
+    named = {}
+    for edit in edits:
+        for crate, function in sorted(edit.functions()):
+            named.setdefault((crate, function), []).append(edit)
+    tasks = [Task(crate, function, refused) for (crate, function), refused in named.items()]
+    return sorted(tasks, key=lambda task: -len(task.edits))
+
+
+def copied_definitions(room, library, crate):
+    """Gives the crate copies of the library's definitions, and lets all that it says cite these."""
+    source, target = (os.path.join(crate_folder(name, room), 'specs') for name in (library, crate))
+    names = sorted(os.path.splitext(name)[0] for name in os.listdir(source) if name != 'Lib.antt')
+    for name in names:
+        file = f'{name}.antt'
+        if os.path.exists(os.path.join(target, file)):
+            raise Failure(f'{crate} and {library} both have definitions in specs/{file}')
+        write_text(os.path.join(target, file), text_of(os.path.join(source, file)))
+    declared = os.path.join(target, 'Lib.antt')
+    write_text(declared, ''.join(f'pub mod {name}\n' for name in names) + text_of(declared))
+    cite_copies(crate_folder(crate, room), library, crate, names)
+
+
+def cite_copies(folder, library, crate, names):
+    """Words of the library's types (`specs.declared..`) stay as they are."""
+    cited = re.compile(rf'\bRattle\.{library}\.specs\.({"|".join(map(re.escape, names))})\b')
+    for saying in SAYING:
+        for place, _, files in os.walk(os.path.join(folder, saying)):
+            for path in (os.path.join(place, file) for file in files if file.endswith(ENDINGS)):
+                text = text_of(path)
+                own = cited.sub(rf'Rattle.{crate}.specs.\1', text)
+                if own != text:
+                    write_text(path, own)
+
+
+def tried(rooms, library, task):
+    """What the function does not refuse as the edits say, in words by edit; and what was said of it."""
+    room = rooms.get()
+    try:
+        folder = crate_folder(task.crate, room)
+        said, _ = check(room, task.crate, 1, '--only', task.function)
+        if not is_proved(task.crate, task.function, said):
+            wrong = {edit.name: f'{task.crate}/{task.function} is not proved as it is' for edit in task.edits}
+            return told(library, task, wrong, [said])
+        wrong, heard = {}, []
+        for edit in task.edits:
+            said = said_with(room, folder, edit, task)
+            breach = breach_of(edit, task, said)
+            if breach:
+                wrong[edit.name] = breach
+                heard.append(said)
+        return told(library, task, wrong, heard)
+    finally:
+        rooms.put(room)
+
+
+def said_with(room, folder, edit, task):
+    """What a check of the function says with the edit in its definitions."""
+    with changed_files(folder, texts_with(folder, [edit])):
+        return check(room, task.crate, 1, '--only', task.function)[0]
+
+
+def breach_of(edit, task, said):
+    """In words, what is not as the edit says; None where the function refuses it by each goal."""
+    bad = ill_formed(said)
+    if bad:
+        return f'the definition is not well formed, or a name has gone: {bad[0]}'
+    wanted = {goal.name for goal in edit.goals if (goal.crate, goal.function) == (task.crate, task.function)}
+    left = open_goals(task.crate, task.function, said)
+    if wanted <= left:
+        return None
+    return f'not refused by {", ".join(sorted(wanted - left))}; open goals: {", ".join(sorted(left)) or "none"}'
+
+
+def told(library, task, wrong, heard):
+    """Prints how a function's edits went; answers the names of those that it does not refuse."""
+    refused = [edit.name for edit in task.edits if edit.name not in wrong]
+    if refused:
+        print(f'{library}: refused by {task.crate}/{task.function}: {", ".join(refused)}')
+    for name, breach in wrong.items():
+        print(f'{library}: NOT AS IT MUST BE: {name}, tried at {task.crate}/{task.function}:\n    {breach}')
+    print(*heard, sep='\n', end='')
+    sys.stdout.flush()
+    return set(wrong)
+
+
+def tried_all(library, edits, jobs):
+    """The names of the library's wrong definitions that are not refused as they say."""
+    tasks = tasks_of(edits)
+    above = sorted({task.crate for task in tasks} - {library})
+    require_proof(TOP, library, jobs)
+    print(f'{library}: {len(edits)} wrong definitions, tried at {len(tasks)} functions', flush=True)
+    rooms = SimpleQueue()
+    with copies([library, *above], min(jobs, len(tasks))) as places:
+        for place in places:
+            for crate in above:
+                copied_definitions(place, library, crate)
+            rooms.put(place)
+        with ThreadPoolExecutor(len(places)) as pool:
+            return set().union(*pool.map(partial(tried, rooms, library), tasks))
+
+
+def options(words):
+    parser = argparse.ArgumentParser(prog='gate definitions', description=__doc__,
+                                     formatter_class=argparse.RawDescriptionHelpFormatter)
+    parser.add_argument('crates', nargs='*', metavar='CRATE')
+    parser.add_argument('--jobs', type=int, default=PROCESSORS, metavar='N')
+    return parser.parse_args(words)
+
+
+def main(words):
+    given = options(words)
+    edits = {crate: wrong_definitions(crate) for crate in given.crates or crates_with(FOLDER)}
+    count = sum(map(len, edits.values()))
+    if count < (1 if given.crates else WRONG_DEFINITIONS):
+        raise Failure(f'there are {count} wrong definitions, and must be {WRONG_DEFINITIONS}')
+    wrong = sum(len(tried_all(library, own, given.jobs)) for library, own in edits.items())
+    print(f'{count - wrong} wrong definitions refused as they say, {wrong} not')
+    return not wrong

@@ -1,0 +1,418 @@
+"""gate selftest: shows that the parts of the gate fail where they must, in a small repository of their own.
+
+There a stand-in for `rt` says what a check would. Each way of trying less, or of finding nothing,
+must make a part fail: edits whose goals stay proved or that stand there twice, stored files that are
+cut or gone, hostile inputs of noise alone, tests that never meet a refusal. Beside each stands the
+same in order, which must pass.
+"""
+import argparse
+import os
+import shutil
+import subprocess
+import sys
+import tempfile
+import unittest
+from collections import Counter
+from unittest import mock
+
+from gate_parts import hostile_inputs, said
+from gate_parts.callers import promising
+from gate_parts.definitions import cite_copies
+from gate_parts.edit_files import Change, read_edits, texts_with
+from gate_parts.enclosing import function_changed
+from gate_parts.hostile import Tally, tried
+from gate_parts.tree import Failure, in_tree, text_of, write_text
+
+CRATES = 'toy:\nabove: toy\ncallers: toy\n'
+FLOORS = '''
+EDITS = {'toy': 1}
+REFUSALS = {'toy': (2, 3)}
+STORED_CASES = {'a.cases': 2, 'b.cases': 1}
+HOSTILE_INPUTS, HOSTILE_ACCEPTED_PART, HOSTILE_OF_EACH, HOSTILE_REPLIES, HOSTILE_FAULTS = 1, 0, 0, (), ()
+WRONG_DEFINITIONS, WRONG_CLAUSES, CALLERS = 1, 1, 1
+'''
+SOURCE = '''pub const LIMIT: usize = 1;
+
+/// One, as a caller wants it.
+pub fn one() -> usize
+    ensures value { result ≡ LIMIT }
+{
+    1
+}
+'''
+EDIT = '''edit two_for_one
+refused: one returns-clause-value
+file: src/lib.rt
+old:     1
+new:     2
+'''
+DEFINITION = '''edit two_is_one
+refused: one returns-clause-value
+refused: above/row returns-clause-value
+file: specs/Word.antt
+old: word = 1
+new: word = 2
+'''
+CLAUSE = '''edit one_promises_nothing
+refused: callers/call returns-clause-value
+file: src/lib.rt
+old: result ≡ LIMIT
+new: result ≡ result
+'''
+CASES = 'case {0}_1\nwords "inline"\noutput "done\\n"\nstatus 0\n\ncase {0}_2\nwords "inline"\nstatus 0\n'
+
+# It says what the variables of its environment tell it to: where WORD stands in a source or a
+# definition, the functions of REFUSED are refused, with a line ERROR before that.
+STAND_IN = r'''#!/usr/bin/env python3
+import os, sys
+crate, words = os.path.basename(os.getcwd()), sys.argv[1:]
+if words[0] == 'try':
+    request, met = int(words[-1]), os.environ['MET'].split()
+    print('test refusals::first ... ' + os.environ.get('RESULT', 'ok'))
+    for _ in range(int(met[request - 1]) if request <= len(met) else 0):
+        print('    refused')
+    print('test result: ok.' if 'CUT_OFF' not in os.environ else '')
+    sys.exit()
+text = ''
+for place, _, names in os.walk('..'):
+    for name in names:
+        if name.endswith(('.rt', '.antt')):
+            text += open(os.path.join(place, name), encoding='utf-8').read()
+refused = os.environ.get('REFUSED', '').split() if os.environ['WORD'] in text else []
+if refused:
+    print(os.environ.get('ERROR', ''))
+asked = words[words.index('--only') + 1] if '--only' in words else None
+for function in [asked] if asked else {'toy': ['one', 'other'], 'above': ['row'], 'callers': ['call']}[crate]:
+    if crate + '/' + function in refused:
+        print('note: src/lib.rt:1:1: it is not proved that all is well (`returns-clause-value`); so it is')
+        print(f'fn {crate}::{function}: no proof: expected answers in ./proofs')
+    else:
+        print(f'fn {crate}::{function}: proved')
+sys.exit(any(each.startswith(crate + '/') for each in refused))
+'''
+
+
+class InSmallRepository(unittest.TestCase):
+    """A repository with a copy of the gate, and with the stand-in in the place of `rt`."""
+
+    def setUp(self):
+        self.place = tempfile.mkdtemp(prefix='gate-selftest-')
+        self.addCleanup(shutil.rmtree, self.place)
+        shutil.copytree(in_tree('.ci'), os.path.join(self.place, '.ci'),
+                        ignore=shutil.ignore_patterns('__pycache__'))
+        self.write('.ci/floors.py', FLOORS)
+        self.write('crates.txt', CRATES)
+        self.write('HANDLES', 'Handles allowed: none.\n')
+        self.write('bin/rt', STAND_IN)
+        os.chmod(os.path.join(self.place, 'bin/rt'), 0o755)
+        self.write('crates/toy/src/lib.rt', SOURCE)
+        self.write('crates/toy/specs/Lib.antt', 'pub mod Word\n')
+        self.write('crates/toy/specs/Word.antt', 'word = 1\n')
+        self.write('crates/above/specs/Lib.antt', '')
+        self.write('crates/above/src/lib.rt', 'ghost use Rattle.toy.specs.Word.{word};\n')
+        self.write('crates/callers/src/lib.rt', SOURCE.replace('one', 'call'))
+
+    def write(self, path, text):
+        whole = os.path.join(self.place, path)
+        os.makedirs(os.path.dirname(whole), exist_ok=True)
+        write_text(whole, text)
+
+    def gate(self, *words, **variables):
+        """The exit status of a part, and what it prints."""
+        path = os.path.join(self.place, 'bin') + os.pathsep + os.environ['PATH']
+        ran = subprocess.run([os.path.join(self.place, '.ci/gate'), *words], stdout=subprocess.PIPE,
+                             stderr=subprocess.STDOUT, encoding='utf-8', env={**os.environ, 'PATH': path, **variables})
+        return ran.returncode, ran.stdout
+
+    def assert_passes(self, *words, **variables):
+        status, said = self.gate(*words, **variables)
+        self.assertEqual(status, 0, said)
+
+    def assert_fails(self, why, *words, **variables):
+        status, said = self.gate(*words, **variables)
+        self.assertEqual(status, 1, said)
+        self.assertIn(why, said)
+
+
+class Edits(InSmallRepository):
+    IN_ORDER = {'WORD': '    2\n', 'REFUSED': 'toy/one'}
+
+    def setUp(self):
+        super().setUp()
+        self.write('crates/toy/must-fail-together/lib.edits', EDIT)
+
+    def test_refused_edit_passes(self):
+        self.assert_passes('edits', '--jobs', '2', **self.IN_ORDER)
+
+    def test_edit_whose_goal_stays_proved(self):
+        self.assert_fails('returns-clause-value is not refused', 'edits', '--jobs', '1', WORD='    2\n', REFUSED='')
+
+    def test_edit_that_another_function_refuses_too(self):
+        self.assert_fails('other is refused too', 'edits', '--jobs', '1', WORD='    2\n', REFUSED='toy/one toy/other')
+
+    def test_edit_of_another_goal(self):
+        self.write('crates/toy/must-fail-together/lib.edits', EDIT.replace('clause-value', 'clause-other'))
+        self.assert_fails('returns-clause-other is not refused', 'edits', '--jobs', '1', **self.IN_ORDER)
+
+    def test_crate_that_is_not_proved(self):
+        self.assert_fails('toy is not proved as it is', 'edits', '--jobs', '1', WORD='    1\n', REFUSED='toy/one')
+
+    def test_name_that_stands_twice(self):
+        self.write('crates/toy/must-fail-together/more.edits', EDIT)
+        self.assert_fails('2 edits have the name two_for_one', 'edits', **self.IN_ORDER)
+
+    def test_change_that_stands_twice(self):
+        self.write('crates/toy/must-fail-together/more.edits', EDIT.replace('two_for_one', 'other'))
+        self.assert_fails('changes just what', 'edits', **self.IN_ORDER)
+
+    def test_fewer_edits_than_there_must_be(self):
+        self.write('.ci/floors.py', FLOORS.replace("'toy': 1}", "'toy': 2}"))
+        self.assert_fails('has 1 edits, and must have 2', 'edits', **self.IN_ORDER)
+
+    def test_crate_whose_edits_are_gone(self):
+        shutil.rmtree(os.path.join(self.place, 'crates/toy/must-fail-together'))
+        self.assert_fails('has 0 edits', 'edits', **self.IN_ORDER)
+
+
+class Definitions(InSmallRepository):
+    IN_ORDER = {'WORD': 'word = 2', 'REFUSED': 'toy/one above/row'}
+
+    def setUp(self):
+        super().setUp()
+        self.write('crates/toy/wrong-definitions/Word.edits', DEFINITION)
+
+    def test_refused_definition_passes(self):
+        self.assert_passes('definitions', '--jobs', '1', **self.IN_ORDER)
+
+    def test_definition_that_the_row_above_does_not_refuse(self):
+        self.assert_fails('tried at above/row', 'definitions', '--jobs', '1', WORD='word = 2', REFUSED='toy/one')
+
+    def test_definition_that_is_not_well_formed(self):
+        self.assert_fails('not well formed', 'definitions', '--jobs', '1',
+                          ERROR='./specs/Word.antt:1:1: error: `word`: expected type `ℕ`', **self.IN_ORDER)
+
+    def test_definition_whose_name_has_gone(self):
+        self.assert_fails('a name has gone', 'definitions', '--jobs', '1',
+                          ERROR='./proofs/Free.antt:1:1: error: `word` is not in scope', **self.IN_ORDER)
+
+    def test_function_that_is_not_proved_as_it_is(self):
+        self.assert_fails('not proved as it is', 'definitions', '--jobs', '1', WORD='word = 1', REFUSED='above/row')
+
+    def test_edit_that_changes_no_definition(self):
+        self.write('crates/toy/wrong-definitions/Word.edits', EDIT)
+        self.assert_fails('must change a file of specs/', 'definitions', **self.IN_ORDER)
+
+    def test_fewer_than_there_must_be(self):
+        self.write('.ci/floors.py', FLOORS.replace('= 1, 1, 1', '= 2, 1, 1'))
+        self.assert_fails('there are 1 wrong definitions', 'definitions', **self.IN_ORDER)
+
+
+class Callers(InSmallRepository):
+    IN_ORDER = {'WORD': 'result ≡ result', 'REFUSED': 'callers/call'}
+
+    def setUp(self):
+        super().setUp()
+        self.write('crates/toy/wrong-clauses/lib.edits', CLAUSE)
+
+    def test_refused_caller_passes(self):
+        self.assert_passes('callers', '--jobs', '1', **self.IN_ORDER)
+
+    def test_caller_that_stays_proved(self):
+        self.assert_fails('call: returns-clause-value is not refused', 'callers', WORD='result ≡ result', REFUSED='')
+
+    def test_library_that_is_refused_itself(self):
+        self.assert_fails('toy is not proved as it is', 'callers', WORD='result ≡ result', REFUSED='toy/one')
+
+    def test_callers_with_proofs(self):
+        self.write('crates/callers/proofs/Lib.antt', '')
+        self.assert_fails('a folder proofs', 'callers', **self.IN_ORDER)
+
+    def test_fewer_callers_than_there_must_be(self):
+        self.write('.ci/floors.py', FLOORS.replace('= 1, 1, 1', '= 1, 1, 2'))
+        self.assert_fails('1 public functions', 'callers', **self.IN_ORDER)
+
+    def test_functions_that_promise_nothing_do_not_count(self):
+        self.assertEqual(promising(SOURCE), 1)
+        self.assertEqual(promising(SOURCE.replace('ensures', 'requires') + SOURCE + 'pub fn other() {}\n'), 1)
+
+
+class Refusals(InSmallRepository):
+    def test_tests_that_meet_refusals_pass(self):
+        self.assert_passes('refusals', MET='2 1')
+
+    def test_tests_that_never_meet_one(self):
+        self.assert_fails('TOO FEW', 'refusals', MET='')
+
+    def test_tests_that_meet_fewer(self):
+        self.assert_fails('TOO FEW', 'refusals', MET='1 1')
+
+    def test_test_that_fails(self):
+        self.assert_fails('1 failed', 'refusals', MET='2 1', RESULT='FAILED')
+
+    def test_run_that_is_cut_off(self):
+        self.assert_fails('1 failed', 'refusals', MET='2 1', CUT_OFF='')
+
+
+class Replay(InSmallRepository):
+    def setUp(self):
+        super().setUp()
+        self.write('replay/a.cases', CASES.format('a'))
+        self.write('replay/b.cases', CASES.format('b').partition('case b_2')[0])
+        self.write('bin/program', '#!/bin/sh\necho done\n')
+        self.program = os.path.join(self.place, 'bin/program')
+        os.chmod(self.program, 0o755)
+
+    def test_cases_are_counted_and_compared(self):
+        self.assert_fails('2 passed, 1 failed', 'replay', self.program)
+        self.write('replay/a.cases', CASES.format('a').replace('\nstatus', '\noutput "done\\n"\nstatus', 2)
+                   .replace('output "done\\n"\n', '', 1))
+        self.assert_passes('replay', self.program)
+
+    def test_file_that_is_gone(self):
+        os.remove(os.path.join(self.place, 'replay/b.cases'))
+        self.assert_fails('must have', 'replay', self.program)
+
+    def test_file_that_is_cut(self):
+        self.write('replay/a.cases', CASES.format('a').partition('case a_2')[0])
+        self.assert_fails('must have', 'replay', self.program)
+
+    def test_case_that_stands_twice(self):
+        self.write('replay/b.cases', CASES.format('a').partition('case a_2')[0])
+        self.assert_fails('2 cases have the name a_1', 'replay', self.program)
+
+    def test_program_that_is_not_there(self):
+        self.assert_fails('is not there', 'replay')
+
+
+class Hostile(unittest.TestCase):
+    # So few inputs are quick; as many of each kind as they should have, a tenth of the gate's.
+    INPUTS, OF_EACH = 2000, 10
+
+    def lacking(self):
+        tally = Tally([])
+        for number in range(self.INPUTS):
+            tally.add(*tried([], 'selftest', number))
+        return list(tally.shortfalls(self.OF_EACH))
+
+    def test_inputs_are_of_every_kind(self):
+        self.assertEqual(self.lacking(), [])
+
+    def test_generator_that_makes_only_noise(self):
+        with mock.patch.object(hostile_inputs, 'INPUTS', {hostile_inputs.random_bytes: 1}):
+            lacking = ' '.join(self.lacking())
+        self.assertIn('are accepted, and at least', lacking)
+        self.assertIn('replies are `wrong length`', lacking)
+        self.assertIn('faults are `bad command`', ' '.join(Tally([]).shortfalls(1)))
+
+    def test_program_that_does_otherwise(self):
+        tally = Tally(['program'])
+        tally.add('accepted', Counter(), ['a difference'])
+        self.assertEqual(tally.different['program'], 1)
+
+
+class Run(InSmallRepository):
+    PARTS = '#!/bin/sh\necho part "$@"\n[ "$1" != "$FAILING" ]\n'
+
+    def run_gate(self, failing):
+        for path in ('.ci/gate', '.ci/stored_scripts', 'bin/rt'):
+            self.write(path, self.PARTS)
+            os.chmod(os.path.join(self.place, path), 0o755)
+        path = os.path.join(self.place, 'bin') + os.pathsep + os.environ['PATH']
+        ran = subprocess.run([os.path.join(self.place, '.ci/run')], stdout=subprocess.PIPE, encoding='utf-8',
+                             env={**os.environ, 'PATH': path, 'FAILING': failing})
+        return ran.returncode, ran.stdout.splitlines()
+
+    def test_all_parts_pass(self):
+        status, lines = self.run_gate('none')
+        self.assertEqual(status, 0)
+        self.assertRegex(lines[-1], '^PASSED: all [0-9]+ parts')
+
+    def test_it_ends_at_the_first_that_fails(self):
+        for failing in ('ci', 'edits', 'hostile'):
+            status, lines = self.run_gate(failing)
+            self.assertEqual(status, 1)
+            self.assertRegex(lines[-1], f'^FAILED in .* {failing}, after')
+            self.assertEqual(lines[-2], f'part {failing}')
+
+
+class Reading(unittest.TestCase):
+    """Of edits, of source files, and of what a check says."""
+
+    def read(self, text):
+        with tempfile.TemporaryDirectory() as place:
+            path = os.path.join(place, 'lib.edits')
+            write_text(path, text)
+            return read_edits(path, 'toy')
+
+    def test_edits_are_parted_by_empty_lines(self):
+        edits = self.read('# why\n' + EDIT + '\n\n' + EDIT)
+        self.assertEqual(edits, self.read(EDIT) * 2)
+        self.assertEqual(edits[0].changes, [Change('src/lib.rt', '    1', '    2')])
+
+    def test_what_cannot_be_read_is_refused(self):
+        for text in (EDIT.replace('edit ', 'edits '), EDIT.replace('refused: one', 'refused: one two'),
+                     EDIT.replace('refused:', 'refuse:'), EDIT + 'old: 3\n', EDIT.replace('old:', 'old'),
+                     '\n'.join(line for line in EDIT.split('\n') if not line.startswith('refused')),
+                     '\n'.join(line for line in EDIT.split('\n') if not line.startswith('new'))):
+            with self.assertRaises(Failure, msg=text):
+                self.read(text)
+
+    def test_old_text_stands_just_once(self):
+        with tempfile.TemporaryDirectory() as place:
+            os.mkdir(os.path.join(place, 'src'))
+            for text in ('', SOURCE + SOURCE):
+                write_text(os.path.join(place, 'src', 'lib.rt'), text)
+                with self.assertRaises(Failure):
+                    texts_with(place, self.read(EDIT))
+
+    def test_where_a_change_stands(self):
+        source = ('impl<const N: usize> Kept for Text<N> {\n    fn size(&self) -> [u8; N]\n'
+                  "        ensures { a } { b('{', \"}\") }\n}\nmacro_rules! m { () => { fn c() { d } } }\n")
+        for old, new, function in (('b(', 'e(', 'part::TextKept::size'), ('{ a }', '{ e }', None), ('{ d }', '{ e }', None),
+                                   ('> Kept', '> Held', None), ('b(', '} fn c() { b(', None)):
+            self.assertEqual(source.count(old), 1, old)
+            found = function_changed(source, Change('src/part.rt', old, new))
+            self.assertEqual(found, function, (old, new))
+
+    def test_copies_are_cited_and_types_are_not(self):
+        with tempfile.TemporaryDirectory() as place:
+            os.mkdir(os.path.join(place, 'src'))
+            path = os.path.join(place, 'src', 'lib.rt')
+            write_text(path, 'Rattle.toy.specs.Word.{word} Rattle.toy.specs.declared.a Rattle.toy.specs.Words.{b}')
+            cite_copies(place, 'toy', 'above', ['Word'])
+            self.assertEqual(text_of(path), 'Rattle.above.specs.Word.{word} Rattle.toy.specs.declared.a '
+                                            'Rattle.toy.specs.Words.{b}')
+
+    def test_open_goals_of_a_row(self):
+        text = ('note: src/worked/room.rt:1:1: it is not proved that what the function ensures holds when it returns '
+                '(`returns-clause-insert`); the facts known there allow values at which this goal is false\n'
+                'fn toy::row: no proof: expected answers in ./proofs/row/Answers.antt; `search` did not prove\n'
+                'fn toy::caller: no proof: it calls `row`\nfn toy::other: proved\n')
+        self.assertEqual(said.refused_in('toy', text), {'row': {'returns-clause-insert'}})
+        self.assertTrue(said.is_proved('toy', 'other', text) and not said.is_proved('toy', 'row', text))
+
+    def test_open_goals_for_want_of_a_lemma(self):
+        text = ('./proofs/Free.antt:81:83: error: `met_inline`: a tuple is checked against `IsMet s`, which is no ×\n'
+                './proofs/Free.antt:92:1: error: 4 declarations that depend on `met_inline`, which was rejected, were '
+                'not checked: short_step, short_run (via short_step), short_runs (via short_run) and 1 more\n'
+                './proofs/run/laws/short/Answers.antt:4:5: error: 1 declaration that depends on `short_runs`, which '
+                'was not admitted, was not checked: returns-clause-replies\n'
+                'fn toy::run::laws::short: not proved\n')
+        self.assertEqual(said.open_goals('toy', 'run::laws::short', text), {'returns-clause-replies'})
+        self.assertEqual(said.ill_formed(text), [])
+
+    def test_what_is_no_refusal(self):
+        for line in ('./specs/Run.antt:98:23: error: `IsMet`: `Foo` is not in scope',
+                     './specs/Run.antt:98:23: error: `IsMet`: expected type `ℕ`',
+                     './proofs/Free.antt:7:215: error: module `Rattle.toy.specs.Run` has no `IsMet` that can be named '
+                     'from here (did you mean `IsMeet`?)',
+                     './proofs/a/Answers.antt:1:1: error: `returns`: `c.requires` has no field `place`'):
+            self.assertEqual(said.ill_formed(line), [line])
+            self.assertEqual(said.refused_in('toy', line).get('a'), None)
+
+
+def main(words):
+    argparse.ArgumentParser(prog='gate selftest', description=__doc__,
+                            formatter_class=argparse.RawDescriptionHelpFormatter).parse_args(words)
+    suite = unittest.defaultTestLoader.loadTestsFromModule(sys.modules[__name__])
+    return unittest.TextTestRunner(stream=sys.stdout).run(suite).wasSuccessful() and suite.countTestCases() > 0
