@@ -285,8 +285,8 @@ class Replay(InSmallRepository):
 
 
 class Hostile(unittest.TestCase):
-    # So few inputs are quick; as many of each kind as they should have, a tenth of the gate's.
-    INPUTS, OF_EACH = 2000, 10
+    # So few inputs are quick; a twentieth of the gate, and of each kind as well.
+    INPUTS, OF_EACH = 1000, 5
 
     def lacking(self):
         tally = Tally([])

@@ -1,0 +1,168 @@
+"""gate counts: prints how long the tree is, by kind, and holds the numbers of the documents against it.
+
+The sentences that state numbers stand in `.ci/stated.py`. One that is not found in its document, or
+found with another number than is counted, fails.
+"""
+import argparse
+import os
+import re
+from collections import Counter
+
+from floors import HOSTILE_INPUTS, REFUSALS, STORED_CASES
+from gate_parts.edit_files import edits_of
+from gate_parts.tree import TOP, Failure, crate_folder, dependencies, in_tree, text_of
+from stated import STATED
+
+LIBRARY = 'inlinable_string'
+# A crate that only tests use.
+TEST_CRATES = ('test_memory',)
+# Folders that no commit has.
+MADE = ('.git', 'out', '__pycache__')
+EDIT_FOLDERS = ('must-fail', 'must-fail-together', 'wrong-definitions', 'wrong-clauses')
+TEST_MODULE = re.compile(r'^#\[cfg\(test\)\]\n *mod (\w+);', re.MULTILINE)
+TEST = re.compile(r'^ *#\[test\]$', re.MULTILINE)
+LISTS = re.compile(r'^const LISTS: usize = ([0-9_]+);', re.MULTILINE)
+NUMBER = '([0-9][0-9,]*)'
+HOLE = re.compile(r'\{(\w+)\}')
+
+
+# How long the tree is.
+
+def files():
+    """The path below the top of each file that a commit has."""
+    for place, folders, names in os.walk(TOP):
+        folders[:] = sorted(name for name in folders if name not in MADE)
+        for name in sorted(names):
+            yield os.path.relpath(os.path.join(place, name), TOP)
+
+
+def test_paths(paths):
+    """The paths, without their endings, of the modules that are there for tests alone."""
+    found = set()
+    for path in (path for path in paths if path.endswith('.rt')):
+        stem = os.path.splitext(path)[0]
+        inside = os.path.dirname(path) if os.path.basename(stem) in ('lib', 'main') else stem
+        found |= {f'{inside}/{module}' for module in TEST_MODULE.findall(text_of(in_tree(path)))}
+    return found
+
+
+def kind_of(path, tests):
+    """What a file counts as."""
+    parts = path.split('/')
+    if parts[0] == 'replay' and path.endswith('.cases'):
+        return 'stored cases'
+    if path.endswith('.md'):
+        return 'documents'
+    if parts[0] == '.ci':
+        return '.ci'
+    if parts[0] != 'crates' or len(parts) < 4:
+        return 'the rest'
+    return kind_in_crate(path, parts, tests)
+
+
+def kind_in_crate(path, parts, tests):
+    stem = os.path.splitext(path)[0]
+    if parts[2] in EDIT_FOLDERS:
+        return 'edits'
+    if parts[1] in TEST_CRATES or any(stem == test or stem.startswith(test + '/') for test in tests):
+        return 'tests'
+    if parts[2] in ('src', 'specs', 'proofs'):
+        return f'{"library" if parts[1] == LIBRARY else "other crates"}: {parts[2]}'
+    return 'the rest'
+
+
+def lines_by_kind():
+    paths = list(files())
+    tests, lines = test_paths(paths), Counter()
+    for path in paths:
+        lines[kind_of(path, tests)] += text_of(in_tree(path)).count('\n')
+    return lines
+
+
+def print_lines(lines):
+    for kind in sorted(lines):
+        print(f'{lines[kind]:>8,}  {kind}')
+    print(f'{sum(lines.values()):>8,}  the whole tree')
+    ratio = lines['library: proofs'] / lines['library: src']
+    print(f'{ratio:>8.2f}  lines of the library\'s proofs to one of its source')
+
+
+# What is counted, and what the documents say.
+
+def edit_count(folder):
+    """How many edits the crates have in such a folder, by crate."""
+    return {crate: len(edits_of(os.path.join(crate_folder(crate), folder), crate)) for crate in dependencies()}
+
+
+def single_edit_count():
+    """The edits of `rt`'s own form, a file each."""
+    folders = [os.path.join(crate_folder(crate), 'must-fail') for crate in dependencies()]
+    return sum(len(os.listdir(folder)) for folder in folders if os.path.isdir(folder))
+
+
+def test_count():
+    return sum(len(TEST.findall(text_of(in_tree(path)))) for path in files() if path.endswith('.rt'))
+
+
+def list_count():
+    """How many lists of commands a test generates."""
+    source = text_of(os.path.join(crate_folder('inline_runs'), 'src', 'runs', 'generated.rt'))
+    return int(LISTS.search(source)[1])
+
+
+def counted():
+    """By name, each number that a document may state."""
+    together, alone = edit_count('must-fail-together'), single_edit_count()
+    requests, meetings = (sum(numbers) for numbers in zip(*REFUSALS.values()))
+    return {
+        'crates': len(dependencies()), 'tests': test_count(), 'lists': list_count(),
+        'edits_alone': alone, 'edits_together': sum(together.values()), 'edits': alone + sum(together.values()),
+        'library_edits': together[LIBRARY], 'plain_edits': together['inline_vectors'],
+        'script_edits': together['script_language'],
+        'wrong_definitions': sum(edit_count('wrong-definitions').values()),
+        'wrong_clauses': sum(edit_count('wrong-clauses').values()),
+        # in each crate one more build shows that no test makes a further request
+        'requests': requests, 'meetings': meetings, 'refusal_builds': requests + len(REFUSALS),
+        'stored_cases': sum(STORED_CASES.values()),
+        'original_cases': sum(STORED_CASES.values()) - STORED_CASES['named.cases'],
+        **{name.replace('.', '_'): count for name, count in STORED_CASES.items()},
+        'hostile_inputs': HOSTILE_INPUTS,
+    }
+
+
+def pattern_of(sentence):
+    """The sentence with any line breaks in it, and with numbers in its holes."""
+    parts = HOLE.split(sentence)
+    texts = [r'\s+'.join(map(re.escape, re.split(r'\s+', text))) for text in parts[::2]]
+    return re.compile(r'(?<![0-9,])' + NUMBER.join(texts))
+
+
+def misstatements(text, sentence, numbers):
+    """In words, where a text does not say the sentence, or says it with another number."""
+    names = HOLE.findall(sentence)
+    unknown = [name for name in names if name not in numbers]
+    if unknown:
+        raise Failure(f'nothing is counted as {", ".join(unknown)}')
+    said = list(pattern_of(sentence).finditer(text))
+    if not said:
+        yield f'it does not say: {sentence}'
+    for found in said:
+        for name, number in zip(names, found.groups()):
+            if int(number.rstrip(',').replace(',', '')) != numbers[name]:
+                yield f'it says {number} for {{{name}}}, which is {numbers[name]:,}: {sentence}'
+
+
+def main(words):
+    argparse.ArgumentParser(prog='gate counts', description=__doc__,
+                            formatter_class=argparse.RawDescriptionHelpFormatter).parse_args(words)
+    print_lines(lines_by_kind())
+    numbers, wrong = counted(), 0
+    for name, number in numbers.items():
+        print(f'{number:>8,}  {{{name}}}')
+    for document, sentences in STATED.items():
+        for sentence in sentences:
+            for misstatement in misstatements(text_of(in_tree(document)), sentence, numbers):
+                print(f'{document}: {misstatement}')
+                wrong += 1
+    print(f'{sum(map(len, STATED.values()))} sentences with numbers, {wrong} that the tree does not bear out')
+    return not wrong
