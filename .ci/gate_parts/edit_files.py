@@ -10,8 +10,9 @@ A file of the ending `.edits` has many, parted by empty lines:
 
 `refused:` names a function, as its path below its crate, and a goal of it that must stay open. A
 function of another crate stands behind that crate's name: `callers/room_left returns`. Each `old:`
-stands just once in the file named before it, and `new:` comes in its place. There may be several of
-each of these lines. A line that begins with `#` says nothing.
+stands just once in the file named before it, and `new:` comes in its place. Where a text stands there
+more often, a line `after: TEXT` before `old:` has a text that stands once, and the first behind it is
+meant. There may be several of each of these lines. A line that begins with `#` says nothing.
 """
 import os
 from collections import Counter
@@ -33,10 +34,11 @@ class Goal(NamedTuple):
 
 
 class Change(NamedTuple):
-    """A text that stands once in a file of the crate, and what stands there in its place."""
+    """A text of a file of the crate, once in it or the first after another, and what replaces it."""
     path: str
     old: str
     new: str
+    after: str = ''
 
 
 class Edit(NamedTuple):
@@ -93,7 +95,7 @@ def read_edit(path, crate, lines):
     head = lines[0].split(' ')
     if len(head) != 2 or head[0] != 'edit' or not head[1]:
         raise Failure(f'{path}: an edit begins with a line `edit NAME`, and not with this: {lines[0]}')
-    goals, changes, file, old = [], [], None, None
+    goals, changes, file, after, old = [], [], None, '', None
     for line in lines[1:]:
         word, _, rest = line.partition(':')
         rest = rest[1:] if rest.startswith(' ') else rest
@@ -101,16 +103,18 @@ def read_edit(path, crate, lines):
             goals.append(goal_of(crate, *rest.split()))
         elif word == 'file' and rest and old is None:
             file = rest
+        elif word == 'after' and rest and file and not after and old is None:
+            after = rest
         elif word == 'old' and rest and file and old is None:
             old = rest
         elif word == 'new' and old is not None:
-            changes.append(Change(file, old, rest))
-            old = None
+            changes.append(Change(file, old, rest, after))
+            after, old = '', None
         else:
             raise Failure(f'{path}: {head[1]}: this line cannot be read: {line}')
     if not goals:
         raise Failure(f'{path}: {head[1]} has no line `refused:`')
-    if not changes or old is not None:
+    if not changes or after or old is not None:
         raise Failure(f'{path}: {head[1]} lacks a pair of `old:` and `new:`')
     if len(set(goals)) < len(goals):
         raise Failure(f'{path}: {head[1]} names a goal twice')
@@ -142,11 +146,19 @@ def source_text(folder, edit, path):
 
 
 def only_place(edit, change, text):
-    """Where the old text stands, which must be just once."""
-    if text.count(change.old) != 1:
-        raise Failure(f'{edit.name}: this is {text.count(change.old)} times in {change.path}, and not once: '
-                      f'{change.old}')
-    return text.index(change.old)
+    """Where the old text stands, of which there must be no doubt."""
+    known = change.after or change.old
+    if text.count(known) != 1:
+        raise Failure(f'{edit.name}: this is {text.count(known)} times in {change.path}, and not once: {known}')
+    place = place_of(change, text)
+    if place < 0:
+        raise Failure(f'{edit.name}: in {change.path} there is no such text after {change.after}: {change.old}')
+    return place
+
+
+def place_of(change, text):
+    """Where the old text stands in the text of its file."""
+    return text.find(change.old, text.index(change.after) + len(change.after))
 
 
 def changed(path, text, places):

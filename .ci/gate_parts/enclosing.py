@@ -7,6 +7,8 @@ import os
 import re
 from typing import NamedTuple
 
+from gate_parts.edit_files import place_of
+
 # What may hide braces from the eye: comments, texts and characters (and not lifetimes).
 HIDDEN = re.compile(r'//[^\n]*|/\*.*?\*/|"(?:[^"\\]|\\.)*"|' r"'(?:[^'\\\n]|\\[^\n]+?)'", re.DOTALL)
 # What stands before the brace of a clause, and not of a body.
@@ -115,7 +117,7 @@ def narrowed(text, change):
     old, new = old[front:], new[front:]
     back = len(os.path.commonprefix([old[::-1], new[::-1]]))
     old, new = old[:len(old) - back], new[:len(new) - back]
-    start = text.index(change.old) + front
+    start = place_of(change, text) + front
     return start, start + len(old), old, new
 
 

@@ -17,6 +17,7 @@ from unittest import mock
 
 from gate_parts import hostile_inputs, said
 from gate_parts.callers import promising
+from gate_parts.counts import misstatements
 from gate_parts.definitions import cite_copies
 from gate_parts.edit_files import Change, read_edits, texts_with
 from gate_parts.enclosing import function_changed
@@ -310,6 +311,25 @@ class Hostile(unittest.TestCase):
         self.assertEqual(tally.different['program'], 1)
 
 
+class Counts(unittest.TestCase):
+    def wrong(self, text, sentence='{tests} tests of `rt`'):
+        return list(misstatements(text, sentence, {'tests': 1128}))
+
+    def test_number_that_is_counted(self):
+        self.assertEqual(self.wrong('It has 1,128 tests\n    of `rt`.'), [])
+
+    def test_number_that_is_not(self):
+        for text in ('1,129 tests of `rt`', '11,128 tests of `rt`', '1,128 tests of `rt`, and 128 tests of `rt`'):
+            self.assertEqual(len(self.wrong(text)), 1, text)
+
+    def test_sentence_that_has_gone(self):
+        self.assertEqual(len(self.wrong('1,128 tests')), 1)
+
+    def test_number_that_nobody_counts(self):
+        with self.assertRaises(Failure):
+            self.wrong('12 bugs', '{bugs} bugs')
+
+
 class Run(InSmallRepository):
     PARTS = '#!/bin/sh\necho part "$@"\n[ "$1" != "$FAILING" ]\n'
 
@@ -365,11 +385,22 @@ class Reading(unittest.TestCase):
                 with self.assertRaises(Failure):
                     texts_with(place, self.read(EDIT))
 
+    def test_text_after_another(self):
+        with tempfile.TemporaryDirectory() as place:
+            os.mkdir(os.path.join(place, 'src'))
+            write_text(os.path.join(place, 'src', 'lib.rt'), 'first\n    1\nsecond\n    1\n    1\n')
+            edits = self.read(EDIT.replace('old:', 'after: second\nold:'))
+            self.assertEqual(texts_with(place, edits), {'src/lib.rt': 'first\n    1\nsecond\n    2\n    1\n'})
+            for after in ('third', 't\n', '    1'):
+                with self.assertRaises(Failure, msg=after):
+                    texts_with(place, self.read(EDIT.replace('old:', f'after: {after}\nold:')))
+
     def test_where_a_change_stands(self):
         source = ('impl<const N: usize> Kept for Text<N> {\n    fn size(&self) -> [u8; N]\n'
                   "        ensures { a } { b('{', \"}\") }\n}\nmacro_rules! m { () => { fn c() { d } } }\n")
-        for old, new, function in (('b(', 'e(', 'part::TextKept::size'), ('{ a }', '{ e }', None), ('{ d }', '{ e }', None),
-                                   ('> Kept', '> Held', None), ('b(', '} fn c() { b(', None)):
+        for old, new, function in (('b(', 'e(', 'part::TextKept::size'), ('{ a }', '{ e }', None),
+                                   ('{ d }', '{ e }', None), ('> Kept', '> Held', None),
+                                   ('b(', '} fn c() { b(', None)):
             self.assertEqual(source.count(old), 1, old)
             found = function_changed(source, Change('src/part.rt', old, new))
             self.assertEqual(found, function, (old, new))
