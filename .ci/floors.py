@@ -23,9 +23,9 @@ HOSTILE_REPLIES = ('done', 'char', 'none', 'bad place', 'not utf-8', 'wrong leng
 HOSTILE_FAULTS = ('bad argument', 'read fault', 'input too long', 'input is not utf-8', 'bad command',
                   'write fault')
 
-# Edits in `wrong-definitions/`, all crates together.
-WRONG_DEFINITIONS = 60
+# Edits in `wrong-definitions/`, by crate.
+WRONG_DEFINITIONS = {'inlinable_string': 40, 'script_language': 24}
 
 # Edits in `wrong-clauses/`, and public functions of `callers` that promise something.
-WRONG_CLAUSES = 4
+WRONG_CLAUSES = 5
 CALLERS = 40

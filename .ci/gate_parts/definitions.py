@@ -1,4 +1,6 @@
-"""gate definitions [CRATE ..] [--jobs N]: tries the wrong definitions of `wrong-definitions`, each alone.
+"""gate definitions [CRATE ..] [--named WORD] [--jobs N]: tries the wrong definitions, each alone.
+
+They stand in `wrong-definitions`. With --named only those are tried whose name has the word in it.
 
 A wrong definition changes a file of `specs/`, and a law or a worked row must refuse it: a function of
 the same crate, or one of a crate above, each named with a goal that must stay open. A check of that
@@ -40,14 +42,24 @@ class Task(NamedTuple):
 
 
 def wrong_definitions(crate):
-    """The edits of the crate; each changes a definition."""
+    """The edits of the crate, as many as there must be; each changes a definition."""
     edits = edits_of(os.path.join(crate_folder(crate), FOLDER), crate)
+    least = WRONG_DEFINITIONS.get(crate, 1)
+    if len(edits) < least:
+        raise Failure(f'{crate} has {len(edits)} wrong definitions, and must have {least}')
     for edit in edits:
-        folders = {change.path.split('/')[0] for change in edit.changes}
-        if 'specs' not in folders or not folders <= {'specs', 'proofs'}:
-            raise Failure(f'{crate}: {edit.name} must change a file of specs/, and beside it only proofs/')
+        require_definition(crate, edit)
         texts_with(crate_folder(crate), [edit])
     return edits
+
+
+def require_definition(crate, edit):
+    """The edit changes a definition, and else at most proofs of the crate, for functions of it alone."""
+    folders = {change.path.split('/')[0] for change in edit.changes}
+    if 'specs' not in folders or not folders <= {'specs', 'proofs'}:
+        raise Failure(f'{crate}: {edit.name} must change a file of specs/, and beside it only proofs/')
+    if 'proofs' in folders and {goal.crate for goal in edit.goals} != {crate}:
+        raise Failure(f'{crate}: {edit.name} changes proofs/, which the crates above have no copy of')
 
 
 def tasks_of(edits):
@@ -157,16 +169,16 @@ def options(words):
     parser = argparse.ArgumentParser(prog='gate definitions', description=__doc__,
                                      formatter_class=argparse.RawDescriptionHelpFormatter)
     parser.add_argument('crates', nargs='*', metavar='CRATE')
+    parser.add_argument('--named', default='', metavar='WORD')
     parser.add_argument('--jobs', type=int, default=PROCESSORS, metavar='N')
     return parser.parse_args(words)
 
 
 def main(words):
     given = options(words)
-    edits = {crate: wrong_definitions(crate) for crate in given.crates or crates_with(FOLDER)}
-    count = sum(map(len, edits.values()))
-    if count < (1 if given.crates else WRONG_DEFINITIONS):
-        raise Failure(f'there are {count} wrong definitions, and must be {WRONG_DEFINITIONS}')
-    wrong = sum(len(tried_all(library, own, given.jobs)) for library, own in edits.items())
-    print(f'{count - wrong} wrong definitions refused as they say, {wrong} not')
-    return not wrong
+    crates = given.crates or sorted({*crates_with(FOLDER), *WRONG_DEFINITIONS})
+    edits = {crate: [edit for edit in wrong_definitions(crate) if given.named in edit.name] for crate in crates}
+    wrong = sum(len(tried_all(library, own, given.jobs)) for library, own in edits.items() if own)
+    good = sum(map(len, edits.values())) - wrong
+    print(f'{good} wrong definitions refused as they say, {wrong} not')
+    return good > 0 and not wrong

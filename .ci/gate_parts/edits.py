@@ -1,4 +1,7 @@
-"""gate edits [CRATE ..] [--jobs N]: tries the wrong code of `must-fail-together`, several edits in one check.
+"""gate edits [CRATE ..] [--named WORD] [--jobs N]: tries wrong code, several edits in one check.
+
+It stands in `must-fail-together`. With --named only those edits are tried whose name has the word in
+it.
 
 Most of the time of a check goes to reading what an edit has not changed. So edits that each change
 the body of one function, no two of the same one, are tried in one check. It is as strict as to try
@@ -94,14 +97,15 @@ def tried(rooms, task):
     return not found
 
 
-def prepared(crate, jobs):
+def prepared(crate, named, jobs):
     """The groups of edits of the crate, which can all be applied; the crate is proved as it is."""
-    groups = groups_of(crate, own_edits(crate))
+    groups = groups_of(crate, [edit for edit in own_edits(crate) if named in edit.name])
     for group in groups:
         texts_with(crate_folder(crate), group)
     require_proof(TOP, crate, jobs)
     alone = sum(len(group) == 1 for group in groups)
-    print(f'{crate}: {sum(map(len, groups))} edits in {len(groups)} checks, {alone} of them of one edit', flush=True)
+    print(f'{crate}: {sum(map(len, groups))} edits in {len(groups)} checks, {alone} of them of one edit',
+          flush=True)
     return [(crate, group) for group in groups]
 
 
@@ -109,6 +113,7 @@ def options(words):
     parser = argparse.ArgumentParser(prog='gate edits', description=__doc__,
                                      formatter_class=argparse.RawDescriptionHelpFormatter)
     parser.add_argument('crates', nargs='*', metavar='CRATE')
+    parser.add_argument('--named', default='', metavar='WORD')
     parser.add_argument('--jobs', type=int, default=PROCESSORS, metavar='N')
     return parser.parse_args(words)
 
@@ -116,7 +121,9 @@ def options(words):
 def main(words):
     given = options(words)
     crates = given.crates or sorted({*crates_with(FOLDER), *EDITS})
-    tasks = [task for crate in crates for task in prepared(crate, given.jobs)]
+    tasks = [task for crate in crates for task in prepared(crate, given.named, given.jobs)]
+    if not tasks:
+        raise Failure(f'no edit has {given.named} in its name')
     rooms = SimpleQueue()
     with copies(crates, min(given.jobs, len(tasks))) as places:
         for place in places:

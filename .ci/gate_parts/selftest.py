@@ -30,7 +30,7 @@ EDITS = {'toy': 1}
 REFUSALS = {'toy': (2, 3)}
 STORED_CASES = {'a.cases': 2, 'b.cases': 1}
 HOSTILE_INPUTS, HOSTILE_ACCEPTED_PART, HOSTILE_OF_EACH, HOSTILE_REPLIES, HOSTILE_FAULTS = 1, 0, 0, (), ()
-WRONG_DEFINITIONS, WRONG_CLAUSES, CALLERS = 1, 1, 1
+WRONG_DEFINITIONS, WRONG_CLAUSES, CALLERS = {'toy': 1}, 1, 1
 '''
 SOURCE = '''pub const LIMIT: usize = 1;
 
@@ -167,7 +167,7 @@ class Edits(InSmallRepository):
         self.assert_fails('changes just what', 'edits', **self.IN_ORDER)
 
     def test_fewer_edits_than_there_must_be(self):
-        self.write('.ci/floors.py', FLOORS.replace("'toy': 1}", "'toy': 2}"))
+        self.write('.ci/floors.py', FLOORS.replace("EDITS = {'toy': 1}", "EDITS = {'toy': 2}"))
         self.assert_fails('has 1 edits, and must have 2', 'edits', **self.IN_ORDER)
 
     def test_crate_whose_edits_are_gone(self):
@@ -199,13 +199,23 @@ class Definitions(InSmallRepository):
     def test_function_that_is_not_proved_as_it_is(self):
         self.assert_fails('not proved as it is', 'definitions', '--jobs', '1', WORD='word = 1', REFUSED='above/row')
 
+    def test_definition_with_proofs_that_a_row_above_lacks(self):
+        self.write('crates/toy/proofs/Free.antt', 'free = 1\n')
+        self.write('crates/toy/wrong-definitions/Word.edits',
+                   DEFINITION + 'file: proofs/Free.antt\nold: free = 1\nnew: free = 2\n')
+        self.assert_fails('have no copy of', 'definitions', **self.IN_ORDER)
+
+    def test_only_what_is_named(self):
+        self.assert_passes('definitions', '--named', 'two', '--jobs', '1', **self.IN_ORDER)
+        self.assert_fails('0 wrong definitions', 'definitions', '--named', 'three', **self.IN_ORDER)
+
     def test_edit_that_changes_no_definition(self):
         self.write('crates/toy/wrong-definitions/Word.edits', EDIT)
         self.assert_fails('must change a file of specs/', 'definitions', **self.IN_ORDER)
 
     def test_fewer_than_there_must_be(self):
-        self.write('.ci/floors.py', FLOORS.replace('= 1, 1, 1', '= 2, 1, 1'))
-        self.assert_fails('there are 1 wrong definitions', 'definitions', **self.IN_ORDER)
+        self.write('.ci/floors.py', FLOORS.replace("{'toy': 1}, 1, 1", "{'toy': 2}, 1, 1"))
+        self.assert_fails('toy has 1 wrong definitions', 'definitions', **self.IN_ORDER)
 
 
 class Callers(InSmallRepository):
@@ -229,7 +239,7 @@ class Callers(InSmallRepository):
         self.assert_fails('a folder proofs', 'callers', **self.IN_ORDER)
 
     def test_fewer_callers_than_there_must_be(self):
-        self.write('.ci/floors.py', FLOORS.replace('= 1, 1, 1', '= 1, 1, 2'))
+        self.write('.ci/floors.py', FLOORS.replace("{'toy': 1}, 1, 1", "{'toy': 1}, 1, 2"))
         self.assert_fails('1 public functions', 'callers', **self.IN_ORDER)
 
     def test_functions_that_promise_nothing_do_not_count(self):
