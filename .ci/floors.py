@@ -10,8 +10,8 @@ EDITS = {'inlinable_string': 97, 'inline_vectors': 34, 'script_language': 29}
 # By crate: requests for memory refused one after the other, and how often a test met one.
 REFUSALS = {'inline_refusals': (4, 44), 'inline_script': (7, 36)}
 
-# The stored cases of each file in `replay/`: just so many.
-STORED_CASES = {'named.cases': 258, 'robin.cases': 2277, 'sparrow.cases': 460, 'wren.cases': 400}
+# The stored cases, and the digests of a thousand answers each, of the files in `replay/`: just so many.
+STORED = {'named.cases': 258, 'sparrow.cases': 200, 'wren.cases': 250, 'digests': 100}
 
 # Hostile inputs: how many, the part of them that is accepted and so runs, and how many there must be
 # of each reply and of each fault that an input can lead to. (Want of memory before a run can't be

@@ -24,9 +24,8 @@ STATED = {
         'and {hostile_inputs} hostile inputs',
     ),
     'replay/README.md': (
-        '| `named.cases` | {named_cases} |',
-        '| `sparrow.cases` | {sparrow_cases} |',
-        '| `wren.cases` | {wren_cases} |',
-        '| `robin.cases` | {robin_cases} |',
+        'digests for {stored_answers} generated scripts',
+        'all cases and the first {replayed_answers} scripts',
+        'They are the first {sparrow_cases} and the first {wren_cases} that a Python program drew',
     ),
 }

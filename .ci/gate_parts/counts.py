@@ -8,8 +8,10 @@ import os
 import re
 from collections import Counter
 
-from floors import HOSTILE_INPUTS, REFUSALS, STORED_CASES
+from floors import HOSTILE_INPUTS, REFUSALS, STORED
+from gate_parts.digests import STEP
 from gate_parts.edit_files import edits_of
+from gate_parts.replay import THOUSANDS
 from gate_parts.tree import TOP, Failure, crate_folder, dependencies, in_tree, text_of
 from stated import STATED
 
@@ -49,10 +51,10 @@ def test_paths(paths):
 def kind_of(path, tests):
     """What a file counts as."""
     parts = path.split('/')
-    if parts[0] == 'replay' and path.endswith('.cases'):
-        return 'stored cases'
     if path.endswith('.md'):
         return 'documents'
+    if parts[0] == 'replay':
+        return 'replay'
     if parts[0] == '.ci':
         return '.ci'
     if parts[0] != 'crates' or len(parts) < 4:
@@ -113,6 +115,7 @@ def list_count():
 def counted():
     """By name, each number that a document may state."""
     together, alone = edit_count('must-fail-together'), single_edit_count()
+    cases = sum(count for name, count in STORED.items() if name.endswith('.cases'))
     requests, meetings = (sum(numbers) for numbers in zip(*REFUSALS.values()))
     return {
         'crates': len(dependencies()), 'tests': test_count(), 'lists': list_count(),
@@ -123,9 +126,9 @@ def counted():
         'wrong_clauses': sum(edit_count('wrong-clauses').values()),
         # in each crate one more build shows that no test makes a further request
         'requests': requests, 'meetings': meetings, 'refusal_builds': requests + len(REFUSALS),
-        'stored_cases': sum(STORED_CASES.values()),
-        'original_cases': sum(STORED_CASES.values()) - STORED_CASES['named.cases'],
-        **{name.replace('.', '_'): count for name, count in STORED_CASES.items()},
+        'stored_cases': cases, 'original_cases': cases - STORED['named.cases'],
+        **{name.replace('.', '_'): count for name, count in STORED.items()},
+        'stored_answers': STORED['digests'] * STEP, 'replayed_answers': THOUSANDS * STEP,
         'hostile_inputs': HOSTILE_INPUTS,
     }
 

@@ -7,13 +7,14 @@ EDGES = (0, 8, 30)
 # By width: what looks like an end or a space, the first and last of each width and of each gap.
 CHARS = (' \r\0\t\x0b\x1f\x7f~azAF09_-', '\x80\x85\xa0é\u0301\u07ff',
          '\u0800€\u2028\u3000\ud7ff\ue000\ufeff\ufffd\uffff', '\U00010000𝄞😀\U000f0000\U0010ffff')
-# Of each command: how often it comes beside the others, and what follows its word, if anything does;
-# `draw` is the case's random numbers, `text` the text of its turn.
-COMMANDS = {
+# A row for each line: how often it comes beside the others, and what follows its word. There,
+# `draw` is the case's random numbers, and `text` the text of its turn.
+LINES = {
     'push': (10, lambda draw, text: a_char(draw)),
     'push_str': (10, lambda draw, text: a_string(draw, a_growth(draw, text))),
     'insert': (10, lambda draw, text: f'{a_place(draw, text)} {a_char(draw)}'),
-    'insert_str': (10, lambda draw, text: f'{a_place(draw, text)} {a_string(draw, a_growth(draw, text))}'),
+    'insert_str': (10, lambda draw, text:
+                   f'{a_place(draw, text)} {a_string(draw, a_growth(draw, text))}'),
     'truncate': (8, lambda draw, text: a_place(draw, text)),
     'pop': (8, None),
     'remove': (12, lambda draw, text: a_place(draw, text)),
@@ -23,23 +24,18 @@ COMMANDS = {
     'reserve_exact': (6, lambda draw, text: an_amount(draw, text)),
     'shrink_to_fit': (6, None),
 }
-WEIGHTS = [weight for weight, _ in COMMANDS.values()]
-
-
-def random_bytes_of(draw, count):
-    """So many bytes. Python has `randbytes`, which draws the same, from 3.9 on."""
-    return draw.getrandbits(8 * count).to_bytes(count, 'little') if count else b''
+WEIGHTS = {word: weight for word, (weight, _) in LINES.items()}
 
 
 def a_char(draw):
-    if draw.random() < .1:
-        return chr(draw.choice((draw.randrange(0x20, 0xd800), draw.randrange(0xe000, 0x110000))))
+    if draw.chance(10):
+        return chr(draw.choice((draw.randint(0x20, 0xd7ff), draw.randint(0xe000, 0x10ffff))))
     return draw.choice(draw.choice(CHARS))
 
 
 def a_string(draw, size):
     """A string of as many bytes."""
-    if draw.random() < .3:
+    if draw.chance(30):
         return draw.choice('ab ') * size
     out = ''
     while size:
@@ -50,15 +46,17 @@ def a_string(draw, size):
 
 def an_edge(draw, text):
     """The text's own limit, or another's."""
-    return draw.choice(EDGES) if text.limit is None or draw.random() < .3 else text.limit
+    return draw.choice(EDGES) if text.limit is None or draw.chance(30) else text.limit
 
 
 def a_growth(draw, text):
-    """How many bytes to add: to an edge or one beside it, few, or many."""
-    kind = draw.random()
-    if kind < .6:
+    """How many bytes to add: to an edge or one beside it, few, many, or very many."""
+    kind = draw.randrange(100)
+    if kind < 60:
         return max(0, an_edge(draw, text) - text.size + draw.choice((-2, -1, 0, 0, 1, 2)))
-    return draw.randint(0, 5) if kind < .95 else draw.randint(6, 600)
+    if kind < 95:
+        return draw.randint(0, 5)
+    return draw.randint(6, 600) if kind < 99 else draw.randint(601, 6000)
 
 
 def written(draw, value):
@@ -71,28 +69,39 @@ def places(text):
     return [0, *accumulate(width(char) for char in text.chars)]
 
 
+def between_places(draw, text):
+    """An offset inside of a character; one past the end where there is none."""
+    inner = set(range(text.size)).difference(places(text))
+    return draw.choice(sorted(inner)) if inner else text.size + 1
+
+
 def a_place(draw, text):
     """A place, the inside of a character, past the end, or what would wrap to a place."""
-    cut, kind = draw.choice(places(text)), draw.random()
-    if kind < .65:
+    cut, kind = draw.choice(places(text)), draw.randrange(100)
+    if kind < 60:
         place = draw.choice((0, text.size, cut, cut))
-    elif kind < .85:
+    elif kind < 75:
+        place = between_places(draw, text)
+    elif kind < 85:
         place = draw.randint(0, text.size + 4)
     else:
-        place = draw.choice((GREATEST, GREATEST - cut, *(cut + 2 ** bits for bits in (8, 16, 31, 32, 63))))
+        wraps = [cut + 2 ** bits for bits in (8, 16, 31, 32, 63)]
+        place = draw.choice((GREATEST, GREATEST - cut, *wraps))
     return written(draw, place)
 
 
 def an_amount(draw, text):
-    """With the size at an edge or beside it, or small; or what no machine grants, and what wraps."""
-    kind = draw.random()
-    if kind < .5:
+    """With the size at an edge or beside it; or small; or what no machine grants, or what wraps."""
+    kind = draw.randrange(100)
+    if kind < 50:
         amount = max(0, an_edge(draw, text) - text.size + draw.randint(-1, 2))
-    elif kind < .65:
+    elif kind < 65:
         amount = draw.choice((0, 1, 100, 5000, 65_536))
     else:
-        amount = draw.choice((GREATEST, GREATEST - text.size, GREATEST - text.size + draw.randint(1, 31),
-                              ABSURD, 2 ** 63 - text.size, 2 ** 63 - 1 - text.size, 2 ** 63, 2 ** 63 - 1))
+        rest = GREATEST - text.size
+        amount = draw.choice((
+            GREATEST, rest, rest + draw.randint(1, 31), ABSURD,
+            2 ** 63 - text.size, 2 ** 63 - 1 - text.size, 2 ** 63, 2 ** 63 - 1))
     return written(draw, min(amount, GREATEST))
 
 
@@ -105,7 +114,7 @@ LATER = bytes.fromhex('7f 80 8f 90 9f a0 bf c0')
 
 
 def almost_char(draw):
-    if draw.random() < .6:
+    if draw.chance(60):
         pair = draw.choice(PAIRS)
         return pair + bytes(draw.choices(b'\x80\xbf', k=(pair[0] >= 0xe0) + (pair[0] >= 0xf0)))
     return bytes([draw.choice(FIRST), *draw.choices(LATER, k=draw.randint(0, 3))])
@@ -113,62 +122,76 @@ def almost_char(draw):
 
 def nearly_utf8(draw, count):
     """Characters, and what is almost one."""
-    return b''.join(draw.choice((a_char(draw).encode(), almost_char(draw), almost_char(draw))) for _ in range(count))
+    drawn = (a_char(draw).encode() if draw.chance(33) else almost_char(draw) for _ in range(count))
+    return b''.join(drawn)
 
 
 def a_replacement(draw, text):
     """As many bytes as the text has, UTF-8 or not quite; or more or fewer."""
-    kind = draw.random()
-    if kind < .45:
+    kind = draw.randrange(100)
+    if kind < 45:
         data = a_string(draw, text.size).encode()
-        return data.replace(draw.choice((b'a', b' ', b'b')), b'\n') if draw.random() < .3 else data
+        return data.replace(draw.choice((b'a', b' ', b'b')), b'\n') if draw.chance(30) else data
     data = nearly_utf8(draw, draw.randint(1, 3))
-    if kind < .8 and len(data) <= text.size:
+    if kind < 80 and len(data) <= text.size:
         front = draw.randint(0, text.size - len(data))
         return b'a' * front + data + b'b' * (text.size - len(data) - front)
-    return data if kind < .9 else a_string(draw, max(0, text.size + draw.choice((-1, 1, text.size)))).encode()
+    if kind < 90:
+        return data
+    return a_string(draw, max(0, text.size + draw.choice((-1, 1, text.size)))).encode()
 
 
 def in_digits(draw, data):
     """Pairs of digits of either case."""
-    return ''.join(draw.choice((digit, digit.upper())) for digit in data.hex())
+    digits = data.hex()
+    cases = draw.randbytes(len(digits))
+    return ''.join(digit.upper() if case % 2 else digit for digit, case in zip(digits, cases))
 
 
 def line_of(draw, text, word):
-    _, arguments = COMMANDS[word]
-    return f'{word} {arguments(draw, text)}' if arguments else word
+    _, rest = LINES[word]
+    return f'{word} {rest(draw, text)}' if rest else word
 
 
 def way_back(draw, text):
     """For a text on the heap: a cut near an edge, or the shrinking after it."""
     edge = an_edge(draw, text)
     if text.size > edge + 1:
-        return f'truncate {draw.choice([place for place in places(text) if abs(place - edge) <= 2])}'
+        near = [place for place in places(text) if abs(place - edge) <= 2]
+        return f'truncate {draw.choice(near)}'
     return 'shrink_to_fit'
 
 
 def at_the_ends(draw, text):
-    """For an inline text: characters off its ends, then as many bytes as are free, fewer, or one more."""
+    """For an inline text: characters off its ends, then about as many bytes as are free."""
     free = text.limit - text.size
-    if text.chars and (free < 2 or draw.random() < .5):
+    if text.chars and (free < 2 or draw.chance(50)):
         return draw.choice(('remove 0', 'remove 0', 'pop'))
     added = a_string(draw, draw.choice((free, free, free, free // 2, min(free, 2), free + 1)))
     place = draw.choice(places(text))
-    return draw.choice((f'push_str {added}', f'insert_str 0 {added}', f'insert_str {place} {added}'))
+    return draw.choice(('push_str', 'insert_str 0', f'insert_str {place}')) + ' ' + added
 
 
 def next_line(draw, text, slides):
-    if text.storage == 'heap' and draw.random() < .25:
+    if text.storage == 'heap' and draw.chance(15):
         return way_back(draw, text)
-    if text.storage == 'inline' and slides and draw.random() < .7:
+    if text.storage == 'inline' and slides and draw.chance(70):
         return at_the_ends(draw, text)
-    return line_of(draw, text, *draw.choices(list(COMMANDS), WEIGHTS))
+    return line_of(draw, text, draw.weighted(WEIGHTS))
 
 
 def good_lines(draw, word, turns):
     """The lines of a script that the program takes."""
-    text, lines, slides = Text(word), [], draw.random() < .25
+    text, lines, slides = Text(word), [], draw.chance(25)
     for _ in range(turns):
         lines.append(next_line(draw, text, slides))
         text.obey(command_of(lines[-1]))
     return lines
+
+
+def good_script(draw, word):
+    """With empty lines in it, and with or without the last line feed."""
+    lines = []
+    for line in good_lines(draw, word, draw.randint(0, 30)):
+        lines += [''] * draw.chance(5) + [line]
+    return '\n'.join(lines + draw.choice(([], [''], ['', '']))).encode()

@@ -1,12 +1,11 @@
-"""What `gate hostile` gives the program: words, streams and inputs, drawn at random, most of them bad.
+"""What `.ci/hostile` gives the program: words, streams and inputs, drawn at random, most of them bad.
 
 Each maker of an input takes `draw`, the case's random numbers, and `word`, its argument word.
 """
-import random
-
-from cases import STREAMS, Case
-from gate_parts.good_scripts import (CHARS, COMMANDS, a_char, a_string, good_lines, in_digits, line_of, nearly_utf8,
-                                     random_bytes_of, written)
+from gate_parts.cases import STREAMS, Case
+from gate_parts.draw import Draw
+from gate_parts.good_scripts import (CHARS, LINES, a_char, a_string, good_lines, good_script, in_digits,
+                          line_of, nearly_utf8, written)
 from gate_parts.language import GREATEST, MOST_BYTES, STARTS, Text, Undecided, answer, width
 
 WRONG_WORDS = [
@@ -20,7 +19,7 @@ WRONG_WORDS = [
 # Of no shape, or of hardly any.
 
 def random_bytes(draw, word):
-    return random_bytes_of(draw, draw.choice((1, 2, 3, 10, 100, 1000)))
+    return draw.randbytes(draw.choice((1, 2, 3, 10, 100, 1000)))
 
 
 def random_few_bytes(draw, word):
@@ -38,14 +37,6 @@ def almost_text(draw, word):
 
 
 # Good scripts, and what becomes of them.
-
-def good(draw, word):
-    """With empty lines in it, and with or without the last line feed."""
-    lines = []
-    for line in good_lines(draw, word, draw.choice((0, 1, 2, 5, 10, 20, 40))):
-        lines += [''] * (draw.random() < .05) + [line]
-    return '\n'.join(lines + draw.choice(([], [''], ['', '']))).encode()
-
 
 def short(draw, word):
     return '\n'.join(good_lines(draw, word, draw.randint(1, 8))).encode() + draw.choice((b'', b'\n'))
@@ -73,7 +64,7 @@ def with_bytes_twice(draw, word):
 def with_more_bytes(draw, word):
     data = short(draw, word)
     at = draw.randint(0, len(data))
-    more = (b' ', b'0', b'\n', b'\r', b'\0', b'\xef\xbb\xbf', random_bytes_of(draw, 1), nearly_utf8(draw, 1))
+    more = (b' ', b'0', b'\n', b'\r', b'\0', b'\xef\xbb\xbf', draw.randbytes(1), nearly_utf8(draw, 1))
     return data[:at] + draw.choice(more) + data[at:]
 
 
@@ -123,7 +114,7 @@ def odd_digits(draw, word):
 
 def odd_line(draw, word):
     """A good line with its word or a space spoilt."""
-    line = line_of(draw, Text(word), draw.choice(list(COMMANDS)))
+    line = line_of(draw, Text(word), draw.choice(list(LINES)))
     name, space, rest = line.partition(' ')
     names = (name.upper(), name.title(), name[:-1], name + 's', name.replace('_', '-'), name.replace('_', ' '), '')
     return among_good(draw, word, draw.choice((
@@ -168,7 +159,7 @@ def one_script(draw, word, size):
 
 
 def bytes_only(draw, word, size):
-    return draw.choice((random_bytes_of(draw, size), bytes([draw.choice((0, 10, 32, 97, 255))]) * size))
+    return draw.choice((draw.randbytes(size), bytes([draw.choice((0, 10, 32, 97, 255))]) * size))
 
 
 def at_limit(draw, word):
@@ -181,26 +172,27 @@ def at_limit(draw, word):
     return draw.choice((data + rest, data + rest, rest + data)) + end
 
 
-# How often each comes, of a hundred or so.
-INPUTS = {random_bytes: 3, random_few_bytes: 2, random_text: 3, almost_text: 5, good: 22, flipped: 8, without_bytes: 5,
-          with_bytes_twice: 4, with_more_bytes: 6, exchanged: 3, cut_off: 4, odd_number: 12, odd_digits: 7, odd_line: 10,
-          odd_character: 3, at_limit: 5}
-WRONG, STREAMED = .03, .08
+# How often each comes beside the others.
+INPUTS = {
+    random_bytes: 3, random_few_bytes: 2, random_text: 3, almost_text: 5, good_script: 22, flipped: 8,
+    without_bytes: 5, with_bytes_twice: 4, with_more_bytes: 6, exchanged: 3, cut_off: 4,
+    odd_number: 12, odd_digits: 7, odd_line: 10, odd_character: 3, at_limit: 5}
+# Of a hundred cases.
+WRONG, STREAMED = 3, 8
 
 
 def drawn(draw, name):
     case, word = Case(name), draw.choice(list(STARTS))
-    words = draw.choice(WRONG_WORDS) if draw.random() < WRONG else [word]
+    words = draw.choice(WRONG_WORDS) if draw.chance(WRONG) else [word]
     case.words = [each if isinstance(each, bytes) else each.encode() for each in words]
-    case.io = draw.choice(STREAMS) if draw.random() < STREAMED else ''
-    make, = draw.choices(list(INPUTS), INPUTS.values())
-    case.input = make(draw, word)
+    case.io = draw.choice(STREAMS) if draw.chance(STREAMED) else ''
+    case.input = draw.weighted(INPUTS)(draw, word)
     return case
 
 
 def hostile_case(seed, number):
     """A case with what it must give, how it ends in a word or two, and its replies. Always the same one."""
-    draw = random.Random(f'{seed}:{number}')
+    draw = Draw.seeded(f'{seed}:{number}')
     while True:
         case = drawn(draw, f'hostile_{seed}_{number}')
         try:

@@ -5,7 +5,7 @@ import threading
 import time
 from multiprocessing import Pool, Value
 
-from cases import quoted, told
+from gate_parts.cases import quoted, told
 from gate_parts.tree import Failure, in_tree
 
 MADE = in_tree('crates', 'inline_script', 'out', 'inline_script')

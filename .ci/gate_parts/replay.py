@@ -1,63 +1,42 @@
-"""gate replay [PROGRAM ..]: runs each program on every stored case of replay/, and prints each difference.
+"""gate replay [PROGRAM ..] [--all]: runs each program on every stored case, and on generated scripts.
 
-Without PROGRAM they are the two that `rt ci` builds. The last lines are, for each of them, like
-`llvm: N passed, M failed`. The files of replay/ and how many cases each has must be those of
-`.ci/floors.py`. replay/README.md says how the cases came about.
+Without PROGRAM they are the two that `rt ci` builds. Of the generated scripts, whose answers
+`replay/digests` keeps, it runs the first 30,000, and all with --all. Each difference is printed;
+the last lines are, for each program, like `llvm: 708 cases and 30 digests of 1000 scripts: 738
+passed, 0 failed`. The files of replay/ must hold just as much as `.ci/floors.py` says;
+replay/README.md says how they came about.
 """
 import argparse
-import os
-from collections import Counter
-from functools import partial
 
-from cases import read_cases
-from floors import STORED_CASES
-from gate_parts.programs import NOT_TRIED, all_runs, chosen, difference, run
-from gate_parts.tree import Failure, in_tree
+from gate_parts.digests import STEP, failed_digests, stored_digests
+from gate_parts.programs import chosen
+from gate_parts.stored import failed_cases, stored_cases
 
-ENDING = '.cases'
+# So many thousands of generated scripts are run, unless all are.
+THOUSANDS = 30
 
 
-def stored_cases():
-    """The cases by file."""
-    folder = in_tree('replay')
-    names = sorted(name for name in os.listdir(folder) if name.endswith(ENDING))
-    return {name: read_cases(os.path.join(folder, name)) for name in names}
-
-
-def all_cases(by_file):
-    """The cases of all files, which are just as many as they must be."""
-    counts = {name: len(cases) for name, cases in by_file.items()}
-    if counts != STORED_CASES:
-        raise Failure(f'replay/ has {counts} cases, and must have {STORED_CASES}')
-    cases = [case for cases in by_file.values() for case in cases]
-    for name, count in Counter(case.name for case in cases).items():
-        if count > 1:
-            raise Failure(f'{count} cases have the name {name}')
-    return cases
-
-
-def failures(name, program, cases):
-    """How many of the cases the program fails; each that was tried is printed."""
-    failed = 0
-    for given, case in zip(all_runs(partial(run, program), cases), cases):
-        if given != (case.output, case.status):
-            failed += 1
-            if given != NOT_TRIED:
-                print(f'{name}: {difference(case, *given)}')
-    return failed
+def replayed(builds, is_whole):
+    """Whether every build, each a name and a path, gives all answers as they are stored."""
+    cases, digests = stored_cases(), stored_digests()
+    wanted = digests if is_whole else digests[:THOUSANDS]
+    failed = {name: failed_cases(name, path, cases) for name, path in builds.items()}
+    for name, count in failed_digests(builds, wanted).items():
+        failed[name] += count
+        passed = len(cases) + len(wanted) - failed[name]
+        print(f'{name}: {len(cases)} cases and {len(wanted)} digests of {STEP} scripts: '
+              f'{passed} passed, {failed[name]} failed')
+    return not any(failed.values())
 
 
 def options(words):
     parser = argparse.ArgumentParser(prog='gate replay', description=__doc__,
                                      formatter_class=argparse.RawDescriptionHelpFormatter)
     parser.add_argument('programs', nargs='*', metavar='PROGRAM')
+    parser.add_argument('--all', action='store_true')
     return parser.parse_args(words)
 
 
 def main(words):
-    programs = chosen(options(words).programs)
-    cases = all_cases(stored_cases())
-    failed = {name: failures(name, path, cases) for name, path in programs.items()}
-    for name, count in failed.items():
-        print(f'{name}: {len(cases) - count} passed, {count} failed')
-    return not any(failed.values())
+    given = options(words)
+    return replayed(chosen(given.programs), given.all)

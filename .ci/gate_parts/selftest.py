@@ -15,7 +15,7 @@ import unittest
 from collections import Counter
 from unittest import mock
 
-from gate_parts import hostile_inputs, said
+from gate_parts import hostile_inputs, said, specified
 from gate_parts.callers import promising
 from gate_parts.counts import misstatements
 from gate_parts.definitions import cite_copies
@@ -28,7 +28,7 @@ CRATES = 'toy:\nabove: toy\ncallers: toy\n'
 FLOORS = '''
 EDITS = {'toy': 1}
 REFUSALS = {'toy': (2, 3)}
-STORED_CASES = {'a.cases': 2, 'b.cases': 1}
+STORED = {'a.cases': 2, 'b.cases': 1, 'digests': 0}
 HOSTILE_INPUTS, HOSTILE_ACCEPTED_PART, HOSTILE_OF_EACH, HOSTILE_REPLIES, HOSTILE_FAULTS = 1, 0, 0, (), ()
 WRONG_DEFINITIONS, WRONG_CLAUSES, CALLERS = {'toy': 1}, 1, 1
 '''
@@ -269,6 +269,8 @@ class Replay(InSmallRepository):
         super().setUp()
         self.write('replay/a.cases', CASES.format('a'))
         self.write('replay/b.cases', CASES.format('b').partition('case b_2')[0])
+        self.write('replay/digests', '')
+        self.write('replay/README.md', '')
         self.write('bin/program', '#!/bin/sh\necho done\n')
         self.program = os.path.join(self.place, 'bin/program')
         os.chmod(self.program, 0o755)
@@ -280,16 +282,31 @@ class Replay(InSmallRepository):
         self.assert_passes('replay', self.program)
 
     def test_file_that_is_gone(self):
-        os.remove(os.path.join(self.place, 'replay/b.cases'))
-        self.assert_fails('must have', 'replay', self.program)
+        for name in ('b.cases', 'digests'):
+            os.rename(os.path.join(self.place, 'replay', name), os.path.join(self.place, name))
+            self.assert_fails(f'missing, or read by nothing: {name}', 'replay', self.program)
+            os.rename(os.path.join(self.place, name), os.path.join(self.place, 'replay', name))
+
+    def test_file_that_nothing_reads(self):
+        self.write('replay/c.cases', '')
+        self.assert_fails('missing, or read by nothing: c.cases', 'replay', self.program)
+
+    def test_digests_that_are_cut(self):
+        self.write('.ci/floors.py', FLOORS.replace("'digests': 0", "'digests': 1"))
+        self.assert_fails('has 0 digests, and must have 1', 'replay', self.program)
+
+    def test_words_that_are_drawn_are_those_of_the_rules(self):
+        specified.check_words()
+        with mock.patch.dict(specified.LINES, {'popped': (1, None)}), self.assertRaises(Failure):
+            specified.check_words()
 
     def test_file_that_is_cut(self):
         self.write('replay/a.cases', CASES.format('a').partition('case a_2')[0])
-        self.assert_fails('must have', 'replay', self.program)
+        self.assert_fails('has 1 cases, and must have 2', 'replay', self.program)
 
     def test_case_that_stands_twice(self):
         self.write('replay/b.cases', CASES.format('a').partition('case a_2')[0])
-        self.assert_fails('2 cases have the name a_1', 'replay', self.program)
+        self.assert_fails('two cases have the name a_1', 'replay', self.program)
 
     def test_program_that_is_not_there(self):
         self.assert_fails('is not there', 'replay')
@@ -344,7 +361,7 @@ class Run(InSmallRepository):
     PARTS = '#!/bin/sh\necho part "$@"\n[ "$1" != "$FAILING" ]\n'
 
     def run_gate(self, failing):
-        for path in ('.ci/gate', '.ci/stored_scripts', 'bin/rt'):
+        for path in ('.ci/gate', 'bin/rt'):
             self.write(path, self.PARTS)
             os.chmod(os.path.join(self.place, path), 0o755)
         path = os.path.join(self.place, 'bin') + os.pathsep + os.environ['PATH']

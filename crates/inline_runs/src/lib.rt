@@ -7,5 +7,3 @@ mod beside;
 mod followed;
 #[cfg(test)]
 mod runs;
-#[cfg(test)]
-mod stored;

@@ -10,12 +10,15 @@
     status 0
 
 A text is made of quoted pieces, each as often as the number after its `*` says; lines of the same
-key follow one another. In a piece `\\n`, `\\r`, `\\t`, `\\"`, `\\\\` and `\\xNN`, one byte, stand for what
-is hard to see; all else is itself, in UTF-8. Empty lines and lines that begin with `#` say nothing.
+key follow one another. In a piece `\\n`, `\\r`, `\\t`, `\\"`, `\\\\` and `\\xNN`, one byte, stand for
+what is hard to see; all else is itself, in UTF-8. Empty lines and lines that begin with `#` say
+nothing.
 """
 import re
 import unicodedata
 from itertools import groupby
+
+from gate_parts.tree import Failure
 
 # How the program's standard streams are, where they are not files in memory.
 STREAMS = ('stdin-dir', 'stdin-zero', 'stdin-pipe', 'stdout-full', 'stdout-closed')
@@ -27,7 +30,7 @@ LONG_RUN = 32
 
 
 class Case:
-    """One run: its name, argument words, streams, input, and the output and status that it must have."""
+    """One run: its name, words, streams and input, and the output and status that it must have."""
 
     def __init__(self, name):
         self.name, self.words, self.io = name, [], ''
@@ -48,10 +51,10 @@ def read_cases(path):
                 else:
                     read_line(cases[-1], key, value)
             except (KeyError, IndexError, ValueError) as error:
-                raise SystemExit(f'{path}:{number}: not a line of a case: {line} ({error})')
+                raise Failure(f'{path}:{number}: not a line of a case: {line} ({error})')
     for case in cases:
         if case.status is None:
-            raise SystemExit(f'{path}: {case.name} has no status')
+            raise Failure(f'{path}: {case.name} has no status')
     return cases
 
 
@@ -89,16 +92,6 @@ def unescaped(text):
         out += bytes.fromhex(match.group(1)) if match.group(1) else ESCAPES[match.group(2)]
         at = match.end()
     return out + text[at:].encode()
-
-
-def written(case):
-    """The case in its stored form."""
-    lines = [f'case {case.name}', ' '.join(['words', *(quoted(word) for word in case.words)])]
-    if case.io:
-        lines.append(f'io {case.io}')
-    for key, data in (('input', case.input), ('output', case.output)):
-        lines += [f'{key} {text}' for text in told(data)]
-    return '\n'.join([*lines, f'status {case.status}']) + '\n'
 
 
 def told(data):
