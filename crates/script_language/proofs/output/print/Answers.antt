@@ -1,8 +1,8 @@
-use Rattle.std.proofs.Common.{rules, arith, ◌≡◌, ℕ, suc, ◌+◌, List, ◌∷◌, ◌++◌, [], codes, decimal, get_or, take, drop, length, flat_map, subst, ap, sym, ◌∙◌, append_assoc, take_all}
+use Rattle.std.proofs.Common.{rules, ◌≡◌, suc, ◌++◌, codes, decimal, get_or, take, drop, flat_map, subst, ap, sym, ◌∙◌, append_assoc, take_all}
 use Rattle.std.proofs.KnownBytes.{Appends-trans}
 use Rattle.inlinable_string.specs.Text.{bytes_of, size}
 use Rattle.inlinable_string.specs.declared.run.Reply.TheVariants.{Done}
-use Rattle.script_language.specs.Output.{labelled_line, printed, reply_line, state_lines, storage_name, WritesFront}
+use Rattle.script_language.specs.Output.{labelled_line, reply_line, state_lines, storage_name, WritesFront}
 use Rattle.script_language.proofs.Pieces.{front_of_more, front_after, of_any_error, of_error, regroup, line_at}
 use Rattle.script_language.proofs.output.print.Goals as goal
 

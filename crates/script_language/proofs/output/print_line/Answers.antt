@@ -1,4 +1,4 @@
-use Rattle.std.proofs.Common.{rules, ◌≡◌, ℕ, List, ◌++◌, codes}
+use Rattle.std.proofs.Common.{codes}
 use Rattle.std.proofs.KnownBytes.{Appends-trans}
 use Rattle.script_language.proofs.Pieces.{front_of_more, front_after, of_any_error, of_error}
 use Rattle.script_language.proofs.output.print_line.Goals as goal
