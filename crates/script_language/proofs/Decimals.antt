@@ -10,23 +10,26 @@ pub record AreDigitsFrom (room : List ℕ) (number rest place : ℕ) : Type 0 wh
   pub digits : decimal rest ++ drop (place + 1) room ≡ decimal number
 
 -- no digit is written yet
-pub no_digit : (room : List ℕ) (number : ℕ) → length room ≡ 20 → number < 2 ^ 64 → AreDigitsFrom room number number 19
+pub no_digit : (room : List ℕ) (number : ℕ) → length room ≡ 20 → number < 2 ^ 64
+    → AreDigitsFrom room number number 19
 no_digit room number size fits = record {
   within = omega (arith, size);
   fit = length-decimal-le 20 number (omega arith) (omega (arith, fits)) fits;
-  digits = ap (λ l. decimal number ++ l) (drop_all 20 room (omega (arith, size))) ∙ append-nil (decimal number);
+  digits = ap (λ l. decimal number ++ l) (drop_all 20 room (omega (arith, size)))
+      ∙ append-nil (decimal number);
 }
 
 -- the rest's last digit has digits before it, and so there is a place for them
-pub place_before : (room : List ℕ) (number rest place : ℕ) → 10 ≤ rest → rest < 2 ^ 64 → AreDigitsFrom room number rest place
-    → (1 ≤ place) × (length (decimal (rest / 10)) ≤ place)
+pub place_before : (room : List ℕ) (number rest place : ℕ) → 10 ≤ rest → rest < 2 ^ 64
+    → AreDigitsFrom room number rest place → (1 ≤ place) × (length (decimal (rest / 10)) ≤ place)
 place_before room number rest place more fits digits =
     let step = ap length (decimal_step rest more fits) ∙ length-append (decimal (rest / 10)) _ in
     let some = decimal_nonempty (rest / 10) (omega (arith, fits)) in
     (omega (arith, step, some, digits.fit), omega (arith, step, digits.fit))
 
 -- it is written
-pub one_digit : (room : List ℕ) (number rest place : ℕ) → 10 ≤ rest → rest < 2 ^ 64 → AreDigitsFrom room number rest place
+pub one_digit : (room : List ℕ) (number rest place : ℕ) → 10 ≤ rest → rest < 2 ^ 64
+    → AreDigitsFrom room number rest place
     → AreDigitsFrom (set room place (48 + rest % 10)) number (rest / 10) (place - 1)
 one_digit room number rest place more fits digits =
     let before = place_before room number rest place more fits digits in
@@ -43,7 +46,8 @@ one_digit room number rest place more fits digits =
     }
 
 -- and the first one is
-pub first_digit : (room : List ℕ) (number rest place : ℕ) → rest < 10 → AreDigitsFrom room number rest place
+pub first_digit : (room : List ℕ) (number rest place : ℕ) → rest < 10
+    → AreDigitsFrom room number rest place
     → take (length room - place) (drop place (set room place (48 + rest))) ≡ decimal number
 first_digit room number rest place last digits =
     let written = set room place (48 + rest) in

@@ -19,12 +19,17 @@ digits-from_pairs (suc n) (a ∷ b ∷ digits) even all =
     (pair.0, (pair.1.0, digits-from_pairs n digits (omega (arith, even)) rest))
 
 -- and pairs of digits are digits
-pub pairs-from_digits : (n : ℕ) (digits : List ℕ) → AllDigits 16 digits → All (AllDigits 16) (first_chunks 2 n digits)
+pub pairs-from_digits : (n : ℕ) (digits : List ℕ) → AllDigits 16 digits
+    → All (AllDigits 16) (first_chunks 2 n digits)
 pairs-from_digits zero digits all = All-nil (AllDigits 16)
-pairs-from_digits (suc n) [] all = All-cons (AllDigits 16) [] (first_chunks 2 n []) tt (pairs-from_digits n [] tt)
-pairs-from_digits (suc n) (a ∷ []) all = All-cons (AllDigits 16) (a ∷ []) (first_chunks 2 n []) all (pairs-from_digits n [] tt)
+pairs-from_digits (suc n) [] all =
+    All-cons (AllDigits 16) [] (first_chunks 2 n []) tt (pairs-from_digits n [] tt)
+pairs-from_digits (suc n) (a ∷ []) all =
+    All-cons (AllDigits 16) (a ∷ []) (first_chunks 2 n []) all (pairs-from_digits n [] tt)
 pairs-from_digits (suc n) (a ∷ b ∷ digits) all =
-    All-cons (AllDigits 16) (a ∷ b ∷ []) (first_chunks 2 n digits) (all.0, (all.1.0, tt)) (pairs-from_digits n digits all.1.1)
+    let pair : AllDigits 16 (a ∷ b ∷ []) = (all.0, (all.1.0, tt)) in
+    let rest = pairs-from_digits n digits all.1.1 in
+    All-cons (AllDigits 16) (a ∷ b ∷ []) (first_chunks 2 n digits) pair rest
 
 -- the bytes so far are those of the pairs so far, which are of digits
 pub record AreBytesTo (pairs : List (List ℕ)) (bytes : List ℕ) (i : ℕ) : Type 0 where
@@ -34,13 +39,15 @@ pub record AreBytesTo (pairs : List (List ℕ)) (bytes : List ℕ) (i : ℕ) : T
 
 -- one byte more
 pub bytes_to_next : (pairs : List (List ℕ)) (bytes : List ℕ) (i byte : ℕ) → i < length pairs
-    → AreBytesTo pairs bytes i → AllDigits 16 (get_or pairs i []) → byte ≡ digits_value 16 (get_or pairs i [])
+    → AreBytesTo pairs bytes i → AllDigits 16 (get_or pairs i [])
+    → byte ≡ digits_value 16 (get_or pairs i [])
     → AreBytesTo pairs (set bytes i byte) (i + 1)
 bytes_to_next pairs bytes i byte within before pair value =
     let more = take_more pairs i [] within in
+    let all = All-push (AllDigits 16) (take i pairs) (get_or pairs i []) before.digits pair in
     record {
       room = length-set bytes i byte ∙ before.room;
-      digits = subst (All (AllDigits 16)) (sym more) (All-push (AllDigits 16) (take i pairs) (get_or pairs i []) before.digits pair);
+      digits = subst (All (AllDigits 16)) (sym more) all;
       values = take_more_set bytes i byte (omega (arith, before.room))
           ∙ ap (λ l. l ++ byte ∷ []) before.values
           ∙ ap (λ b. map (digits_value 16) (take i pairs) ++ b ∷ []) value
@@ -49,8 +56,9 @@ bytes_to_next pairs bytes i byte within before pair value =
     }
 
 -- all bytes of digits whose number is even
-pub hex_text-from_bytes : (digits bytes : List ℕ) (n i : ℕ) → length digits ≡ 2 * n → length (first_chunks 2 n digits) ≡ n
-    → n ≤ i → AreBytesTo (first_chunks 2 n digits) bytes i → IsHexText digits bytes
+pub hex_text-from_bytes : (digits bytes : List ℕ) (n i : ℕ) → length digits ≡ 2 * n
+    → length (first_chunks 2 n digits) ≡ n → n ≤ i
+    → AreBytesTo (first_chunks 2 n digits) bytes i → IsHexText digits bytes
 hex_text-from_bytes digits bytes n i even size all done =
     let pairs = first_chunks 2 n digits in
     let whole : take i pairs ≡ pairs = take_all i pairs (omega (arith, size)) in
@@ -68,4 +76,5 @@ hex_text-from_bytes digits bytes n i even size all done =
 pub pair-from_hex_text : (digits bytes : List ℕ) (n i : ℕ) → i < length (first_chunks 2 n digits)
     → IsHexText digits bytes → AllDigits 16 (get_or (first_chunks 2 n digits) i [])
 pair-from_hex_text digits bytes n i within text =
-    All-get_or (AllDigits 16) (first_chunks 2 n digits) i [] within (pairs-from_digits n digits text.hexadecimal)
+    let all = pairs-from_digits n digits text.hexadecimal in
+    All-get_or (AllDigits 16) (first_chunks 2 n digits) i [] within all
