@@ -82,6 +82,7 @@ pub fn make(alloc: Global) -> Result<String, AllocError> {
 
 pub fn use_again(alloc: Global) -> Short {
     let mut short = Short::new(alloc);
+    runs::letters_in_room(&mut short);
     buffers::set_inline(&mut short, "eight");
     buffers::reuse_twice(&mut short, "one", "two");
     buffers::release(&mut short);
@@ -130,7 +131,7 @@ pub fn run_lists(string: &mut String, short: &mut Short) {
     runs::set_by_run(short, 'c');
     runs::letters_by_run(short);
     runs::clear_by_run(string);
-    runs::empties_are_known(short);
+    runs::pop_of_nothing(short);
     runs::push_by_run(string, 'c');
     runs::add_by_run(short, "more");
 }

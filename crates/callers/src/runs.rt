@@ -1,11 +1,15 @@
 //! Lists of commands: what the replies and the text are where the commands are known.
-ghost use Rattle.std.specs.Prelude.{◌≡◌, ◌+◌, ◌++◌, [], ◌∷◌, vec_len, IsTrue};
+ghost use Rattle.std.specs.Prelude.{◌≡◌, ℕ, ◌+◌, ◌++◌, [], ◌∷◌, vec_len, IsTrue};
 ghost use Rattle.std.specs.Str.{chars};
 ghost use Rattle.inlinable_string.specs.State.{HasInlineRoom};
+ghost use Rattle.inlinable_string.specs.Values.{inlinable_state};
 
 use inlinable_string::laws::sizes_of_parts;
-use inlinable_string::run::{Command, Reply, reserved_pushes_never_fail, run, run_dyn, run_each};
-use inlinable_string::{Storage, StringExt};
+use inlinable_string::run::{
+    Command, Reply, pop_takes_off_the_last_character, reserved_pushes_never_fail, run, run_dyn,
+    run_each,
+};
+use inlinable_string::{InlinableString, Storage, StringExt};
 use std::alloc::{AllocError, Global};
 
 /// Sets a text by two commands.
@@ -30,21 +34,35 @@ pub fn letters_by_run(text: &mut dyn StringExt) -> bool
     replies == [Reply::Done, Reply::Done]
 }
 
-/// A cleared text is empty, whatever it was, and the reply is `Done`.
-pub fn clear_by_run<S: StringExt>(text: &mut S)
-    ensures { (S.state text.new).text ≡ [] }
+/// `Clear` is always carried out.
+pub fn clear_by_run<S: StringExt>(text: &mut S) -> Reply
+    ensures reply { result ≡ Reply.Done }
+    ensures text { (S.state text.new).text ≡ [] }
 {
     let mut replies = [Reply::NoMemory; 1];
     run(text, &[Command::Clear], &mut replies);
+    replies[0]
 }
 
-/// Taking out what was put in gives it back.
-pub fn empties_are_known<S: StringExt>(text: &mut S) -> Reply
+/// After `Clear` there is no character to take off.
+pub fn pop_of_nothing<S: StringExt>(text: &mut S) -> Reply
     ensures { result ≡ Reply.NoChar }
 {
     let mut replies = [Reply::NoMemory; 2];
     run(text, &[Command::Clear, Command::Pop], &mut replies);
     replies[1]
+}
+
+/// The last character is in the reply, or the text was empty.
+pub fn pop_by_run(text: &mut InlinableString) -> Reply
+    ensures none { result ≡ Reply.NoChar → (inlinable_state 30 text.old).text ≡ [] }
+    ensures taken { (c : ℕ) → result ≡ Reply.Char c
+        → (inlinable_state 30 text.old).text ≡ (inlinable_state 30 text.new).text ++ c ∷ [] }
+{
+    pop_takes_off_the_last_character();
+    let mut replies = [Reply::NoMemory; 1];
+    run(text, &[Command::Pop], &mut replies);
+    replies[0]
 }
 
 /// A character after a reservation of four bytes is not refused.
