@@ -160,6 +160,7 @@ pub fn type_into(text: &mut dyn StringExt, cursor: usize, ch: char) -> Result<us
     ensures { IfOk result (λ moved. IsPlace (state text.new).text moved) }
 {
     text.insert(cursor, ch)?;
+    // The laws of the text as it is now: no place of it passes `usize::MAX`.
     let _ = text.len();
     Ok(cursor + ch.len_utf8())
 }

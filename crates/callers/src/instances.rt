@@ -1,5 +1,5 @@
 //! Each generic caller once at std's `String`, at `InlinableStringN<8>` or at `InlinableString`, so
-//! that its bounds are known to be met, and each caller of a `dyn` once over one of them.
+//! that its bounds are known to be met.
 
 use crate::editor::Line;
 use crate::{
@@ -11,6 +11,7 @@ use std::alloc::{AllocError, Global};
 /// Eight bytes lie inline.
 type Short = InlinableStringN<8>;
 
+/// Growths.
 pub fn grow(string: &mut String, short: &mut Short) -> Result<(), AllocError> {
     growths::add_word(string, "one")?;
     growths::add_word(short, "two")?;
@@ -20,14 +21,18 @@ pub fn grow(string: &mut String, short: &mut Short) -> Result<(), AllocError> {
     growths::end_sentence(string)
 }
 
+/// Growths in an array, and out of one.
 pub fn grow_inline(alloc: Global, text: &mut InlineStringN<16>) -> Result<Short, AllocError> {
     let _ = growths::add_if_it_fits(text, 'c');
     let mut short = Short::new(alloc);
     growths::add_inline(&mut short, "eight");
     growths::outgrow(&mut short, "no more than that")?;
+    let copy = joins::growable(alloc, text);
+    joins::add_text(&copy, &mut short)?;
     Ok(short)
 }
 
+/// Cuts and insertions.
 pub fn cut(alloc: Global, string: &mut String, short: &mut Short) -> Result<(), AllocError> {
     cuts::cut_at(string, 3);
     cuts::cut_by_str(short, 3);
@@ -41,6 +46,7 @@ pub fn cut(alloc: Global, string: &mut String, short: &mut Short) -> Result<(), 
     Ok(())
 }
 
+/// Searches.
 pub fn find(string: &mut String, short: &mut Short) -> Result<(), AllocError> {
     finds::comma(string)?;
     finds::comma(short)?;
@@ -51,18 +57,19 @@ pub fn find(string: &mut String, short: &mut Short) -> Result<(), AllocError> {
     Ok(())
 }
 
+/// Texts made of others.
 pub fn join(alloc: Global, string: &mut String, short: &mut Short) -> Result<(), AllocError> {
     joins::add_text(string, short)?;
     joins::add_text(short, string)?;
     let copy: Short = joins::copy_of(alloc, string)?;
     let other: String = joins::string_of(alloc, &copy)?;
     let three: Short = joins::dotted(alloc, "a", "b", "c")?;
-    let replaced: Short = joins::replace_first(alloc, &three, ".", "-")?;
     let mut last: InlinableString = joins::copy_of(alloc, &other)?;
     joins::move_to(&mut last, string)?;
-    joins::add_text(&replaced, string)
+    joins::add_text(&three, string)
 }
 
+/// Texts that are made, and filled within their room.
 pub fn make(alloc: Global) -> Result<String, AllocError> {
     let mut string: String = makes::empty(alloc);
     let mut short: Short = makes::with_room(alloc, 12)?;
@@ -80,6 +87,7 @@ pub fn make(alloc: Global) -> Result<String, AllocError> {
     Ok(string)
 }
 
+/// Buffers that are used again.
 pub fn use_again(alloc: Global) -> Short {
     let mut short = Short::new(alloc);
     runs::letters_in_room(&mut short);
@@ -89,6 +97,7 @@ pub fn use_again(alloc: Global) -> Short {
     short
 }
 
+/// Characters taken off and out.
 pub fn take(string: &mut String, short: &mut Short) -> Result<(), AllocError> {
     takes::take_first(string);
     takes::take_first(short);
@@ -100,22 +109,28 @@ pub fn take(string: &mut String, short: &mut Short) -> Result<(), AllocError> {
     Ok(())
 }
 
+/// Bytes and texts in the place of others.
 pub fn replace(alloc: Global, string: &mut String, short: &mut Short) -> Result<(), AllocError> {
     replacements::uppercase(alloc, string)?;
     replacements::uppercase(alloc, short)?;
     replacements::replaced(string, b"bytes");
     replacements::take_bytes(short, b"bytes");
+    if short.len() == 4 {
+        replacements::take_same_length(short, "text");
+    }
     wholes::replace(alloc, string, "another")?;
     wholes::add_and_take_back(string, "less")?;
     wholes::try_twice(short, "more")
 }
 
+/// All or nothing.
 pub fn add_whole(string: &mut String, short: &mut Short) -> Result<(), AllocError> {
     wholes::add_pair(string, "key", "value")?;
     wholes::add_pair(short, "key", "value")?;
     wholes::add_line(short, "line")
 }
 
+/// Views.
 pub fn view(string: &String, short: &Short) -> usize {
     if views::is_longer(string, short) && views::lies_inline(short) {
         return views::upper_bound(string);
@@ -126,6 +141,7 @@ pub fn view(string: &String, short: &Short) -> usize {
     views::length_of(short)
 }
 
+/// Lists of commands.
 pub fn run_lists(string: &mut String, short: &mut Short) {
     runs::set_by_run(string, 'c');
     runs::set_by_run(short, 'c');
@@ -136,6 +152,7 @@ pub fn run_lists(string: &mut String, short: &mut Short) {
     runs::add_by_run(short, "more");
 }
 
+/// The line editor, and other callers of a text in an array.
 pub fn edit(line: &mut Line<16>, text: &mut InlineStringN<16>) {
     line.home();
     line.type_char('c');
@@ -149,6 +166,12 @@ pub fn edit(line: &mut Line<16>, text: &mut InlineStringN<16>) {
     line.kill_to_end();
     line.end();
     finds::strip_comment(text);
+    if !text.is_empty() {
+        takes::take_last(text);
+    }
+    if text.len() != 5 {
+        replacements::refuse_other_length(text, b"bytes");
+    }
     cuts::cut_inline(text, views::left(text));
     let _ = wholes::add_inline_pair(text, "key", "value");
     *text = joins::inline_copy(text);

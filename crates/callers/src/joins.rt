@@ -83,23 +83,3 @@ pub fn move_to<S: StringExt, T: StringExt>(from: &mut S, to: &mut T) -> Result<(
     from.clear();
     Ok(())
 }
-
-/// The first text that is found, or all, in front of another.
-pub fn replace_first<S: StringMake + Drop>(
-    alloc: Global,
-    text: &S,
-    from: &str,
-    to: &str,
-) -> Result<S, AllocError> {
-    let mut made = S::new(alloc);
-    let whole = text.as_str();
-    match whole.split_once(from) {
-        Some((front, back)) => {
-            made.push_str(front)?;
-            made.push_str(to)?;
-            made.push_str(back)?;
-        }
-        None => made.push_str(whole)?,
-    }
-    Ok(made)
-}
