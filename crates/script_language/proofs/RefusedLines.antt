@@ -1,5 +1,5 @@
 -- Lines that ask for nothing.
-use Rattle.std.proofs.Common.{◌≡◌, ◌≢◌, refl, sym, ap, subst, ℕ, ◌+◌, ◌≤◌, ◌==◌, List, [], ◌∷◌, ◌++◌, codes, length, slice_index, arith}
+use Rattle.std.proofs.Common.{◌≡◌, ◌≢◌, refl, sym, ap, subst, ℕ, ◌≤◌, ◌==◌, List, [], ◌∷◌, ◌++◌, codes, length, slice_index, arith}
 use Rattle.std.specs.Char.{encode_utf8, IsScalar}
 use Rattle.std.specs.List.{position_or_len}
 use Rattle.std.specs.Str.{chars, IsUtf8}
@@ -9,7 +9,6 @@ use Rattle.inlinable_string.proofs.Window.{chars_one}
 use Rattle.inlinable_string.specs.declared.run.Command.{Command}
 use Rattle.inlinable_string.specs.declared.run.Command.TheVariants.{Push, Insert, Pop}
 use Rattle.script_language.specs.Line.{IsCharText, IsFirstCut, IsLine, IsTail, space, word_of}
-use Rattle.script_language.specs.Script.{AskFor, IsFirstBad}
 use Rattle.script_language.proofs.Cuts.{has_mark, lacks-from_position}
 use Rattle.script_language.proofs.Lines.{line_of_word, line_with_word}
 
@@ -69,22 +68,6 @@ pop_with_a_space = refused (codes "pop ") (codes "pop") [] refl refl (pop_has_no
 pub pop_with_a_capital : (command : Command) → ¬ (IsLine (codes "Pop") command)
 pop_with_a_capital =
     refused_alone (codes "Pop") refl (λ command same tail. no_capital command same)
-
--- a line that asks for nothing, behind lines that ask for commands
-pub bad_behind : (before behind : List (List ℕ)) (line : List ℕ) (commands : List Command)
-    → AskFor before commands → line ≢ [] → ((command : Command) → ¬ (IsLine line command))
-    → IsFirstBad (before ++ line ∷ behind) (length before + 1)
-bad_behind before behind line commands asked bytes rejected = record {
-  before = before;
-  line = line;
-  behind = behind;
-  split = refl;
-  counted = refl;
-  commands = commands;
-  accepted = asked;
-  has_bytes = bytes;
-  rejected = rejected;
-}
 
 -- a text of another number of characters is none
 pub one_character : (text : List ℕ) (c : ℕ) → IsScalar c → text ≡ encode_utf8 c

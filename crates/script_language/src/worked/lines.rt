@@ -48,6 +48,7 @@ pub fn texts_cut_at_a_space()
     ensures start { IsFirstCut space (codes " a") [] (codes "a") }
     ensures end { IsFirstCut space (codes "a ") (codes "a") [] }
     ensures later { ¬ IsFirstCut space (codes "insert 3 a") (codes "insert 3") (codes "a") }
+    ensures other { ¬ IsFirstCut space (codes "insert 3 a") (codes "remove") (codes "3 a") }
     ensures none { (front behind : List ℕ) → ¬ IsFirstCut space (codes "pop") front behind }
 {}
 

@@ -2,21 +2,47 @@ use Rattle.std.proofs.Common.{refl, subst, arith, codes, [], ◌∷◌}
 use Rattle.inlinable_string.specs.declared.run.Command.TheVariants.{Pop, Clear}
 use Rattle.script_language.specs.Script.{AskFor}
 use Rattle.script_language.proofs.BadLines.{bad_among, not_before}
-use Rattle.script_language.proofs.RefusedLines.{bad_behind, pop_with_a_capital, pop_with_a_space}
+use Rattle.script_language.proofs.RefusedLines.{pop_with_a_capital, pop_with_a_space}
 use Rattle.script_language.proofs.worked.bad_lines.first_bad_lines.Goals as goal
 
 pub returns-clause-first : goal.returns-clause-first
-returns-clause-first c = bad_behind [] (codes "pop" ∷ []) _ [] tt (λ is. cc) pop_with_a_space
+returns-clause-first c = record {
+  before = [];
+  line = codes "pop ";
+  behind = codes "pop" ∷ [];
+  split = refl;
+  counted = refl;
+  commands = [];
+  accepted = tt;
+  has_bytes = λ is. cc;
+  rejected = pop_with_a_space;
+}
 
 pub returns-clause-third : goal.returns-clause-third
-returns-clause-third c =
-    bad_behind (codes "pop" ∷ [] ∷ []) (codes "Pop" ∷ []) _ (Pop ∷ []) ((_, refl, refl), tt)
-    (λ is. cc) pop_with_a_space
+returns-clause-third c = record {
+  before = codes "pop" ∷ [] ∷ [];
+  line = codes "pop ";
+  behind = codes "Pop" ∷ [];
+  split = refl;
+  counted = refl;
+  commands = Pop ∷ [];
+  accepted = ((_, refl, refl), tt);
+  has_bytes = λ is. cc;
+  rejected = pop_with_a_space;
+}
 
 pub returns-clause-last : goal.returns-clause-last
-returns-clause-last c =
-    bad_behind (codes "clear" ∷ []) [] _ (Clear ∷ []) ((_, refl, refl), tt) (λ is. cc)
-    pop_with_a_capital
+returns-clause-last c = record {
+  before = codes "clear" ∷ [];
+  line = codes "Pop";
+  behind = [];
+  split = refl;
+  counted = refl;
+  commands = Clear ∷ [];
+  accepted = ((_, refl, refl), tt);
+  has_bytes = λ is. cc;
+  rejected = pop_with_a_capital;
+}
 
 pub returns-clause-none : goal.returns-clause-none
 returns-clause-none c number bad =

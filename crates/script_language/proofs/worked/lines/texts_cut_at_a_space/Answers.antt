@@ -1,4 +1,4 @@
-use Rattle.std.proofs.Common.{refl, sym, subst, codes}
+use Rattle.std.proofs.Common.{refl, subst, codes}
 use Rattle.std.specs.Str.Iter.{LacksByte}
 use Rattle.script_language.specs.Line.{space}
 use Rattle.script_language.proofs.Cuts.{has_mark, lacks-from_position}
