@@ -4,7 +4,7 @@ ghost use Rattle.std.specs.Str.{chars};
 ghost use Rattle.inlinable_string.specs.Text.{size};
 ghost use Rattle.inlinable_string.specs.State.{TextState};
 ghost use Rattle.inlinable_string.specs.Edit.{text_after};
-ghost use Rattle.inlinable_string.specs.Run.{LegalReplies, IsRun, EachRun, state_after_step, storage_after, credit_after};
+ghost use Rattle.inlinable_string.specs.Run.{LegalReplies, IsRun, EachRun, state_after_step, state_after, storage_after, credit_after};
 ghost use Rattle.inlinable_string.specs.Step.{Covers, IsStep};
 ghost use Rattle.inline_vectors.specs.Worked.{inline_text, heap_text, heap_only_text, two_commands, six_commands, six_replies, room_commands, room_replies};
 
@@ -81,6 +81,17 @@ pub fn states_after_a_step()
     ensures heap_only { (t : List ℕ)
         → state_after_step (heap_only_text t 40) Command.ShrinkToFit Reply.Done
         ≡ heap_only_text t (size t + 0) }
+{}
+
+/// Commands without a reply, and replies without a command, do nothing.
+pub fn nothing_is_done_alone()
+    ensures command { (t : List ℕ) (command : Command) (commands : List Command)
+        → text_after t (command ∷ commands) [] ≡ t }
+    ensures reply { (t : List ℕ) (replies : List Reply) → text_after t [] replies ≡ t }
+    ensures command_state { (s : TextState) (command : Command) (commands : List Command)
+        → state_after s (command ∷ commands) [] ≡ s }
+    ensures reply_state { (s : TextState) (replies : List Reply)
+        → state_after s [] replies ≡ s }
 {}
 
 /// A value in more room than a state says is covered by it, and in less room, or with another text,
