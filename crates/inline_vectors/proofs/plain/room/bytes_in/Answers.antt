@@ -1,4 +1,4 @@
-use Rattle.std.proofs.Common.{◌≡◌, length, sym, ap, ◌∙◌}
+use Rattle.std.proofs.Common.{length, sym, ap}
 use Rattle.std.proofs.lemmas.Str.{encodes-chars}
 use Rattle.inline_vectors.proofs.plain.room.bytes_in.Goals as goal
 
