@@ -2,7 +2,8 @@
 ghost use Rattle.std.specs.Prelude.{◌≡◌, ◌+◌, ◌≤◌, ◌∷◌, ◌++◌, [], ℕ, true, false, Some, None, codes, map};
 ghost use Rattle.std.specs.String.{string_bytes};
 ghost use Rattle.inlinable_string.specs.State.{Policy, TextState};
-ghost use Rattle.script_language.specs.Script.{bytes_left, lines_left, lines_of, most_bytes, policy_of, room_of, word_of_start, IsMade, IsNamed};
+ghost use Rattle.script_language.specs.Script.{bytes_left, lines_left, lines_of, policy_of, room_of, word_of_start, IsMade, IsNamed};
+ghost use Rattle.script_language.specs.declared.input.TheConstants.{MOST_BYTES};
 ghost use Rattle.script_language.specs.declared.start.Start.{Start};
 
 use crate::start::Start;
@@ -118,7 +119,7 @@ pub fn lines_of_inputs()
     ensures feeds { lines_of (10 ∷ 10 ∷ []) ≡ [] ∷ [] ∷ [] ∷ [] }
     ensures carriage { lines_of (codes "pop" ++ 13 ∷ 10 ∷ [])
         ≡ (codes "pop" ++ 13 ∷ []) ∷ [] ∷ [] }
-    ensures most { most_bytes ≡ 65536 }
+    ensures most { MOST_BYTES ≡ 65536 }
 {}
 
 /// What is left of an input has its own lines, and one byte more than it: the line feed before it.
