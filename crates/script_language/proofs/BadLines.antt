@@ -24,7 +24,8 @@ as_many_kept ([] ∷ lines) commands asked = as_many_kept lines commands asked
 as_many_kept ((b ∷ line) ∷ lines) [] asked = absurd asked
 as_many_kept ((b ∷ line) ∷ lines) (command ∷ commands) asked =
     ap suc (as_many_kept lines commands asked.1)
-    ∙ ap (λ t. length (cond t ((b ∷ line) ∷ filter has_byte lines) (filter has_byte lines))) (sym (with_first_byte b line))
+    ∙ ap (λ t. length (cond t ((b ∷ line) ∷ filter has_byte lines) (filter has_byte lines)))
+    (sym (with_first_byte b line))
 
 pub as_many_commands : (lines : List (List ℕ)) (commands : List Command) → AskFor lines commands
     → length commands ≡ count_by (λ line. nat_lt 0 (length line)) lines
@@ -59,6 +60,11 @@ not_before (x ∷ before) ([] ∷ other) line last behind rest commands same ask
     omega (arith, not_before before other line last behind rest commands tails asked bytes rejected)
 not_before (x ∷ before) ((b ∷ first) ∷ other) line last behind rest [] same asked bytes rejected =
     absurd asked
-not_before (x ∷ before) ((b ∷ first) ∷ other) line last behind rest (command ∷ commands) same asked bytes rejected =
+not_before (x ∷ before) ((b ∷ first) ∷ other) line last behind rest (command ∷ commands) same asked
+    bytes rejected =
     let tails : before ++ line ∷ behind ≡ other ++ last ∷ rest = search same in
-    omega (arith, not_before before other line last behind rest commands tails asked.1 bytes rejected)
+    omega (
+      arith,
+      not_before before other line last behind rest commands tails asked.1 bytes
+          rejected,
+    )

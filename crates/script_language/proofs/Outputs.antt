@@ -53,10 +53,12 @@ printed_plain old new commands replies run =
 -- the same plain commands and the same replies print the same, from states that differ in capacity
 same_end : (s t : TextState) (commands : List Command) (replies : List Reply) → s.text ≡ t.text
     → s.storage ≡ t.storage → s.policy ≡ t.policy
-    → printed replies (state_after s commands replies) ≡ printed replies (state_after t commands replies)
+    → printed replies (state_after s commands replies) ≡ printed replies
+    (state_after t commands replies)
 same_end s t commands replies text storage policy =
     same_printed replies (state_after s commands replies) (state_after t commands replies)
-    (text_of s commands replies ∙ ap (λ u. text_after u commands replies) text ∙ sym (text_of t commands replies))
+    (text_of s commands replies ∙ ap (λ u. text_after u commands replies) text
+    ∙ sym (text_of t commands replies))
     (same_storage s t commands replies text storage policy)
 
 -- two outputs of the same plain commands are one where the refusals are the same
@@ -65,9 +67,11 @@ same_output : (s t : TextState) (one other : List Command) (output as_well : Lis
     → s.storage ≡ t.storage → s.policy ≡ t.policy → map plain one ≡ map plain other
     → map is_refusal first.replies ≡ map is_refusal second.replies → output ≡ as_well
 same_output s t one other output as_well first second text storage policy same refusals =
-    let legal = subst (λ cs. LegalReplies s cs first.replies) same (plain_legal s one first.replies first.ran.legal) in
+    let legal = subst (λ cs. LegalReplies s cs first.replies) same
+    (plain_legal s one first.replies first.ran.legal) in
     let also = plain_legal t other second.replies second.ran.legal in
-    let replies = same_replies s t (map plain other) first.replies second.replies text legal also refusals in
+    let replies = same_replies s t (map plain other) first.replies second.replies text legal also
+    refusals in
     first.shown
     ∙ printed_plain s first.new one first.replies first.ran
     ∙ ap (λ cs. printed first.replies (state_after s cs first.replies)) same
@@ -85,7 +89,8 @@ from_same_start : (start begun : Start) (one other : List Command) (output as_we
 from_same_start start begun one other output as_well is first second same refusals =
     same_output first.made second.made one other output as_well first.run second.run
     (first.begun.text ∙ sym second.begun.text)
-    (first.begun.storage ∙ ap (λ b. storage_when_made (policy_of b) (room_of b)) is ∙ sym second.begun.storage)
+    (first.begun.storage ∙ ap (λ b. storage_when_made (policy_of b) (room_of b)) is
+    ∙ sym second.begun.storage)
     (first.begun.policy ∙ ap policy_of is ∙ sym second.begun.policy)
     same refusals
 
@@ -94,7 +99,8 @@ pub one_output : {Z : Type 0} (words : List (String Z)) (input output as_well : 
     → AskFor (lines_of input) one → AskFor (lines_of input) other
     → (first : PrintsFrom start one output) (second : PrintsFrom begun other as_well)
     → map is_refusal first.run.replies ≡ map is_refusal second.run.replies → output ≡ as_well
-one_output words input output as_well start begun one other named also asked too first second refusals =
+one_output words input output as_well start begun one other named also asked too first second
+    refusals =
     from_same_start start begun one other output as_well (one_start words start begun named also)
     first second (plain_asked (lines_of input) one other asked too) refusals
 

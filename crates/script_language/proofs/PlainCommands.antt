@@ -30,11 +30,14 @@ abbrev plain_by : ℕ → ℕ → List (List ℕ) → Command
 plain_by size letter args =
     if size == 4 then Push (number_in args 0) else
     if size == 5 then Clear else
-    if size == 6 then (if letter == 115 then Insert (number_in args 0) (number_in args 1) else Remove (number_in args 0)) else
+    if size == 6 then (if letter == 115 then Insert (number_in args 0) (number_in args 1)
+    else Remove (number_in args 0)) else
     if size == 7 then Reserve (number_in args 0) else
-    if size == 8 then (if letter == 115 then PushStr (text_in args 0) else Truncate (number_in args 0)) else
+    if size == 8 then (if letter == 115 then PushStr (text_in args 0) else Truncate
+    (number_in args 0)) else
     if size == 10 then InsertStr (number_in args 0) (text_in args 1) else
-    if size == 13 then (if letter == 112 then ReplaceBytes (text_in args 0) else if letter == 115 then ReserveExact (number_in args 0) else ShrinkToFit) else
+    if size == 13 then (if letter == 112 then ReplaceBytes (text_in args 0) else if letter == 115
+    then ReserveExact (number_in args 0) else ShrinkToFit) else
     Pop
 
 abbrev pub plain_of : List ℕ → List (List ℕ) → Command
@@ -78,7 +81,8 @@ same_edit t one other words args =
 pub same_need : (one other : Command) → word_of one ≡ word_of other
     → arguments_of one ≡ arguments_of other → need_of one ≡ need_of other
 same_need one other words args =
-    (plain_does one).need ∙ ap need_of (one_plain one other words args) ∙ sym (plain_does other).need
+    (plain_does one).need ∙ ap need_of (one_plain one other words args)
+    ∙ sym (plain_does other).need
 
 -- the state after a step that leaves this text, storage and credit
 abbrev left_with : TextState → List ℕ → Storage → ℕ → TextState
@@ -93,8 +97,10 @@ left_with s text storage more = record {
 same_step : (s : TextState) (one other : Command) (reply : Reply) → DoTheSame one other
     → state_after_step s one reply ≡ state_after_step s other reply
 same_step s one other Done h =
-    ap (λ e. left_with s e.1 (storage_when_met s (need_of one)) (credit_when_met (credit s) (need_of one))) (h.edit s.text)
-    ∙ ap (λ n. left_with s (edit s.text other).1 (storage_when_met s n) (credit_when_met (credit s) n)) h.need
+    ap (λ e. left_with s e.1 (storage_when_met s (need_of one))
+    (credit_when_met (credit s) (need_of one))) (h.edit s.text)
+    ∙ ap (λ n. left_with s (edit s.text other).1 (storage_when_met s n)
+    (credit_when_met (credit s) n)) h.need
 same_step s one other (Char c) h = ap (λ e. left_with s e.1 s.storage 0) (h.edit s.text)
 same_step s one other NoChar h = ap (λ e. left_with s e.1 s.storage 0) (h.edit s.text)
 same_step s one other BadPlace h = ap (λ e. left_with s e.1 s.storage (credit s)) (h.edit s.text)
@@ -106,7 +112,8 @@ same_step s one other NoMemory h = refl
 abbrev FreeBy : TextState → Reply → Need → Type 0
 FreeBy s answer need = ¬ (¬ (need ≡ nothing) × (answer ≡ Done)) ⊎ IsMet s need
 
-same_free : (s : TextState) (one other : Command) → DoTheSame one other → IsFree s other → IsFree s one
+same_free : (s : TextState) (one other : Command) → DoTheSame one other → IsFree s other
+    → IsFree s one
 same_free s one other h free =
     subst (λ n. FreeBy s (edit s.text one).0 n) (sym h.need)
     (subst (λ e. FreeBy s e.0 (need_of other)) (sym (h.edit s.text)) free)
@@ -141,7 +148,8 @@ plain_state s [] replies = refl
 plain_state s (c ∷ commands) [] = refl
 plain_state s (c ∷ commands) (r ∷ replies) =
     plain_state (state_after_step s c r) commands replies
-    ∙ ap (λ u. state_after u (map plain commands) replies) (same_step s c (plain c) r (plain_does c))
+    ∙ ap (λ u. state_after u (map plain commands) replies)
+    (same_step s c (plain c) r (plain_does c))
 
 -- lines ask for one list of plain commands
 pub asked_words : (lines : List (List ℕ)) (one other : List Command) → AskFor lines one

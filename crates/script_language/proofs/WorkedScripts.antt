@@ -27,7 +27,8 @@ is_made : (start : Start) (s : TextState) → IsMade start s → s ≡ made star
 is_made start s begun =
     ap (λ t. record s { text = t }) begun.text
     ∙ ap (λ p. record s { text = []; storage = p }) begun.storage
-    ∙ ap (λ p. record s { text = []; storage = storage_when_made (policy_of start) (room_of start); policy = p }) begun.policy
+    ∙ ap (λ p. record s { text = []; storage = storage_when_made (policy_of start) (room_of start);
+    policy = p }) begun.policy
 
 -- what legal replies to these commands print, on the text of the start
 abbrev pub Printing : Start → List Command → (List ℕ → Type 0) → Type 0
@@ -42,13 +43,15 @@ script_prints : {Z : Type 0} (words : List (String Z)) (input output : List ℕ)
     → AskFor (lines_of input) asked → IsMade begun old → IsRun old asked replies new
     → output ≡ printed replies new → map string_bytes words ≡ word_of_start start ∷ []
     → AskFor (lines_of input) commands → Printing start (map plain commands) P → P output
-script_prints words input output start commands P {begun} {asked} {old} {new} {replies} named asks made_so ran shown known lines prints =
+script_prints words input output start commands P {begun} {asked} {old} {new} {replies} named asks
+    made_so ran shown known lines prints =
     let cs = map plain commands in
     let is : begun ≡ start = one_start words begun start named known in
     let as_made : IsMade start old = subst (λ b. IsMade b old) is made_so in
     let same = plain_asked (lines_of input) asked commands asks lines in
     let state = is_made start old as_made in
-    let legal = subst (λ l. LegalReplies old l replies) same (plain_legal old asked replies ran.legal) in
+    let legal = subst (λ l. LegalReplies old l replies) same
+    (plain_legal old asked replies ran.legal) in
     let out = shown
     ∙ printed_plain old new asked replies ran
     ∙ ap (λ l. printed replies (state_after old l replies)) same
@@ -89,7 +92,8 @@ answered s (c ∷ commands) (r ∷ replies) legal free =
 -- where no memory can be refused, one output is printed
 pub free_prints : (start : Start) (commands : List Command) (output : List ℕ)
     → ((room : ℕ) → room_of start ≤ room → AllFree (made start room) commands)
-    → ((room : ℕ) → printed (answers (made start room) commands) (state_after (made start room) commands (answers (made start room) commands)) ≡ output)
+    → ((room : ℕ) → printed (answers (made start room) commands)
+    (state_after (made start room) commands (answers (made start room) commands)) ≡ output)
     → Printing start commands (λ o. o ≡ output)
 free_prints start commands output free is room replies fits legal =
     ap (λ rs. printed rs (state_after (made start room) commands rs))
@@ -98,37 +102,51 @@ free_prints start commands output free is room replies fits legal =
 
 -- a script in which no memory can be refused has one output
 pub one_output_where_free : {Z : Type 0} (words : List (String Z)) (input output : List ℕ)
-    (start : Start) (commands : List Command) (expected : List ℕ) {begun : Start} {asked : List Command}
+    (start : Start) (commands : List Command) (expected : List ℕ) {begun : Start}
+    {asked : List Command}
     {old new : TextState} {replies : List Reply} → IsNamed words begun
     → AskFor (lines_of input) asked → IsMade begun old → IsRun old asked replies new
-    → output ≡ printed replies new → map string_bytes words ≡ word_of_start start ∷ [] → AskFor (lines_of input) commands
+    → output ≡ printed replies new → map string_bytes words ≡ word_of_start start ∷ [] → AskFor
+    (lines_of input) commands
     → ((room : ℕ) → room_of start ≤ room → AllFree (made start room) (map plain commands))
-    → ((room : ℕ) → printed (answers (made start room) (map plain commands)) (state_after (made start room) (map plain commands) (answers (made start room) (map plain commands))) ≡ expected)
+    → ((room : ℕ) → printed (answers (made start room) (map plain commands))
+    (state_after (made start room) (map plain commands)
+    (answers (made start room) (map plain commands))) ≡ expected)
     → output ≡ expected
-one_output_where_free words input output start commands expected named asks made_so ran shown known lines free is =
-    script_prints words input output start commands (λ o. o ≡ expected) named asks made_so ran shown known lines
+one_output_where_free words input output start commands expected named asks made_so ran shown known
+    lines free is =
+    script_prints words input output start commands (λ o. o ≡ expected) named asks made_so ran
+    shown known lines
     (free_prints start (map plain commands) expected free is)
 
 -- a script of one command to which memory may be refused has two
 pub two_outputs_of_one : {Z : Type 0} (words : List (String Z)) (input output : List ℕ)
-    (start : Start) (command : Command) (done refused : List ℕ) {begun : Start} {asked : List Command}
+    (start : Start) (command : Command) (done refused : List ℕ) {begun : Start}
+    {asked : List Command}
     {old new : TextState} {replies : List Reply} → IsNamed words begun
     → AskFor (lines_of input) asked → IsMade begun old → IsRun old asked replies new
     → output ≡ printed replies new
     → map string_bytes words ≡ word_of_start start ∷ [] → AskFor (lines_of input) (command ∷ [])
-    → ((room : ℕ) → printed ((edit [] (plain command)).0 ∷ []) (state_after_step (made start room) (plain command) (edit [] (plain command)).0) ≡ done)
-    → ((room : ℕ) → printed (NoMemory ∷ []) (state_after_step (made start room) (plain command) NoMemory) ≡ refused)
+    → ((room : ℕ) → printed ((edit [] (plain command)).0 ∷ [])
+    (state_after_step (made start room) (plain command) (edit [] (plain command)).0) ≡ done)
+    → ((room : ℕ) → printed (NoMemory ∷ []) (state_after_step (made start room) (plain command)
+    NoMemory) ≡ refused)
     → (output ≡ done) ⊎ (output ≡ refused)
-two_outputs_of_one words input output start command done refused named asks made_so ran shown known lines is or =
-    script_prints words input output start (command ∷ []) (λ o. (o ≡ done) ⊎ (o ≡ refused)) named asks made_so ran shown known lines
+two_outputs_of_one words input output start command done refused named asks made_so ran shown known
+    lines is or =
+    script_prints words input output start (command ∷ []) (λ o. (o ≡ done) ⊎ (o ≡ refused)) named
+    asks made_so ran shown known lines
     (λ room replies fits legal. by room replies legal)
   where
-    by : (room : ℕ) (replies : List Reply) → LegalReplies (made start room) (plain command ∷ []) replies
+    by : (room : ℕ) (replies : List Reply)
+        → LegalReplies (made start room) (plain command ∷ []) replies
         → (printed replies (state_after (made start room) (plain command ∷ []) replies) ≡ done)
         ⊎ (printed replies (state_after (made start room) (plain command ∷ []) replies) ≡ refused)
     by room [] legal = absurd legal
     by room (r ∷ o ∷ replies) legal = absurd legal.1
     by room (r ∷ []) legal = elim legal.0.answer [
-      | inl same ↦ inl (ap (λ x. printed (x ∷ []) (state_after_step (made start room) (plain command) x)) same ∙ is room)
-      | inr none ↦ inr (ap (λ x. printed (x ∷ []) (state_after_step (made start room) (plain command) x)) none.0 ∙ or room)
+      | inl same ↦ inl (ap (λ x. printed (x ∷ [])
+      (state_after_step (made start room) (plain command) x)) same ∙ is room)
+      | inr none ↦ inr (ap (λ x. printed (x ∷ [])
+      (state_after_step (made start room) (plain command) x)) none.0 ∙ or room)
     ]

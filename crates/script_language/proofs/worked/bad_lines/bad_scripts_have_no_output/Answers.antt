@@ -9,5 +9,6 @@ returns-clause-space c output script =
 
 pub returns-clause-second : goal.returns-clause-second
 returns-clause-second c output script =
-    bad_among (codes "clear" ∷ []) ([] ∷ []) (codes "Pop") script.commands (λ is. cc) pop_with_a_capital
+    bad_among (codes "clear" ∷ []) ([] ∷ []) (codes "Pop") script.commands (λ is. cc)
+    pop_with_a_capital
     script.asked

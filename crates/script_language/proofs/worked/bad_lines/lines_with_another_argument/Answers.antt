@@ -8,17 +8,26 @@ pub returns-clause-none : goal.returns-clause-none
 unfolding chars
 returns-clause-none c =
     refused _ (codes "push") [] refl refl
-    (push_needs_a_character [] (λ x char. absurd (omega (arith, ap length (one_character _ x char.scalar char.encoded)))))
+    (push_needs_a_character [] (λ x char. absurd
+    (omega (arith, ap length (one_character _ x char.scalar char.encoded)))))
 
 pub returns-clause-two : goal.returns-clause-two
 unfolding chars
 returns-clause-two c =
     refused _ (codes "push") (codes "ab") refl refl
-    (push_needs_a_character _ (λ x char. absurd (omega (arith, ap length (one_character _ x char.scalar char.encoded)))))
+    (push_needs_a_character _ (λ x char. absurd
+    (omega (arith, ap length (one_character _ x char.scalar char.encoded)))))
 
 pub returns-clause-insert : goal.returns-clause-insert
 unfolding chars
 returns-clause-insert c =
     refused _ (codes "insert") (codes "3 ab") refl refl (λ command same tail.
-    insert_without_char (codes "3 ab") (codes "3") (codes "ab") 3 refl record { numeral = (omega arith, (omega arith, tt)); short = omega arith; value = refl; bounded = omega arith }
-    (λ x char. absurd (omega (arith, ap length (one_character _ x char.scalar char.encoded)))) command tail same)
+    insert_without_char (codes "3 ab") (codes "3") (codes "ab") 3 refl
+    record {
+      numeral = (omega arith, (omega arith, tt));
+      short = omega arith;
+      value = refl;
+      bounded = omega arith;
+    }
+    (λ x char. absurd (omega (arith, ap length (one_character _ x char.scalar char.encoded))))
+    command tail same)

@@ -8,8 +8,38 @@ returns-clause-euro c = (_, refl, (_, refl, record { scalar = refl; encoded = re
 
 pub returns-clause-insert : goal.returns-clause-insert
 unfolding encode
-returns-clause-insert c = (_, refl, (codes "12", codes "!", refl, record { numeral = (omega arith, (omega arith, (omega arith, tt))); short = omega arith; value = refl; bounded = omega arith }, record { scalar = refl; encoded = refl }))
+returns-clause-insert c = (
+  _,
+  refl,
+  (
+    codes "12",
+    codes "!",
+    refl,
+    record {
+      numeral = (omega arith, (omega arith, (omega arith, tt)));
+      short = omega arith;
+      value = refl;
+      bounded = omega arith;
+    },
+    record { scalar = refl; encoded = refl },
+  ),
+)
 
 pub returns-clause-insert_blank : goal.returns-clause-insert_blank
 unfolding encode
-returns-clause-insert_blank c = (_, refl, (codes "0", codes " ", refl, record { numeral = (omega arith, (omega arith, tt)); short = omega arith; value = refl; bounded = omega arith }, record { scalar = refl; encoded = refl }))
+returns-clause-insert_blank c = (
+  _,
+  refl,
+  (
+    codes "0",
+    codes " ",
+    refl,
+    record {
+      numeral = (omega arith, (omega arith, tt));
+      short = omega arith;
+      value = refl;
+      bounded = omega arith;
+    },
+    record { scalar = refl; encoded = refl },
+  ),
+)

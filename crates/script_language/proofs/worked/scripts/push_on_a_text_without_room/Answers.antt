@@ -9,5 +9,7 @@ use Rattle.script_language.proofs.worked.scripts.push_on_a_text_without_room.Goa
 pub returns : goal.returns
 unfolding digits encode
 returns c output script =
-    two_outputs_of_one _ (codes "push a\n") output start.Inline0 (Push 97) _ _ script.named script.asked script.run.begun script.run.run.ran script.run.run.shown c.requires.inline0
-    ((_, refl, (codes "a", refl, record { scalar = refl; encoded = refl })), tt) (λ room. refl) (λ room. refl)
+    two_outputs_of_one _ (codes "push a\n") output start.Inline0 (Push 97) _ _ script.named
+    script.asked script.run.begun script.run.run.ran script.run.run.shown c.requires.inline0
+    ((_, refl, (codes "a", refl, record { scalar = refl; encoded = refl })), tt) (λ room. refl)
+    (λ room. refl)

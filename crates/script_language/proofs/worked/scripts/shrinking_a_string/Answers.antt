@@ -9,5 +9,6 @@ use Rattle.script_language.proofs.worked.scripts.shrinking_a_string.Goals as goa
 pub returns : goal.returns
 unfolding digits encode
 returns c output script =
-    two_outputs_of_one _ (codes "shrink_to_fit\n") output start.String ShrinkToFit _ _ script.named script.asked script.run.begun script.run.run.ran script.run.run.shown c.requires.string
+    two_outputs_of_one _ (codes "shrink_to_fit\n") output start.String ShrinkToFit _ _ script.named
+    script.asked script.run.begun script.run.run.ran script.run.run.shown c.requires.string
     ((_, refl, refl), tt) (λ room. refl) (λ room. refl)
