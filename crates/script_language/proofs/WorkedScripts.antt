@@ -27,8 +27,11 @@ is_made : (start : Start) (s : TextState) → IsMade start s → s ≡ made star
 is_made start s begun =
     ap (λ t. record s { text = t }) begun.text
     ∙ ap (λ p. record s { text = []; storage = p }) begun.storage
-    ∙ ap (λ p. record s { text = []; storage = storage_when_made (policy_of start) (room_of start);
-    policy = p }) begun.policy
+    ∙ ap (λ p. record s {
+      text = [];
+      storage = storage_when_made (policy_of start) (room_of start);
+      policy = p;
+    }) begun.policy
 
 -- what legal replies to these commands print, on the text of the start
 abbrev pub Printing : Start → List Command → (List ℕ → Type 0) → Type 0
@@ -146,7 +149,7 @@ two_outputs_of_one words input output start command done refused named asks made
     by room (r ∷ o ∷ replies) legal = absurd legal.1
     by room (r ∷ []) legal = elim legal.0.answer [
       | inl same ↦ inl (ap (λ x. printed (x ∷ [])
-      (state_after_step (made start room) (plain command) x)) same ∙ is room)
+          (state_after_step (made start room) (plain command) x)) same ∙ is room)
       | inr none ↦ inr (ap (λ x. printed (x ∷ [])
-      (state_after_step (made start room) (plain command) x)) none.0 ∙ or room)
+          (state_after_step (made start room) (plain command) x)) none.0 ∙ or room)
     ]

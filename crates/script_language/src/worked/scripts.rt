@@ -1,5 +1,5 @@
 //! Whole scripts, each with all outputs that it may have.
-ghost use Rattle.std.specs.Prelude.{◌≡◌, ◌∷◌, ◌⊎◌, [], List, ℕ, codes, map};
+ghost use Rattle.std.specs.Prelude.{◌≡◌, ◌++◌, ◌∷◌, ◌⊎◌, [], List, ℕ, codes, map};
 ghost use Rattle.std.specs.String.{string_bytes};
 ghost use Rattle.script_language.specs.Script.{IsScript};
 
@@ -44,8 +44,10 @@ pub fn push_on_a_text_without_room(words: &[String])
 pub fn shrinking_brings_back(words: &[String])
     requires heap { map string_bytes words.now ≡ codes "heap" ∷ [] }
     ensures { (output : List ℕ)
-        → IsScript words.now (codes "push_str 0123456789012345678901234567890\npop\nshrink_to_fit") output
-        → output ≡ codes "done\nchar 0\ndone\ntext 012345678901234567890123456789\nlength 30\nstorage inline\n" }
+        → IsScript words.now
+        (codes "push_str 0123456789012345678901234567890\npop\nshrink_to_fit") output
+        → output ≡ codes "done\nchar 0\ndone\ntext 012345678901234567890123456789\n"
+        ++ codes "length 30\nstorage inline\n" }
 {}
 
 /// A `String` is shrunk on the heap, where memory may be refused.
