@@ -148,6 +148,17 @@ pub fn credit_of_a_reservation(bytes: &[u8])
         Reply.WrongLength ≡ 0 }
 {}
 
+/// It ends as well where the text is cut or replaced, where there is no character to take off, and
+/// where bytes are not UTF-8.
+pub fn credit_ends_with_other_replies(bytes: &[u8])
+    ensures truncate { credit_after_step 100 (Command.Truncate 0) Reply.Done ≡ 0 }
+    ensures remove { credit_after_step 100 (Command.Remove 0) (Reply.Char 97) ≡ 0 }
+    ensures replace { credit_after_step 100 (Command.ReplaceBytes bytes.entry) Reply.Done ≡ 0 }
+    ensures no_char { credit_after_step 100 Command.Pop Reply.NoChar ≡ 0 }
+    ensures not_utf8 { credit_after_step 100 (Command.ReplaceBytes bytes.entry)
+        Reply.NotUtf8 ≡ 0 }
+{}
+
 /// Memory may not be refused to four bytes put in where they have room inline.
 pub fn four_bytes_put_in_are_free(string: &str)
     requires { size (chars string.now) ≡ 4 }
