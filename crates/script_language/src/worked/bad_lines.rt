@@ -1,7 +1,7 @@
 //! Lines that ask for nothing, and the first of them.
 ghost use Rattle.std.specs.Prelude.{◌≡◌, ◌∷◌, ◌++◌, [], ℕ, List, codes};
 ghost use Rattle.inlinable_string.specs.declared.run.Command.{Command};
-ghost use Rattle.script_language.specs.Line.{IsCharText, IsLine, IsNumberText};
+ghost use Rattle.script_language.specs.Line.{IsCharText, IsHexText, IsLine, IsNumberText};
 ghost use Rattle.script_language.specs.Script.{IsFirstBad, IsScript};
 
 /// No number: no digit, a sign, a letter, 21 digits, one past the largest, a space.
@@ -21,6 +21,17 @@ pub fn texts_of_no_character()
     ensures none { (c : ℕ) → ¬ (IsCharText [] c) }
     ensures two { (c : ℕ) → ¬ (IsCharText (codes "ab") c) }
     ensures other { ¬ (IsCharText (codes "a") 98) }
+{}
+
+/// No bytes: an odd digit, no digit, a sign; and not these bytes.
+pub fn texts_of_no_bytes()
+    ensures odd { (bytes : List ℕ) → ¬ (IsHexText (codes "c3a") bytes) }
+    ensures letter { (bytes : List ℕ) → ¬ (IsHexText (codes "g0") bytes) }
+    ensures sign { (bytes : List ℕ) → ¬ (IsHexText (codes "+3") bytes) }
+    ensures blank { (bytes : List ℕ) → ¬ (IsHexText (codes "c3 a9") bytes) }
+    ensures turned { ¬ (IsHexText (codes "c3") (60 ∷ [])) }
+    ensures twice { ¬ (IsHexText (codes "c3") (195 ∷ 195 ∷ [])) }
+    ensures short { ¬ (IsHexText (codes "c3a9") (195 ∷ [])) }
 {}
 
 /// A word that takes no argument, with a space behind it.

@@ -88,6 +88,14 @@ pub fn lines_of_a_number()
         (Command.ReserveExact 12) }
 {}
 
+/// Pairs of hexadecimal digits of either case, or none.
+pub fn lines_of_bytes(bytes: &[u8], empty: &[u8])
+    requires bytes { bytes.now ≡ 195 ∷ 169 ∷ [] }
+    requires empty { empty.now ≡ [] }
+    ensures two { IsLine (codes "replace_bytes c3A9") (Command.ReplaceBytes bytes.entry) }
+    ensures none { IsLine (codes "replace_bytes ") (Command.ReplaceBytes empty.entry) }
+{}
+
 /// Commands in the order of their lines; lines without a byte are passed over.
 pub fn lines_that_ask()
     ensures none { AskFor [] [] }
