@@ -1,4 +1,4 @@
-"""What `.ci/hostile` gives the program: words, streams and inputs, drawn at random, most of them bad.
+"""What `gate hostile` gives the program: words, streams and inputs, drawn at random, most of them bad.
 
 Each maker of an input takes `draw`, the case's random numbers, and `word`, its argument word.
 """

@@ -1,4 +1,4 @@
-"""gate refusals: refuses the first request for memory of each test, then the second, and so on.
+"""gate refusals [CRATE ..]: refuses the first request for memory of each test, then the second, and so on.
 
 The tests of the modules `refusals` must pass each time, and say `refused` where they met the
 refusal. A crate is done at the first request that none of them makes, and must have met as many by
@@ -71,19 +71,25 @@ def swept(crate):
 
 def enough(crate, requests, meetings, lines):
     """Whether so many requests and meetings are as many as there must be."""
-    least_requests, least_meetings = REFUSALS[crate]
+    least_requests, least_meetings = REFUSALS.get(crate, (1, 1))
     lines.append(f'{crate}: {requests} requests refused, {meetings} meetings')
     if requests >= least_requests and meetings >= least_meetings:
         return True, lines
     return False, [*lines, f'{crate}: TOO FEW: there must be {least_requests} requests and {least_meetings} meetings']
 
 
+def options(words):
+    parser = argparse.ArgumentParser(prog='gate refusals', description=__doc__,
+                                     formatter_class=argparse.RawDescriptionHelpFormatter)
+    parser.add_argument('crates', nargs='*', metavar='CRATE')
+    return parser.parse_args(words)
+
+
 def main(words):
-    argparse.ArgumentParser(prog='gate refusals', description=__doc__,
-                            formatter_class=argparse.RawDescriptionHelpFormatter).parse_args(words)
+    crates = options(words).crates or list(REFUSALS)
     is_well = True
-    with ThreadPoolExecutor(len(REFUSALS)) as pool:
-        for is_crate_well, lines in pool.map(swept, REFUSALS):
+    with ThreadPoolExecutor(len(crates)) as pool:
+        for is_crate_well, lines in pool.map(swept, crates):
             print(*lines, sep='\n', flush=True)
             is_well = is_well and is_crate_well
     return is_well
