@@ -10,7 +10,7 @@ EDITS = {'inlinable_string': 97, 'inline_vectors': 34, 'script_language': 36}
 # By crate: requests for memory refused one after the other, and how often a test met one.
 REFUSALS = {'inline_refusals': (4, 44), 'inline_script': (7, 36)}
 
-# The stored cases, and the digests of a thousand answers each, of the files in `replay/`: just so many.
+# The stored cases of the files in `replay/`, and the digests of a thousand answers each: all of them.
 STORED = {'named.cases': 258, 'sparrow.cases': 200, 'wren.cases': 250, 'digests': 100}
 
 # Hostile inputs: how many, the part of them that is accepted and so runs, and how many there must be
@@ -20,8 +20,8 @@ HOSTILE_INPUTS = 20_000
 HOSTILE_ACCEPTED_PART = 1 / 5
 HOSTILE_OF_EACH = 100
 HOSTILE_REPLIES = ('done', 'char', 'none', 'bad place', 'not utf-8', 'wrong length', 'no memory')
-HOSTILE_FAULTS = ('bad argument', 'read fault', 'input too long', 'input is not utf-8', 'bad command',
-                  'write fault')
+HOSTILE_FAULTS = ('bad argument', 'read fault', 'input too long', 'input is not utf-8',
+                  'bad command', 'write fault')
 
 # Edits in `wrong-definitions/`, by crate.
 WRONG_DEFINITIONS = {'inlinable_string': 113, 'script_language': 90}

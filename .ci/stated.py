@@ -10,7 +10,8 @@ STATED = {
         '{crates} crates, the {edits_alone} edits of `must-fail/`, {tests} tests',
         '{edits} edits: {edits_alone} of the library, each in a check of its own',
         'and {edits_together}, several in one check',
-        '{library_edits} of the library, {plain_edits} of the plain program, {script_edits} of the script language',
+        '{library_edits} of the library, {plain_edits} of the plain program, '
+        '{script_edits} of the script language',
         'tests that the gate proves and runs | {tests} |',
         '{requests}, and {meetings} times',
         '{refusal_builds} builds of tests',

@@ -25,12 +25,12 @@ ENSURES = re.compile(r'^ *ensures\b', re.MULTILINE)
 
 
 def wrong_clauses(library):
-    """The edits of the library's contracts, which name callers alone and can be applied together."""
+    """The edits of the library's contracts: they name callers alone, and go together."""
     edits = edits_of(os.path.join(crate_folder(library), FOLDER), library)
     for edit in edits:
         for goal in edit.goals:
             if goal.crate != CRATE:
-                raise Failure(f'{library}: {edit.name} names {goal}, which is no function of {CRATE}')
+                raise Failure(f'{library}: {edit.name} names {goal}, which is not of {CRATE}')
     texts_with(crate_folder(library), edits)
     return edits
 
@@ -51,12 +51,13 @@ def require_callers():
                for name in names if name.endswith('.rt')]
     count = sum(promising(text_of(source)) for source in sources)
     if count < CALLERS:
-        raise Failure(f'{CRATE} has {count} public functions with an `ensures`, and must have {CALLERS}')
+        raise Failure(f'{CRATE} has {count} public functions with an `ensures`, '
+                      f'and must have {CALLERS}')
     return count
 
 
 def said_of_callers(library, edits, jobs):
-    """What a check of the callers says over the library with its weaker contracts, which is still proved."""
+    """What a check of the callers says over the library with weaker contracts, proved as well."""
     with copies([library, CRATE], 1) as places:
         place, = places
         with changed_files(crate_folder(library, place), texts_with(crate_folder(library), edits)):
@@ -85,7 +86,8 @@ def main(words):
         said = said_of_callers(library, own, jobs)
         found = list(breaches(own, refused_in(CRATE, said)))
         names = ', '.join(edit.name for edit in own)
-        print(f'{library}: {"NOT AS THEY MUST BE" if found else "refused"}: {names}', *found, sep='\n    ')
+        how = 'NOT AS THEY MUST BE' if found else 'refused'
+        print(f'{library}: {how}: {names}', *found, sep='\n    ')
         if found:
             print(said)
             is_well = False

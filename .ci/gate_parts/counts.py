@@ -1,4 +1,4 @@
-"""gate counts: prints how long the tree is, by kind, and holds the numbers of the documents against it.
+"""gate counts: prints how long the tree is, and holds the numbers of the documents against it.
 
 The sentences that state numbers stand in `.ci/stated.py`. One that is not found in its document, or
 found with another number than is counted, fails.
@@ -66,7 +66,8 @@ def kind_in_crate(path, parts, tests):
     stem = os.path.splitext(path)[0]
     if parts[2] in EDIT_FOLDERS:
         return 'edits'
-    if parts[1] in TEST_CRATES or any(stem == test or stem.startswith(test + '/') for test in tests):
+    is_below_test = any(stem == test or stem.startswith(test + '/') for test in tests)
+    if parts[1] in TEST_CRATES or is_below_test:
         return 'tests'
     if parts[2] in ('src', 'specs', 'proofs'):
         return f'{"library" if parts[1] == LIBRARY else "other crates"}: {parts[2]}'
@@ -93,7 +94,8 @@ def print_lines(lines):
 
 def edit_count(folder):
     """How many edits the crates have in such a folder, by crate."""
-    return {crate: len(edits_of(os.path.join(crate_folder(crate), folder), crate)) for crate in dependencies()}
+    return {crate: len(edits_of(os.path.join(crate_folder(crate), folder), crate))
+            for crate in dependencies()}
 
 
 def single_edit_count():
@@ -103,7 +105,8 @@ def single_edit_count():
 
 
 def test_count():
-    return sum(len(TEST.findall(text_of(in_tree(path)))) for path in files() if path.endswith('.rt'))
+    sources = (path for path in files() if path.endswith('.rt'))
+    return sum(len(TEST.findall(text_of(in_tree(path)))) for path in sources)
 
 
 def list_count():
@@ -119,7 +122,8 @@ def counted():
     requests, meetings = (sum(numbers) for numbers in zip(*REFUSALS.values()))
     return {
         'crates': len(dependencies()), 'tests': test_count(), 'lists': list_count(),
-        'edits_alone': alone, 'edits_together': sum(together.values()), 'edits': alone + sum(together.values()),
+        'edits_alone': alone, 'edits_together': sum(together.values()),
+        'edits': alone + sum(together.values()),
         'library_edits': together[LIBRARY], 'plain_edits': together['inline_vectors'],
         'script_edits': together['script_language'],
         'wrong_definitions': sum(edit_count('wrong-definitions').values()),
@@ -167,5 +171,6 @@ def main(words):
             for misstatement in misstatements(text_of(in_tree(document)), sentence, numbers):
                 print(f'{document}: {misstatement}')
                 wrong += 1
-    print(f'{sum(map(len, STATED.values()))} sentences with numbers, {wrong} that the tree does not bear out')
+    print(f'{sum(map(len, STATED.values()))} sentences with numbers, '
+          f'{wrong} that the tree does not bear out')
     return not wrong

@@ -24,6 +24,7 @@ from typing import List, NamedTuple
 
 from floors import WRONG_DEFINITIONS
 from gate_parts.edit_files import Edit, edits_of, texts_with
+from gate_parts.edits import listed
 from gate_parts.rooms import changed_files, check, copies, require_proof
 from gate_parts.said import ill_formed, is_proved, open_goals
 from gate_parts.tree import PROCESSORS, TOP, Failure, crate_folder, crates_with, text_of, write_text
@@ -54,12 +55,14 @@ def wrong_definitions(crate):
 
 
 def require_definition(crate, edit):
-    """The edit changes a definition, and else at most proofs of the crate, for functions of it alone."""
+    """The edit changes a definition, and else at most proofs, for functions of the crate alone."""
     folders = {change.path.split('/')[0] for change in edit.changes}
     if 'specs' not in folders or not folders <= {'specs', 'proofs'}:
-        raise Failure(f'{crate}: {edit.name} must change a file of specs/, and beside it only proofs/')
+        raise Failure(f'{crate}: {edit.name} must change a file of specs/, '
+                      'and beside it only proofs/')
     if 'proofs' in folders and {goal.crate for goal in edit.goals} != {crate}:
-        raise Failure(f'{crate}: {edit.name} changes proofs/, which the crates above have no copy of')
+        raise Failure(f'{crate}: {edit.name} changes proofs/, '
+                      'which the crates above have no copy of')
 
 
 def tasks_of(edits):
@@ -99,13 +102,14 @@ def cite_copies(folder, library, crate, names):
 
 
 def tried(rooms, library, task):
-    """What the function does not refuse as the edits say, in words by edit; and what was said of it."""
+    """The names of the edits that the function does not refuse as they say."""
     room = rooms.get()
     try:
         folder = crate_folder(task.crate, room)
         said, _ = check(room, task.crate, 1, '--only', task.function)
         if not is_proved(task.crate, task.function, said):
-            wrong = {edit.name: f'{task.crate}/{task.function} is not proved as it is' for edit in task.edits}
+            unproved = f'{task.crate}/{task.function} is not proved as it is'
+            wrong = dict.fromkeys((edit.name for edit in task.edits), unproved)
             return told(library, task, wrong, [said])
         wrong, heard = {}, []
         for edit in task.edits:
@@ -130,11 +134,12 @@ def breach_of(edit, task, said):
     bad = ill_formed(said)
     if bad:
         return f'the definition is not well formed, or a name has gone: {bad[0]}'
-    wanted = {goal.name for goal in edit.goals if (goal.crate, goal.function) == (task.crate, task.function)}
+    wanted = {goal.name for goal in edit.goals
+              if (goal.crate, goal.function) == (task.crate, task.function)}
     left = open_goals(task.crate, task.function, said)
     if wanted <= left:
         return None
-    return f'not refused by {", ".join(sorted(wanted - left))}; open goals: {", ".join(sorted(left)) or "none"}'
+    return f'not refused by {listed(wanted - left)}; open goals: {listed(left)}'
 
 
 def told(library, task, wrong, heard):
@@ -143,7 +148,8 @@ def told(library, task, wrong, heard):
     if refused:
         print(f'{library}: refused by {task.crate}/{task.function}: {", ".join(refused)}')
     for name, breach in wrong.items():
-        print(f'{library}: NOT AS IT MUST BE: {name}, tried at {task.crate}/{task.function}:\n    {breach}')
+        print(f'{library}: NOT AS IT MUST BE: {name}, tried at {task.crate}/{task.function}:',
+              breach, sep='\n    ')
     print(*heard, sep='\n', end='')
     sys.stdout.flush()
     return set(wrong)
@@ -177,7 +183,8 @@ def options(words):
 def main(words):
     given = options(words)
     crates = given.crates or sorted({*crates_with(FOLDER), *WRONG_DEFINITIONS})
-    edits = {crate: [edit for edit in wrong_definitions(crate) if given.named in edit.name] for crate in crates}
+    edits = {crate: [edit for edit in wrong_definitions(crate) if given.named in edit.name]
+             for crate in crates}
     wrong = sum(len(tried_all(library, own, given.jobs)) for library, own in edits.items() if own)
     good = sum(map(len, edits.values())) - wrong
     print(f'{good} wrong definitions refused as they say, {wrong} not')

@@ -1,4 +1,4 @@
-"""Edits: wrong code, wrong definitions or wrong clauses, and the goals by which the prover refuses them.
+"""Edits: wrong code, wrong definitions or weaker clauses, and the goals that refuse them.
 
 A file of the ending `.edits` has many, parted by empty lines:
 
@@ -34,7 +34,7 @@ class Goal(NamedTuple):
 
 
 class Change(NamedTuple):
-    """A text of a file of the crate, once in it or the first after another, and what replaces it."""
+    """A text of a file, once in it or the first after another text, and what replaces it."""
     path: str
     old: str
     new: str
@@ -59,7 +59,8 @@ def edits_of(folder, crate):
 
 def edit_files(folder):
     """The files of edits in a folder and in those below it, in order; other files are refused."""
-    paths = sorted(os.path.join(place, name) for place, _, names in os.walk(folder) for name in names)
+    paths = sorted(os.path.join(place, name)
+                   for place, _, names in os.walk(folder) for name in names)
     for path in paths:
         if not path.endswith(ENDING):
             raise Failure(f'{path}: a file of edits ends in {ENDING}')
@@ -94,7 +95,7 @@ def read_edit(path, crate, lines):
     """The edit that is told by these lines."""
     head = lines[0].split(' ')
     if len(head) != 2 or head[0] != 'edit' or not head[1]:
-        raise Failure(f'{path}: an edit begins with a line `edit NAME`, and not with this: {lines[0]}')
+        raise Failure(f'{path}: an edit begins with a line `edit NAME`, not with this: {lines[0]}')
     goals, changes, file, after, old = [], [], None, '', None
     for line in lines[1:]:
         word, _, rest = line.partition(':')
@@ -149,10 +150,12 @@ def only_place(edit, change, text):
     """Where the old text stands, of which there must be no doubt."""
     known = change.after or change.old
     if text.count(known) != 1:
-        raise Failure(f'{edit.name}: this is {text.count(known)} times in {change.path}, and not once: {known}')
+        raise Failure(f'{edit.name}: this is {text.count(known)} times in {change.path}, '
+                      f'and not once: {known}')
     place = place_of(change, text)
     if place < 0:
-        raise Failure(f'{edit.name}: in {change.path} there is no such text after {change.after}: {change.old}')
+        raise Failure(f'{edit.name}: in {change.path} this is not after {change.after}: '
+                      f'{change.old}')
     return place
 
 
@@ -166,7 +169,7 @@ def changed(path, text, places):
     parts, end = [], 0
     for start, stop, new in places:
         if start < end:
-            raise Failure(f'{path}: two edits that are tried together change this: {text[start:end]}')
+            raise Failure(f'{path}: two edits that go together change this: {text[start:end]}')
         parts += [text[end:start], new]
         end = stop
     return ''.join([*parts, text[end:]])

@@ -51,7 +51,7 @@ def stays_in_its_function(crate, edit):
 
 
 def groups_of(crate, edits):
-    """The edits in lists, each for one check: those that may go together, and those that go alone."""
+    """The edits in lists, each for one check: those that may go together, then the others."""
     together = [edit for edit in edits if stays_in_its_function(crate, edit)]
     alone = [[edit] for edit in edits if edit not in together]
     breaking = Counter(function for edit in together for function in edit.functions())
@@ -79,7 +79,7 @@ def listed(names):
 
 
 def tried(rooms, task):
-    """Tries a group of edits of a crate in a copy that no other try uses, and puts the copy back."""
+    """Tries a group of edits of a crate in a copy that no other try uses."""
     crate, group = task
     room = rooms.get()
     try:
@@ -90,7 +90,8 @@ def tried(rooms, task):
         rooms.put(room)
     found = list(breaches(group, refused_in(crate, said)))
     names = ', '.join(edit.name for edit in group)
-    print(f'{crate}: {"NOT AS THEY MUST BE" if found else "refused"}: {names}', *found, sep='\n    ')
+    how = 'NOT AS THEY MUST BE' if found else 'refused'
+    print(f'{crate}: {how}: {names}', *found, sep='\n    ')
     if found:
         print(said)
     sys.stdout.flush()
@@ -104,8 +105,8 @@ def prepared(crate, named, jobs):
         texts_with(crate_folder(crate), group)
     require_proof(TOP, crate, jobs)
     alone = sum(len(group) == 1 for group in groups)
-    print(f'{crate}: {sum(map(len, groups))} edits in {len(groups)} checks, {alone} of them of one edit',
-          flush=True)
+    print(f'{crate}: {sum(map(len, groups))} edits in {len(groups)} checks, '
+          f'{alone} of them of one edit', flush=True)
     return [(crate, group) for group in groups]
 
 

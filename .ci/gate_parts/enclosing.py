@@ -58,7 +58,7 @@ def name_of_impl(header):
 
 
 def opened(start, header, pending):
-    """What a brace opens that has this before it; `pending` is the function whose body is awaited."""
+    """What a brace opens that has this before it; `pending` is the function to have a body."""
     if MACRO.search(header):
         return Brace(start, 'macro', '')
     if CLAUSE.search(FUNCTION.split(header)[-1]) and pending:
@@ -97,7 +97,8 @@ def bodies(path, text):
             header_start = at + 1
             if brace.kind == 'body' and all(outer.kind != 'macro' for outer, _ in stack):
                 parts = [outer.name for outer, _ in stack if outer.kind == 'part']
-                found.append(Body(brace.start, at, '::'.join([*module_of(path), *parts, brace.name])))
+                function = '::'.join([*module_of(path), *parts, brace.name])
+                found.append(Body(brace.start, at, function))
     return found
 
 
@@ -111,7 +112,7 @@ def depths(text):
 
 
 def narrowed(text, change):
-    """Where in the text the change really begins and ends, and what stands there before and after it."""
+    """Where the change really begins and ends, and what stands there before and after it."""
     old, new = change.old, change.new
     front = len(os.path.commonprefix([old, new]))
     old, new = old[front:], new[front:]

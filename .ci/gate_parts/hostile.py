@@ -25,7 +25,7 @@ MOST_PRINTED = 10
 
 
 class Tally:
-    """How the inputs end, their replies by kind, and what each program does otherwise than it must."""
+    """How the inputs end, their replies by kind, and what each program does wrong."""
 
     def __init__(self, names):
         self.ends, self.replies, self.different = Counter(), Counter(), Counter()
@@ -44,22 +44,24 @@ class Tally:
         count = sum(self.ends.values())
         least = count * HOSTILE_ACCEPTED_PART
         if self.ends['accepted'] < least:
-            yield f'{self.ends["accepted"]} inputs of {count} are accepted, and at least {least:.0f} must be'
-        for title, counts, kinds in (('replies', self.replies, HOSTILE_REPLIES), ('faults', self.ends, HOSTILE_FAULTS)):
+            yield (f'{self.ends["accepted"]} inputs of {count} are accepted, '
+                   f'and at least {least:.0f} must be')
+        for title, counts, kinds in (('replies', self.replies, HOSTILE_REPLIES),
+                                     ('faults', self.ends, HOSTILE_FAULTS)):
             for kind in kinds:
                 if counts[kind] < of_each:
                     yield f'{counts[kind]} {title} are `{kind}`, and at least {of_each} must be'
 
 
 def tried(programs, seed, number):
-    """How one input ends, the kinds of its replies, and each program's difference, if it has one."""
+    """How one input ends, the kinds of its replies, and each program's difference or None."""
     case, ends, replies = hostile_case(seed, number)
     kinds = Counter('char' if reply.startswith('char ') else reply for reply in replies)
     return ends, kinds, [found_by(program, case) for program in programs]
 
 
 def found_by(program, case):
-    """None where a program does as it must; else the difference to print, empty if it wasn't tried."""
+    """None where a program does as it must; else the difference, empty if it wasn't tried."""
     given = run(program, case)
     if given == (case.output, case.status):
         return None

@@ -1,4 +1,4 @@
-"""gate refusals [CRATE ..]: refuses the first request for memory of each test, then the second, and so on.
+"""gate refusals [CRATE ..]: refuses each request for memory of the tests in turn, from the first on.
 
 The tests of the modules `refusals` must pass each time, and say `refused` where they met the
 refusal. A crate is done at the first request that none of them makes, and must have met as many by
@@ -7,12 +7,11 @@ by side; each request is one build of a crate's tests.
 """
 import argparse
 import re
-import subprocess
 from concurrent.futures import ThreadPoolExecutor
 from typing import NamedTuple
 
 from floors import REFUSALS
-from gate_parts.tree import crate_folder
+from gate_parts.tree import crate_folder, run_rt
 
 # More requests than any of the tests may make.
 MOST_REQUESTS = 40
@@ -47,10 +46,7 @@ def counted(said):
 
 def tests_without_request(crate, request):
     """What the tests of the crate print where this request for memory is refused."""
-    ran = subprocess.run(['rt', 'try', '--test', '--fail-alloc', str(request)], cwd=crate_folder(crate),
-                         stdin=subprocess.DEVNULL, stdout=subprocess.PIPE, stderr=subprocess.STDOUT,
-                         encoding='utf-8', errors='replace')
-    return ran.stdout
+    return run_rt(crate_folder(crate), 'try', '--test', '--fail-alloc', str(request))[0]
 
 
 def swept(crate):
@@ -59,8 +55,8 @@ def swept(crate):
     for request in range(1, MOST_REQUESTS + 1):
         said = tests_without_request(crate, request)
         count = counted(said)
-        lines.append(f'{crate}: request {request} refused: {count.ran} tests, {count.failed} failed, '
-                     f'{count.met} met it')
+        lines.append(f'{crate}: request {request} refused: {count.ran} tests, '
+                     f'{count.failed} failed, {count.met} met it')
         if not count.ran or count.failed:
             return False, [*lines, said]
         if not count.met:
@@ -75,7 +71,8 @@ def enough(crate, requests, meetings, lines):
     lines.append(f'{crate}: {requests} requests refused, {meetings} meetings')
     if requests >= least_requests and meetings >= least_meetings:
         return True, lines
-    return False, [*lines, f'{crate}: TOO FEW: there must be {least_requests} requests and {least_meetings} meetings']
+    return False, [*lines, f'{crate}: TOO FEW: there must be {least_requests} requests '
+                           f'and {least_meetings} meetings']
 
 
 def options(words):

@@ -1,4 +1,4 @@
-"""gate replay [PROGRAM ..] [--all]: runs each program on every stored case, and on generated scripts.
+"""gate replay [PROGRAM ..] [--all]: runs each program on all stored cases and on generated scripts.
 
 Without PROGRAM they are the two that `rt ci` builds. Of the generated scripts, whose answers
 `replay/digests` keeps, it runs the first 30,000, and all with --all. Each difference is printed;

@@ -1,11 +1,11 @@
 """Rooms: copies of crates in which edits are tried, so that the tree itself is never changed."""
 import os
 import shutil
-import subprocess
 import tempfile
 from contextlib import contextmanager
 
-from gate_parts.tree import TOP, Failure, crate_folder, text_of, with_those_below, write_text
+from gate_parts.tree import (TOP, Failure, crate_folder, run_rt, text_of, with_those_below,
+                             write_text)
 
 # Read by `rt` beside the crates.
 AT_THE_TOP = ('crates.txt', 'HANDLES')
@@ -13,14 +13,12 @@ AT_THE_TOP = ('crates.txt', 'HANDLES')
 
 def check(top, crate, jobs, *options):
     """What a check of the crate prints, and whether it is proved."""
-    ran = subprocess.run(['rt', 'check', '--jobs', str(jobs), *options], cwd=crate_folder(crate, top),
-                         stdin=subprocess.DEVNULL, stdout=subprocess.PIPE, stderr=subprocess.STDOUT,
-                         encoding='utf-8', errors='replace')
-    return ran.stdout, ran.returncode == 0
+    said, status = run_rt(crate_folder(crate, top), 'check', '--jobs', str(jobs), *options)
+    return said, status == 0
 
 
 def require_proof(top, crate, jobs):
-    """Checks that the crate is proved there; what the check keeps in out/ serves all that come after it."""
+    """Checks that the crate is proved there; what the check keeps in out/ serves later ones."""
     said, is_well = check(top, crate, jobs)
     if not is_well:
         raise Failure(f'{crate} is not proved as it is:\n{said}')
@@ -28,7 +26,7 @@ def require_proof(top, crate, jobs):
 
 @contextmanager
 def copies(crates, count):
-    """So many copies of the crates and of all that they stand on, with what their checks have kept."""
+    """So many copies of the crates and of all below them, with what their checks have kept."""
     kept = with_those_below(crates)
     with tempfile.TemporaryDirectory(prefix='gate-') as place:
         rooms = [os.path.join(place, str(number)) for number in range(count)]
@@ -49,7 +47,7 @@ def copy_crates(room, kept):
 
 @contextmanager
 def changed_files(folder, texts):
-    """While it lasts, these files of the folder have these texts; then they have their own again."""
+    """While it lasts, these files of the folder have these texts; then their own again."""
     own = {path: text_of(os.path.join(folder, path)) for path in texts}
     try:
         write_all(folder, texts)

@@ -1,4 +1,4 @@
-"""What a check by `rt` says: which functions are proved, and which goals of the others are left open.
+"""What a check by `rt` says: which functions are proved, and which goals are left open.
 
 It is prose, made for people, so all that the gate looks for in it stands here, and `selftest` reads
 stored examples of it. Where the prose of another toolchain is another, no goal is found open, and
@@ -8,7 +8,7 @@ import re
 
 # A goal that `search` left open; such lines stand before that of the function.
 LEFT_OPEN = re.compile(r'^note: src/.*: it is not proved .*\(`([^`]+)`\)')
-# What stands of a function: `proved`, `no proof: it ..` where it merely calls one that is refused, or else.
+# What is said of a function: `proved`, `no proof: it ..` where it merely calls a refused one, or else.
 FUNCTION = re.compile(r'^fn (\S+): (proved|no proof: it |)')
 # An error in a file: the file, and what is wrong.
 ERROR = re.compile(r'^(?:\./)?((?:src|specs|proofs)/\S+?):\d+:\d+: error: (.*)')
@@ -32,7 +32,8 @@ def below(crate, function):
 
 def errors_in(said):
     """Each error: its line, the file, and what is wrong."""
-    return [(found[0], found[1], found[2]) for found in map(ERROR.match, said.splitlines()) if found]
+    errors = map(ERROR.match, said.splitlines())
+    return [(found[0], found[1], found[2]) for found in errors if found]
 
 
 def refused_in(crate, said):
@@ -62,16 +63,17 @@ def is_proved(crate, function, said):
 
 
 def ill_formed(said):
-    """The errors that refuse nothing: in a definition or in the source, or of a name that has gone."""
+    """The errors that refuse nothing: in a definition or in the source, or of a name gone."""
     return [line for line, path, wrong in errors_in(said)
             if GONE.search(wrong) or not path.startswith('proofs/')]
 
 
 def open_goals(crate, function, said):
-    """The goals of a function that a check of it alone leaves open, by themselves or for want of a lemma."""
+    """The goals that a check of one function leaves open, by themselves or for want of a lemma."""
     found = set(refused_in(crate, said).get(function, ()))
     for _, path, wrong in errors_in(said):
         left_out = LEFT_OUT.match(wrong)
         if left_out and answers_of(path) == function:
-            found |= {re.split(r' and \d+ more$', name)[0].split(' (via ')[0] for name in left_out[1].split(', ')}
+            names = re.split(r' and \d+ more$', left_out[1])[0].split(', ')
+            found |= {name.split(' (via ')[0] for name in names}
     return found

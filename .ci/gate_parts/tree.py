@@ -1,5 +1,6 @@
 """Where things stand in the repository, and which crates stand on which."""
 import os
+import subprocess
 
 TOP = os.path.dirname(os.path.dirname(os.path.dirname(os.path.abspath(__file__))))
 PROCESSORS = len(os.sched_getaffinity(0))
@@ -15,6 +16,14 @@ def in_tree(*names):
 
 def crate_folder(crate, top=TOP):
     return os.path.join(top, 'crates', crate)
+
+
+def run_rt(folder, *words):
+    """What a command of `rt` prints in a crate's folder, and its exit status."""
+    ran = subprocess.run(['rt', *words], cwd=folder, stdin=subprocess.DEVNULL,
+                         stdout=subprocess.PIPE, stderr=subprocess.STDOUT,
+                         encoding='utf-8', errors='replace')
+    return ran.stdout, ran.returncode
 
 
 def text_of(path):
