@@ -4,12 +4,13 @@ ghost use Rattle.std.specs.Prelude.{◌≤◌};
 use crate::texts::LONG;
 use edits::Answer::{self, BadPlace, Char, Done, NoChar, NotEnoughSpace};
 use edits::Edit::{self, Clear, Insert, InsertStr, Pop, Push, PushStr, Remove, Truncate};
-use edits::{Step, apply, check_each, check_each_alone, check_steps, edited};
+use edits::{Step, apply, assert_each, assert_each_alone, assert_steps, edited};
 use inlinable_string::{INLINE_STRING_CAPACITY, InlineString, InlineStringN};
 use std::process::Abort;
 
 mod edits;
 mod replacements;
+mod wrong_tables;
 
 /// Each character with its UTF-8, of 1 to 4 bytes.
 const CHARACTERS: &[(char, &[u8])] = &[
@@ -51,7 +52,7 @@ const TOO_LONG: &[(&str, &[Step])] = &[
 
 #[test]
 fn a_text_that_is_too_long_is_refused_and_the_short_one_stays(rt: HostRuntime) {
-    check_each::<30>(&rt, TOO_LONG);
+    assert_each::<30>(&rt, TOO_LONG);
 }
 
 /// Growths of a full text, at its front and its end.
@@ -62,8 +63,15 @@ const GIVEN_TO_A_FULL_TEXT: &[(Edit, Answer)] = &[
     (PushStr(""), Done),
 ];
 
+/// Gives an edit to a full text. Whether it has this answer, and the text stays full.
+fn stays_full<const N: usize>(text: &mut InlineStringN<N>, edit: Edit, answer: Answer) -> bool
+    requires { N ≤ 300 }
+{
+    apply(text, edit) == answer && text.len() == N
+}
+
 /// Gives an edit to a full text, which stays full.
-fn check_stays_full<const N: usize>(
+fn assert_stays_full<const N: usize>(
     rt: &impl Abort,
     text: &mut InlineStringN<N>,
     edit: Edit,
@@ -71,47 +79,46 @@ fn check_stays_full<const N: usize>(
 )
     requires { N ≤ 300 }
 {
-    let given = apply(text, edit);
-    assert!(rt; given == answer && text.len() == N, "{given:?} at {N}");
+    assert!(rt; stays_full(text, edit, answer), "not {answer:?} at {N}");
 }
 
-fn check_full<const N: usize>(rt: &impl Abort, text: &mut InlineStringN<N>)
+fn assert_full<const N: usize>(rt: &impl Abort, text: &mut InlineStringN<N>)
     requires { N ≤ 300 }
 {
     for &(edit, answer) in GIVEN_TO_A_FULL_TEXT {
-        check_stays_full(rt, text, edit, answer);
+        assert_stays_full(rt, text, edit, answer);
     }
-    check_stays_full(rt, text, InsertStr(N, "a"), NotEnoughSpace);
-    check_stays_full(rt, text, InsertStr(N, ""), Done);
+    assert_stays_full(rt, text, InsertStr(N, "a"), NotEnoughSpace);
+    assert_stays_full(rt, text, InsertStr(N, ""), Done);
 }
 
 /// Fills the empty text by an edit that adds a letter, and gives growths to it.
-fn check_filled<const N: usize>(rt: &impl Abort, mut text: InlineStringN<N>, edit: Edit)
+fn assert_filled<const N: usize>(rt: &impl Abort, mut text: InlineStringN<N>, edit: Edit)
     requires { N ≤ 300 }
 {
     for count in 0..N {
         assert!(rt; text.len() == count && apply(&mut text, edit) == Done);
     }
-    check_full(rt, &mut text);
+    assert_full(rt, &mut text);
     assert!(rt; text.into_bytes() == [b'a'; N]);
 }
 
-fn check_limit<const N: usize>(rt: &impl Abort)
+fn assert_limit<const N: usize>(rt: &impl Abort)
     requires { N ≤ 300 }
 {
-    check_filled(rt, InlineStringN::<N>::new(), Push('a'));
-    check_filled(rt, InlineStringN::<N>::default(), Insert(0, 'a'));
+    assert_filled(rt, InlineStringN::<N>::new(), Push('a'));
+    assert_filled(rt, InlineStringN::<N>::default(), Insert(0, 'a'));
 }
 
 #[test]
 fn as_many_letters_as_the_limit_fit_and_no_more(rt: HostRuntime) {
     assert!(rt; INLINE_STRING_CAPACITY == 30);
-    check_limit::<INLINE_STRING_CAPACITY>(&rt);
-    check_limit::<0>(&rt);
-    check_limit::<1>(&rt);
-    check_limit::<3>(&rt);
-    check_limit::<4>(&rt);
-    check_limit::<300>(&rt);
+    assert_limit::<INLINE_STRING_CAPACITY>(&rt);
+    assert_limit::<0>(&rt);
+    assert_limit::<1>(&rt);
+    assert_limit::<3>(&rt);
+    assert_limit::<4>(&rt);
+    assert_limit::<300>(&rt);
 }
 
 const GROWN: &[(&str, &[Step])] = &[
@@ -130,7 +137,7 @@ const GROWN: &[(&str, &[Step])] = &[
 
 #[test]
 fn growths_give_the_joined_text(rt: HostRuntime) {
-    check_each::<30>(&rt, GROWN);
+    assert_each::<30>(&rt, GROWN);
 }
 
 const CUT: &[(&str, &[Step])] = &[
@@ -157,36 +164,40 @@ const CUT: &[(&str, &[Step])] = &[
 
 #[test]
 fn cuts_give_the_rest_of_the_text(rt: HostRuntime) {
-    check_each::<30>(&rt, CUT);
+    assert_each::<30>(&rt, CUT);
 }
 
 const GROWN_FROM_EMPTY: &[Step] = &[(PushStr(""), Done, ""), (Push('a'), Done, "a")];
 
 #[test]
 fn a_text_is_empty_where_it_has_no_character(rt: HostRuntime) {
-    check_steps(&rt, &mut InlineString::new(), GROWN_FROM_EMPTY);
-    check_steps(&rt, &mut InlineString::default(), GROWN_FROM_EMPTY);
+    assert_steps(&rt, &mut InlineString::new(), GROWN_FROM_EMPTY);
+    assert_steps(&rt, &mut InlineString::default(), GROWN_FROM_EMPTY);
 }
 
 /// The start of a text, edits of it, and which bytes it has then and shows with the zeros after
 /// them.
 type BytesRow<'a> = (&'a str, &'a [Step<'a>], &'a [u8]);
 
-fn check_bytes<const N: usize>(rt: &impl Abort, row: &BytesRow)
+/// The first row that is wrong; a step in it that is wrong fails the test.
+fn wrong_bytes<const N: usize>(rt: &impl Abort, rows: &[BytesRow]) -> Option<usize>
     requires { N ≤ 300 }
 {
-    let &(start, steps, bytes) = row;
-    let text = edited::<N>(rt, start, steps);
-    assert!(rt; bytes.starts_with(text.as_bytes()));
-    assert!(rt; &text.into_bytes()[..] == bytes, "{start} at {N}");
+    for (i, &(start, steps, bytes)) in rows.iter().enumerate() {
+        let text = edited::<N>(rt, start, steps);
+        let is_shown = bytes.starts_with(text.as_bytes());
+        if !is_shown || &text.into_bytes()[..] != bytes {
+            return Some(i);
+        }
+    }
+    None
 }
 
-fn check_each_bytes<const N: usize>(rt: &impl Abort, rows: &[BytesRow])
+fn assert_each_bytes<const N: usize>(rt: &impl Abort, rows: &[BytesRow])
     requires { N ≤ 300 }
 {
-    for row in rows {
-        check_bytes::<N>(rt, row);
-    }
+    let wrong = wrong_bytes::<N>(rt, rows);
+    assert!(rt; wrong.is_none(), "row {wrong:?} at {N}");
 }
 
 const BYTES_OF_30: &[BytesRow] = &[(
@@ -209,13 +220,13 @@ const BYTES_OF_0: &[BytesRow] = &[("", &[], b"")];
 
 #[test]
 fn the_bytes_are_those_of_the_text_and_then_zeros(rt: HostRuntime) {
-    check_each_bytes::<30>(&rt, BYTES_OF_30);
-    check_each_bytes::<8>(&rt, BYTES_OF_8);
-    check_each_bytes::<5>(&rt, BYTES_OF_5);
-    check_each_bytes::<4>(&rt, BYTES_OF_4);
-    check_each_bytes::<3>(&rt, BYTES_OF_3);
-    check_each_bytes::<1>(&rt, BYTES_OF_1);
-    check_each_bytes::<0>(&rt, BYTES_OF_0);
+    assert_each_bytes::<30>(&rt, BYTES_OF_30);
+    assert_each_bytes::<8>(&rt, BYTES_OF_8);
+    assert_each_bytes::<5>(&rt, BYTES_OF_5);
+    assert_each_bytes::<4>(&rt, BYTES_OF_4);
+    assert_each_bytes::<3>(&rt, BYTES_OF_3);
+    assert_each_bytes::<1>(&rt, BYTES_OF_1);
+    assert_each_bytes::<0>(&rt, BYTES_OF_0);
 }
 
 const CUT_OFF: &[BytesRow] = &[(
@@ -232,8 +243,8 @@ const TAKEN_OUT: &[BytesRow] = &[(
 
 #[test]
 fn bytes_that_were_cut_off_or_taken_out_do_not_show(rt: HostRuntime) {
-    check_each_bytes::<30>(&rt, CUT_OFF);
-    check_each_bytes::<4>(&rt, TAKEN_OUT);
+    assert_each_bytes::<30>(&rt, CUT_OFF);
+    assert_each_bytes::<4>(&rt, TAKEN_OUT);
 }
 
 const WHOLE: &str = "aé€𝄞";
@@ -305,22 +316,22 @@ const NO_PLACES: &[(&str, &[Step])] = &[(
     ],
 )];
 
-fn check_places<const N: usize>(rt: &impl Abort)
+fn assert_places<const N: usize>(rt: &impl Abort)
     requires { N ≤ 300 }
 {
-    check_each_alone::<N>(rt, PLACES);
-    check_each_alone::<N>(rt, NO_PLACES);
+    assert_each_alone::<N>(rt, PLACES);
+    assert_each_alone::<N>(rt, NO_PLACES);
 }
 
 #[test]
 fn each_place_is_told_by_the_test_and_taken_by_the_calls(rt: HostRuntime) {
-    check_places::<30>(&rt);
-    check_places::<13>(&rt);
-    check_places::<300>(&rt);
+    assert_places::<30>(&rt);
+    assert_places::<13>(&rt);
+    assert_places::<300>(&rt);
 }
 
 /// An edit that puts the bytes of a character in at `at`, so that they fill the rest of a text.
-fn check_fits<const N: usize>(rt: &impl Abort, edit: Edit, at: usize, bytes: &[u8])
+fn assert_fits<const N: usize>(rt: &impl Abort, edit: Edit, at: usize, bytes: &[u8])
     requires { N ≤ 300 }
 {
     assert!(rt; bytes.len() <= N);
@@ -334,7 +345,7 @@ fn check_fits<const N: usize>(rt: &impl Abort, edit: Edit, at: usize, bytes: &[u
 }
 
 /// A character of so many bytes, of which one finds no room.
-fn check_just_too_long<const N: usize>(rt: &impl Abort, ch: char, count: usize)
+fn assert_just_too_long<const N: usize>(rt: &impl Abort, ch: char, count: usize)
     requires { N ≤ 300 }
 {
     assert!(rt; count <= N + 1);
@@ -346,26 +357,26 @@ fn check_just_too_long<const N: usize>(rt: &impl Abort, ch: char, count: usize)
     assert!(rt; are_refused && are_letters, "{ch} at {N}");
 }
 
-fn check_edge<const N: usize>(rt: &impl Abort)
+fn assert_edge<const N: usize>(rt: &impl Abort)
     requires { N ≤ 300 }
 {
     for &(ch, bytes) in CHARACTERS {
         if bytes.len() <= N {
-            check_fits::<N>(rt, Push(ch), N - bytes.len(), bytes);
-            check_fits::<N>(rt, Insert(0, ch), 0, bytes);
+            assert_fits::<N>(rt, Push(ch), N - bytes.len(), bytes);
+            assert_fits::<N>(rt, Insert(0, ch), 0, bytes);
         }
         if bytes.len() <= N + 1 {
-            check_just_too_long::<N>(rt, ch, bytes.len());
+            assert_just_too_long::<N>(rt, ch, bytes.len());
         }
     }
 }
 
 #[test]
 fn a_character_fits_where_its_bytes_just_fit(rt: HostRuntime) {
-    check_edge::<30>(&rt);
-    check_edge::<0>(&rt);
-    check_edge::<1>(&rt);
-    check_edge::<3>(&rt);
-    check_edge::<4>(&rt);
-    check_edge::<300>(&rt);
+    assert_edge::<30>(&rt);
+    assert_edge::<0>(&rt);
+    assert_edge::<1>(&rt);
+    assert_edge::<3>(&rt);
+    assert_edge::<4>(&rt);
+    assert_edge::<300>(&rt);
 }

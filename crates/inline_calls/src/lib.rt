@@ -18,8 +18,12 @@ mod objects;
 #[cfg(test)]
 mod places;
 #[cfg(test)]
+mod played;
+#[cfg(test)]
 mod room;
 #[cfg(test)]
 mod steps;
 #[cfg(test)]
 mod texts;
+#[cfg(test)]
+mod wrong_tables;

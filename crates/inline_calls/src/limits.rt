@@ -1,6 +1,7 @@
 //! Limits other than 30: none at all, some of few bytes, and one past a byte's range.
+use crate::played::assert_right;
 use crate::steps::Lies::{AsMade, OnHeap, Shrunk};
-use crate::steps::{Kind, Step, assert_each_within, assert_played, assert_repeated_within};
+use crate::steps::{Kind, Step, assert_each_within, assert_repeated_within, played_on_new};
 use inlinable_string::InlinableStringN;
 use inlinable_string::run::Command::{Pop, Push, Reserve, ReserveExact, ShrinkToFit};
 use inlinable_string::run::Reply::{Char, Done};
@@ -28,7 +29,10 @@ fn assert_made_within_0(rt: &impl Abort, alloc: Global, room: usize) {
         limit: Some(0),
         room: Some(room),
     };
-    assert_played::<InlinableStringN<0>>(rt, alloc, kind, "", &[]);
+    assert_right(
+        rt,
+        played_on_new::<InlinableStringN<0>>(rt, alloc, kind, "", &[]),
+    );
 }
 
 #[test]

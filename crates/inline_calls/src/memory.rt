@@ -2,11 +2,12 @@
 //! its calls, gives the memory back, and then asserts. One gives a block back before its calls, so
 //! that one request of that size is granted and the next one is refused.
 use crate::growths::CHARACTERS_THAT_FIT;
+use crate::played::{and_list, and_step, assert_right};
 use crate::steps::Lies::{AsMade, OnHeap, Shrunk};
-use crate::steps::{Kind, Step, assert_none_wrong, assert_steps, called, first_wrong, whole_of};
+use crate::steps::{Kind, Played, Step, called, played, whole_of};
 use crate::texts::{
     HEAP_ROOM, LETTERS_26, LETTERS_27, LETTERS_28, LETTERS_29, LETTERS_30, LETTERS_31, assert_text,
-    letters, text_of,
+    is_text, letters, text_of,
 };
 use inlinable_string::run::Command::{
     self, Clear, Insert, InsertStr, Pop, Push, PushStr, Remove, ReplaceBytes, Reserve,
@@ -21,6 +22,7 @@ use std::process::Abort;
 use test_memory::Hoard;
 
 mod filled;
+mod wrong_tables;
 
 /// All memory that can be had.
 fn all_memory(rt: &impl Abort, alloc: Global) -> Hoard {
@@ -28,32 +30,32 @@ fn all_memory(rt: &impl Abort, alloc: Global) -> Hoard {
 }
 
 /// Plays the steps while no memory can be had.
-fn assert_steps_without_memory<S: StringExt>(
+fn played_without_memory<S: StringExt>(
     rt: &impl Abort,
     alloc: Global,
     text: &mut S,
     kind: Kind,
     steps: &[Step],
-) {
+) -> Played {
     let hoard = all_memory(rt, alloc);
-    let wrong = first_wrong(text, kind, steps);
+    let answer = played(text, kind, steps);
     drop(hoard);
-    assert_none_wrong(rt, text, wrong);
+    answer
 }
 
 /// A text, and the steps that are played on it before, during and after a shortage of memory.
 #[derive(Clone, Copy)]
-struct Shortage<'a> {
+pub struct Shortage<'a> {
     /// The room that the text is made with; `None` where it is made new.
-    room: Option<usize>,
-    start: &'a str,
-    before: &'a [Step<'a>],
-    during: &'a [Step<'a>],
-    after: &'a [Step<'a>],
+    pub room: Option<usize>,
+    pub start: &'a str,
+    pub before: &'a [Step<'a>],
+    pub during: &'a [Step<'a>],
+    pub after: &'a [Step<'a>],
 }
 
 /// The empty text, made new, and no steps.
-const NEW: Shortage<'static> = Shortage {
+pub const NEW: Shortage<'static> = Shortage {
     room: None,
     start: "",
     before: &[],
@@ -62,45 +64,51 @@ const NEW: Shortage<'static> = Shortage {
 };
 
 /// The limit of `InlinableString`.
-const LIMIT: Option<usize> = Some(30);
+pub const LIMIT: Option<usize> = Some(30);
 
-fn assert_shortage<S: StringExt>(
+/// Goes through a shortage with this text.
+fn shortage_played<S: StringExt>(
     rt: &impl Abort,
     alloc: Global,
     text: &mut S,
     limit: Option<usize>,
     shortage: &Shortage,
-) {
+) -> Played {
     let kind = Kind {
         limit,
         room: shortage.room,
     };
-    assert_steps(rt, text, kind, shortage.before);
-    assert_steps_without_memory(rt, alloc, text, kind, shortage.during);
-    assert_steps(rt, text, kind, shortage.after);
+    let before = played(text, kind, shortage.before)?;
+    let during = played_without_memory(rt, alloc, text, kind, shortage.during)?;
+    let after = played(text, kind, shortage.after)?;
+    Ok(before.saturating_add(during).saturating_add(after))
 }
 
 /// Goes through each shortage with a text of its own, of a type with this limit.
-fn assert_shortages<S: StringMake + Drop>(
+pub fn shortages_played<S: StringMake + Drop>(
     rt: &impl Abort,
     alloc: Global,
     limit: Option<usize>,
     shortages: &[Shortage],
-) {
-    for shortage in shortages {
+) -> Played {
+    let mut count = 0usize;
+    for (i, shortage) in shortages.iter().enumerate() {
         let mut text: S = text_of(rt, alloc, shortage.room, shortage.start);
-        assert_shortage(rt, alloc, &mut text, limit, shortage);
+        let answer = shortage_played(rt, alloc, &mut text, limit, shortage);
+        count = and_list(count, i, answer)?;
     }
+    Ok(count)
 }
 
 /// Goes through each shortage with an inline-or-heap text of its own.
 fn assert_inline_shortages(rt: &impl Abort, alloc: Global, shortages: &[Shortage]) {
-    assert_shortages::<InlinableString>(rt, alloc, LIMIT, shortages);
+    let answer = shortages_played::<InlinableString>(rt, alloc, LIMIT, shortages);
+    assert_right(rt, answer);
 }
 
 /// Goes through each shortage with a `String` of its own.
 fn assert_string_shortages(rt: &impl Abort, alloc: Global, shortages: &[Shortage]) {
-    assert_shortages::<String>(rt, alloc, None, shortages);
+    assert_right(rt, shortages_played::<String>(rt, alloc, None, shortages));
 }
 
 /// Goes through each shortage with both.
@@ -113,7 +121,7 @@ fn assert_shortages_on_both(rt: &impl Abort, alloc: Global, shortages: &[Shortag
 fn assert_boxable_shortages(rt: &impl Abort, alloc: Global, shortages: &[Shortage]) {
     for shortage in shortages {
         let mut text = BoxableString(text_of(rt, alloc, shortage.room, shortage.start));
-        assert_shortage(rt, alloc, &mut text, LIMIT, shortage);
+        assert_right(rt, shortage_played(rt, alloc, &mut text, LIMIT, shortage));
     }
 }
 
@@ -124,22 +132,40 @@ const NEW_INLINE: Kind = Kind {
 };
 
 /// Plays each step on a text of its own, made new, while no memory can be had.
-fn assert_each_alone_without_memory<S: StringMake + Drop>(
+fn played_alone_without_memory<S: StringMake + Drop>(
+    rt: &impl Abort,
+    alloc: Global,
+    start: &str,
+    steps: &[Step],
+) -> Played {
+    let mut count = 0usize;
+    for (i, step) in steps.iter().enumerate() {
+        let mut text: S = text_of(rt, alloc, None, start);
+        let answer = played_without_memory(rt, alloc, &mut text, NEW_INLINE, &[*step]);
+        count = and_step(count, i, answer)?;
+    }
+    Ok(count)
+}
+
+/// Plays each step of each list on a text of its own, made new, while no memory can be had.
+pub fn each_played_alone_without_memory<S: StringMake + Drop>(
     rt: &impl Abort,
     alloc: Global,
     lists: &[(&str, &[Step])],
-) {
-    for &(start, steps) in lists {
-        for step in steps {
-            let mut text: S = text_of(rt, alloc, None, start);
-            assert_steps_without_memory(rt, alloc, &mut text, NEW_INLINE, &[*step]);
-        }
+) -> Played {
+    let mut count = 0usize;
+    for (i, &(start, steps)) in lists.iter().enumerate() {
+        let answer = played_alone_without_memory::<S>(rt, alloc, start, steps);
+        count = and_list(count, i, answer)?;
     }
+    Ok(count)
 }
 
 #[test]
 fn a_character_up_to_30_bytes_takes_no_memory(rt: HostRuntime) {
-    assert_each_alone_without_memory::<InlinableString>(&rt, rt.alloc(), CHARACTERS_THAT_FIT);
+    let (alloc, lists) = (rt.alloc(), CHARACTERS_THAT_FIT);
+    let answer = each_played_alone_without_memory::<InlinableString>(&rt, alloc, lists);
+    assert_right(&rt, answer);
 }
 
 /// When memory is back, the text is one to go on with.
@@ -366,29 +392,44 @@ fn a_text_comes_back_inline_without_memory(rt: HostRuntime) {
     assert_inline_shortages(&rt, rt.alloc(), COMING_BACK);
 }
 
-/// Makes a text while no memory can be had; one that is made lies inline.
-fn assert_made<S: StringMake + Drop>(
+/// Makes a text with this room while no memory can be had.
+fn made_without_memory<S: StringMake + Drop>(
     rt: &impl Abort,
     alloc: Global,
     capacity: usize,
-    is_granted: bool,
-) {
+) -> Option<S> {
     let hoard = all_memory(rt, alloc);
-    let made: Result<S, _> = S::with_capacity(alloc, capacity);
+    let made = S::with_capacity(alloc, capacity).ok();
     drop(hoard);
-    assert!(rt; made.is_ok() == is_granted, "at {capacity}");
-    if let Ok(text) = made {
-        assert_text(rt, &text, "", Storage::Inline);
-    }
+    made
 }
 
-/// Capacities, and whether a text is made with them.
-const MADE: &[(usize, bool)] = &[(0, true), (1, true), (30, true), (31, false), (40, false)];
+/// Capacities, and whether a text is made with them while no memory can be had.
+type MadeRow = (usize, bool);
 
-fn assert_each_made<S: StringMake + Drop>(rt: &impl Abort, alloc: Global, rows: &[(usize, bool)]) {
-    for &(capacity, is_granted) in rows {
-        assert_made::<S>(rt, alloc, capacity, is_granted);
+const MADE: &[MadeRow] = &[(0, true), (1, true), (30, true), (31, false), (40, false)];
+
+/// The first row that is wrong. A text that is made lies inline.
+pub fn wrong_made<S: StringMake + Drop>(
+    rt: &impl Abort,
+    alloc: Global,
+    rows: &[MadeRow],
+) -> Option<usize> {
+    for (i, &(capacity, is_granted)) in rows.iter().enumerate() {
+        let is_right = match made_without_memory::<S>(rt, alloc, capacity) {
+            Some(text) => is_granted && is_text(&text, "") && text.storage() == Storage::Inline,
+            None => !is_granted,
+        };
+        if !is_right {
+            return Some(i);
+        }
     }
+    None
+}
+
+fn assert_each_made<S: StringMake + Drop>(rt: &impl Abort, alloc: Global, rows: &[MadeRow]) {
+    let wrong = wrong_made::<S>(rt, alloc, rows);
+    assert!(rt; wrong.is_none(), "{wrong:?}");
 }
 
 /// Makes a new text while no memory can be had.
@@ -403,8 +444,8 @@ fn assert_new<S: StringMake + Drop>(rt: &impl Abort, alloc: Global, storage: Sto
 fn a_text_is_made_without_memory_where_its_room_is_inline(rt: HostRuntime) {
     let alloc = rt.alloc();
     assert_each_made::<InlinableString>(&rt, alloc, MADE);
-    assert_made::<InlinableStringN<0>>(&rt, alloc, 1, false);
-    assert_made::<String>(&rt, alloc, 1, false);
+    assert_each_made::<InlinableStringN<0>>(&rt, alloc, &[(1, false)]);
+    assert_each_made::<String>(&rt, alloc, &[(1, false)]);
     assert_new::<String>(&rt, alloc, Storage::Heap);
 }
 
@@ -432,7 +473,7 @@ fn as_many_bytes_as_the_limit_take_no_memory(rt: HostRuntime) {
     assert_filled_inline::<InlinableStringN<300>>(&rt, rt.alloc(), 300);
 }
 
-/// The calls that add four bytes, or room for them.
+/// The calls that add four bytes, or room for them, to a text of 36.
 const GROWTHS: &[Command] = &[
     Push('𝄞'),
     PushStr("𝄞"),
@@ -442,14 +483,16 @@ const GROWTHS: &[Command] = &[
     ReserveExact(4),
 ];
 
-/// Takes a text of 36 bytes past its limit, while one block of `size` bytes can be had.
-fn promoted_with_one_block<S: StringMake + Drop>(
+/// Gives a growth to a text of 36 letters, made as by `text_of`, while one block of `size` bytes can
+/// be had.
+fn reply_with_one_block<S: StringMake + Drop>(
     rt: &impl Abort,
     alloc: Global,
+    room: Option<usize>,
     size: usize,
     growth: Command,
 ) -> Reply {
-    let mut text: S = letters(rt, alloc, None, 36);
+    let mut text: S = letters(rt, alloc, room, 36);
     let block: Result<Vec<u8>, _> = Vec::with_capacity(alloc, size);
     let block = block.expect(rt, "memory");
     let hoard = all_memory(rt, alloc);
@@ -459,17 +502,32 @@ fn promoted_with_one_block<S: StringMake + Drop>(
     reply
 }
 
-/// Asserts the reply to each of the growths.
+/// How many of the growths have this reply, or the first that has another one.
+pub fn replies_with_one_block<S: StringMake + Drop>(
+    rt: &impl Abort,
+    alloc: Global,
+    size: usize,
+    wanted: Reply,
+) -> Result<usize, (usize, Reply)> {
+    let mut count = 0usize;
+    for (i, &growth) in GROWTHS.iter().enumerate() {
+        let reply = reply_with_one_block::<S>(rt, alloc, None, size, growth);
+        if reply != wanted {
+            return Err((i, reply));
+        }
+        count = count.saturating_add(1);
+    }
+    Ok(count)
+}
+
 fn assert_promotions<S: StringMake + Drop>(
     rt: &impl Abort,
     alloc: Global,
     size: usize,
     wanted: Reply,
 ) {
-    for (i, &growth) in GROWTHS.iter().enumerate() {
-        let reply = promoted_with_one_block::<S>(rt, alloc, size, growth);
-        assert!(rt; reply == wanted, "growth {i}");
-    }
+    let replies = replies_with_one_block::<S>(rt, alloc, size, wanted);
+    assert!(rt; replies == Ok(6), "{replies:?}");
 }
 
 // The C library has blocks of 24 bytes, of 40, of 56 and so on, so a request of 41 bytes would not

@@ -1,6 +1,6 @@
 //! Room: when a reservation goes to the heap, what it is good for, and when a text comes back.
 use crate::steps::Lies::{AsMade, OnHeap, Shrunk};
-use crate::steps::{Step, assert_each, assert_each_alone, assert_everywhere};
+use crate::steps::{Step, assert_each, assert_each_alone};
 use crate::texts::{LETTERS_30, LETTERS_31};
 use inlinable_string::run::Command::{Pop, Push, PushStr, Reserve, ReserveExact, ShrinkToFit};
 use inlinable_string::run::Reply::{Char, Done, NoMemory};
@@ -152,7 +152,7 @@ fn assert_too_large<S: StringMake + Drop>(rt: &impl Abort, alloc: Global) {
 /// Each kind of text is made with room for 0, 10, 30, 31 and 100 bytes.
 #[test]
 fn a_text_is_made_inline_with_room_for_up_to_30_bytes(rt: HostRuntime) {
-    assert_everywhere(&rt, rt.alloc(), "", &[]);
+    assert_each(&rt, rt.alloc(), &[("", &[])]);
     assert_too_large::<InlinableString>(&rt, rt.alloc());
     assert_too_large::<String>(&rt, rt.alloc());
 }

@@ -1,5 +1,8 @@
 //! Steps: a command, and the reply, the text and the storage that it must give. Tables of them are
 //! played on every kind of text, by the calls of the traits.
+ghost use Rattle.std.specs.Prelude.{◌≡◌, vec_len};
+
+use crate::played::{Fault, and_list, and_step, assert_right};
 use crate::texts::{
     assert_text, insert_at, insert_str_at, is_text, remove_at, text_of, truncate_at,
 };
@@ -11,6 +14,22 @@ use std::process::Abort;
 
 /// A command, the reply to it, the text after it, and where the text lies then.
 pub type Step<'a> = (Command<'a>, Reply, &'a str, Lies);
+
+/// What is wrong after a step.
+#[derive(Clone, Copy, Debug, PartialEq)]
+pub enum Wrong {
+    /// The reply, which is this.
+    Reply(Reply),
+    /// The text.
+    Text,
+    /// Where the text lies.
+    Storage,
+    /// The room that the text has there.
+    Room,
+}
+
+/// How many steps were right, or the first that was wrong.
+pub type Played = crate::played::Played<Wrong>;
 
 /// Where a text lies, in words that hold for each kind of text.
 #[derive(Clone, Copy)]
@@ -87,63 +106,93 @@ pub fn called<S: StringExt>(text: &mut S, command: Command) -> Reply {
     }
 }
 
-/// Whether a text that lies inline has room for its limit, and one whose reservation was granted
-/// has that room.
-fn has_room<S: StringExt>(text: &S, kind: Kind, command: Command, reply: Reply) -> bool {
-    let reserved = match command {
-        Command::Reserve(additional) | Command::ReserveExact(additional) => additional,
-        _ => 0,
-    };
-    let capacity = text.capacity();
-    let has_limit = text.storage() == Storage::Heap || kind.limit == Some(capacity);
-    let is_granted = reply == Reply::Done;
-    has_limit && (!is_granted || capacity.saturating_sub(text.len()) >= reserved)
+/// How many bytes a text has, and how many it has room for where it lies.
+#[derive(Clone, Copy)]
+pub struct Room {
+    pub storage: Storage,
+    pub len: usize,
+    pub capacity: usize,
 }
 
-/// Makes the call of a step, and tells the reply where the step is wrong: where the reply is another
-/// one, the text or its room is not what it must be, or the capacity is changed by a call that is
-/// not answered with `Done`.
-fn wrong_reply<S: StringExt>(
+/// Whether a text has the room that it must have after a command with this reply, where it had room
+/// for `before` bytes. No room is lost but by shrinking, which leaves a text on the heap less room
+/// where that had more than it needs, and what was reserved is there.
+pub fn has_room(before: usize, command: Command, reply: Reply, after: Room) -> bool {
+    let Room {
+        storage,
+        len,
+        capacity,
+    } = after;
+    if reply != Reply::Done {
+        return capacity == before;
+    }
+    match command {
+        Command::Reserve(additional) | Command::ReserveExact(additional) => {
+            capacity >= before && capacity.saturating_sub(len) >= additional
+        }
+        Command::ShrinkToFit => {
+            storage == Storage::Inline || capacity == len || capacity < before
+        }
+        _ => capacity >= before,
+    }
+}
+
+/// What is wrong where a text of this kind is to be this one, and to lie there. Inline it has room
+/// for its limit.
+fn wrong_text<S: StringExt>(text: &S, kind: Kind, content: &str, lies: Lies) -> Option<Wrong> {
+    let storage = text.storage();
+    if !is_text(text, content) {
+        Some(Wrong::Text)
+    } else if storage != storage_of(kind, lies) {
+        Some(Wrong::Storage)
+    } else if storage == Storage::Inline && kind.limit != Some(text.capacity()) {
+        Some(Wrong::Room)
+    } else {
+        None
+    }
+}
+
+/// Makes the call of a step, and tells what is wrong after it.
+fn wrong_after<S: StringExt>(
     text: &mut S,
     kind: Kind,
     &(command, reply, content, lies): &Step,
-) -> Option<Reply> {
-    let capacity = text.capacity();
+) -> Option<Wrong> {
+    let before = text.capacity();
     let given = called(text, command);
-    let is_right = given == reply
-        && is_text(text, content, storage_of(kind, lies))
-        && has_room(text, kind, command, reply)
-        && (reply == Reply::Done || text.capacity() == capacity);
-    if is_right { None } else { Some(given) }
-}
-
-/// Plays the steps up to the first that is wrong, and tells which that is, and the reply.
-pub fn first_wrong<S: StringExt>(
-    text: &mut S,
-    kind: Kind,
-    steps: &[Step],
-) -> Option<(usize, Reply)> {
-    for (i, step) in steps.iter().enumerate() {
-        if let Some(reply) = wrong_reply(text, kind, step) {
-            return Some((i, reply));
-        }
+    let room = Room {
+        storage: text.storage(),
+        len: text.len(),
+        capacity: text.capacity(),
+    };
+    if given != reply {
+        Some(Wrong::Reply(given))
+    } else if !has_room(before, command, reply, room) {
+        Some(Wrong::Room)
+    } else {
+        wrong_text(text, kind, content, lies)
     }
-    None
 }
 
-/// Asserts that none of the steps that led to this text was wrong.
-pub fn assert_none_wrong<S: StringExt>(rt: &impl Abort, text: &S, wrong: Option<(usize, Reply)>) {
-    let left = text.as_str();
-    assert!(rt;
-        wrong.is_none(),
-        "the step and its reply: {wrong:?}, the text: {left}"
-    );
+/// Plays the steps in turn, up to the first that is wrong.
+pub fn played<S: StringExt>(text: &mut S, kind: Kind, steps: &[Step]) -> Played {
+    let mut count = 0usize;
+    for (i, step) in steps.iter().enumerate() {
+        if let Some(wrong) = wrong_after(text, kind, step) {
+            return Err(Fault {
+                list: 0,
+                step: i,
+                wrong,
+            });
+        }
+        count = count.saturating_add(1);
+    }
+    Ok(count)
 }
 
 /// Plays the steps in turn.
 pub fn assert_steps<S: StringExt>(rt: &impl Abort, text: &mut S, kind: Kind, steps: &[Step]) {
-    let wrong = first_wrong(text, kind, steps);
-    assert_none_wrong(rt, text, wrong);
+    assert_right(rt, played(text, kind, steps));
 }
 
 /// Makes a text, and asserts that it is empty and lies where it is to lie.
@@ -162,63 +211,102 @@ fn lies_at(len: usize, limit: usize) -> Lies {
     }
 }
 
-/// Gives the text, which is empty, its start, asserts that it has the room that it was made with,
-/// and plays the steps.
-fn assert_begun<S: StringExt>(
-    rt: &impl Abort,
-    text: &mut S,
-    kind: Kind,
-    start: &str,
-    steps: &[Step],
-) {
+/// Gives the text, which is empty, its start, and plays the steps. A start that is wrong, or a text
+/// without the room that it was made with, is the fault of the first step.
+fn played_from<S: StringExt>(text: &mut S, kind: Kind, start: &str, steps: &[Step]) -> Played {
     let lies = lies_at(start.len(), kind.limit.unwrap_or(usize::MAX));
-    let begin = (Command::PushStr(start), Reply::Done, start, lies);
-    assert_steps(rt, text, kind, &[begin]);
-    assert!(rt; text.capacity() >= kind.room.unwrap_or(0));
-    assert_steps(rt, text, kind, steps);
+    played(
+        text,
+        kind,
+        &[(Command::PushStr(start), Reply::Done, start, lies)],
+    )?;
+    if text.capacity() < kind.room.unwrap_or(0) {
+        return Err(Fault {
+            list: 0,
+            step: 0,
+            wrong: Wrong::Room,
+        });
+    }
+    played(text, kind, steps)
 }
 
 /// Plays the steps on a text of this kind.
-pub fn assert_played<S: StringMake + Drop>(
+pub fn played_on_new<S: StringMake + Drop>(
     rt: &impl Abort,
     alloc: Global,
     kind: Kind,
     start: &str,
     steps: &[Step],
-) {
+) -> Played {
     let mut text: S = made(rt, alloc, kind);
-    assert_begun(rt, &mut text, kind, start, steps);
+    played_from(&mut text, kind, start, steps)
+}
+
+/// Plays the steps on a text of each of the library's types, made with this room.
+fn played_on_all(
+    rt: &impl Abort,
+    alloc: Global,
+    room: Option<usize>,
+    start: &str,
+    steps: &[Step],
+) -> Played {
+    let inline_or_heap = Kind {
+        limit: Some(30),
+        room,
+    };
+    let heap = Kind { limit: None, room };
+    let mut boxable = BoxableString(made(rt, alloc, inline_or_heap));
+    let in_box = played_from(&mut boxable, inline_or_heap, start, steps)?;
+    let inline = played_on_new::<InlinableString>(rt, alloc, inline_or_heap, start, steps)?;
+    let on_heap = played_on_new::<String>(rt, alloc, heap, start, steps)?;
+    Ok(in_box.saturating_add(inline).saturating_add(on_heap))
 }
 
 /// Plays the steps on a text of each of the library's types, made new and with each room.
-pub fn assert_everywhere(rt: &impl Abort, alloc: Global, start: &str, steps: &[Step]) {
+pub fn played_everywhere(rt: &impl Abort, alloc: Global, start: &str, steps: &[Step]) -> Played {
+    let mut count = 0usize;
     for &room in ROOMS {
-        let inline_or_heap = Kind {
-            limit: Some(30),
-            room,
-        };
-        assert_played::<InlinableString>(rt, alloc, inline_or_heap, start, steps);
-        let mut boxable = BoxableString(made(rt, alloc, inline_or_heap));
-        assert_begun(rt, &mut boxable, inline_or_heap, start, steps);
-        let heap = Kind { limit: None, room };
-        assert_played::<String>(rt, alloc, heap, start, steps);
+        let played = played_on_all(rt, alloc, room, start, steps)?;
+        count = count.saturating_add(played);
     }
+    Ok(count)
+}
+
+/// Plays each list of steps on texts that begin with its start.
+pub fn each_played(rt: &impl Abort, alloc: Global, lists: &[(&str, &[Step])]) -> Played {
+    let mut count = 0usize;
+    for (i, &(start, steps)) in lists.iter().enumerate() {
+        count = and_list(count, i, played_everywhere(rt, alloc, start, steps))?;
+    }
+    Ok(count)
+}
+
+/// Plays each step on texts of its own that begin with this start.
+fn played_alone(rt: &impl Abort, alloc: Global, start: &str, steps: &[Step]) -> Played {
+    let mut count = 0usize;
+    for (i, step) in steps.iter().enumerate() {
+        count = and_step(count, i, played_everywhere(rt, alloc, start, &[*step]))?;
+    }
+    Ok(count)
+}
+
+/// Plays each step on texts of its own that begin with the start of its list.
+pub fn each_played_alone(rt: &impl Abort, alloc: Global, lists: &[(&str, &[Step])]) -> Played {
+    let mut count = 0usize;
+    for (i, &(start, steps)) in lists.iter().enumerate() {
+        count = and_list(count, i, played_alone(rt, alloc, start, steps))?;
+    }
+    Ok(count)
 }
 
 /// Plays each list of steps on texts that begin with its start.
 pub fn assert_each(rt: &impl Abort, alloc: Global, lists: &[(&str, &[Step])]) {
-    for &(start, steps) in lists {
-        assert_everywhere(rt, alloc, start, steps);
-    }
+    assert_right(rt, each_played(rt, alloc, lists));
 }
 
 /// Plays each step on texts of its own that begin with the start of its list.
 pub fn assert_each_alone(rt: &impl Abort, alloc: Global, lists: &[(&str, &[Step])]) {
-    for &(start, steps) in lists {
-        for step in steps {
-            assert_everywhere(rt, alloc, start, &[*step]);
-        }
-    }
+    assert_right(rt, each_played_alone(rt, alloc, lists));
 }
 
 /// A text of this limit that is made new.
@@ -230,15 +318,28 @@ fn new_within(limit: usize) -> Kind {
 }
 
 /// Plays each list of steps on a text of this limit that is made new and begins with its start.
+pub fn each_played_within<S: StringMake + Drop>(
+    rt: &impl Abort,
+    alloc: Global,
+    limit: usize,
+    lists: &[(&str, &[Step])],
+) -> Played {
+    let mut count = 0usize;
+    for (i, &(start, steps)) in lists.iter().enumerate() {
+        let played = played_on_new::<S>(rt, alloc, new_within(limit), start, steps);
+        count = and_list(count, i, played)?;
+    }
+    Ok(count)
+}
+
+/// Plays each list of steps on a text of this limit that is made new and begins with its start.
 pub fn assert_each_within<S: StringMake + Drop>(
     rt: &impl Abort,
     alloc: Global,
     limit: usize,
     lists: &[(&str, &[Step])],
 ) {
-    for &(start, steps) in lists {
-        assert_played::<S>(rt, alloc, new_within(limit), start, steps);
-    }
+    assert_right(rt, each_played_within::<S>(rt, alloc, limit, lists));
 }
 
 /// The steps of a command that is given so many times to the empty text. Each makes it longer by
@@ -250,7 +351,9 @@ fn repeated<'a>(
     times: usize,
     whole: &'a str,
     limit: usize,
-) -> Vec<Step<'a>> {
+) -> Vec<Step<'a>>
+    ensures { vec_len result ≡ times }
+{
     let size = whole.len().checked_div(times).unwrap_or(0);
     let mut steps = Vec::new(alloc);
     for count in 1..=times {
@@ -260,6 +363,7 @@ fn repeated<'a>(
         let step = (command, Reply::Done, content, lies);
         steps.push(step).expect(rt, "memory");
     }
+    assert!(rt; steps.len() == times);
     steps
 }
 
@@ -280,7 +384,7 @@ pub fn assert_repeated_everywhere(
 ) {
     let whole = whole_of(rt, alloc, part, times);
     let steps = repeated(rt, alloc, command, times, whole.as_str(), 30);
-    assert_everywhere(rt, alloc, "", steps.as_slice());
+    assert_right(rt, played_everywhere(rt, alloc, "", steps.as_slice()));
 }
 
 /// Gives a command that adds `part` so many times to an empty text of this limit.
@@ -294,5 +398,9 @@ pub fn assert_repeated_within<S: StringMake + Drop>(
 ) {
     let whole = whole_of(rt, alloc, part, times);
     let steps = repeated(rt, alloc, command, times, whole.as_str(), limit);
-    assert_played::<S>(rt, alloc, new_within(limit), "", steps.as_slice());
+    let kind = new_within(limit);
+    assert_right(
+        rt,
+        played_on_new::<S>(rt, alloc, kind, "", steps.as_slice()),
+    );
 }

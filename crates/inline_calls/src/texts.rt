@@ -1,5 +1,8 @@
 //! What the tests share: texts with a given content, what is seen of a text, and the calls at a
 //! place, which here may be none.
+ghost use Rattle.std.specs.Prelude.{◌≡◌, IsTrue};
+ghost use Rattle.inlinable_string.specs.Text.{bytes_of};
+
 use inlinable_string::{Storage, StringExt, StringMake};
 use std::alloc::{AllocError, Global};
 use std::process::Abort;
@@ -53,22 +56,26 @@ pub fn letters<S: StringMake + Drop>(
     text
 }
 
-/// Whether the text is this and lies there, by all calls that look at it.
-pub fn is_text<S: StringExt>(text: &S, content: &str, storage: Storage) -> bool {
+/// Whether the text is this, by all calls that look at it.
+pub fn is_text<S: StringExt>(text: &S, content: &str) -> bool
+    ensures { IsTrue result → bytes_of (S.state text.now).text ≡ content.now }
+{
     text.as_str() == content
         && text.as_bytes() == content.as_bytes()
         && text.len() == content.len()
         && text.is_empty() == content.is_empty()
-        && text.storage() == storage
         && text.capacity() >= content.len()
 }
 
 /// Asserts what the text is and where it lies.
-pub fn assert_text<S: StringExt>(rt: &impl Abort, text: &S, content: &str, storage: Storage) {
-    let given = text.as_str();
+pub fn assert_text<S: StringExt>(rt: &impl Abort, text: &S, content: &str, storage: Storage)
+    ensures text { bytes_of (S.state text.now).text ≡ content.now }
+    ensures storage { (S.state text.now).storage ≡ storage }
+{
+    let (given, lies) = (text.as_str(), text.storage());
     assert!(rt;
-        is_text(text, content, storage),
-        "{given} is not {content}, or lies elsewhere"
+        is_text(text, content) && lies == storage,
+        "{given}, {lies:?}, is not {content}, {storage:?}"
     );
 }
 

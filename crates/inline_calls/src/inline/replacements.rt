@@ -3,7 +3,7 @@ ghost use Rattle.std.specs.Prelude.{◌≤◌};
 
 use super::edits::Answer::{self, Done, NotUtf8, WrongLength};
 use super::edits::Edit::ReplaceBytes;
-use super::edits::{Step, apply, check_each};
+use super::edits::{Step, apply, assert_each};
 use super::{letters, letters_around};
 use std::process::Abort;
 
@@ -24,7 +24,7 @@ const REPLACED: &[(&str, &[Step])] = &[
 
 #[test]
 fn bytes_take_the_place_of_those_of_the_text(rt: HostRuntime) {
-    check_each::<30>(&rt, REPLACED);
+    assert_each::<30>(&rt, REPLACED);
 }
 
 const WRONG_LENGTH: &[(&str, &[Step])] = &[
@@ -66,33 +66,44 @@ const WITHIN_0: &[(&str, &[Step])] = &[(
 
 #[test]
 fn the_number_of_bytes_is_tested_before_they_are(rt: HostRuntime) {
-    check_each::<30>(&rt, WRONG_LENGTH);
-    check_each::<0>(&rt, WITHIN_0);
+    assert_each::<30>(&rt, WRONG_LENGTH);
+    assert_each::<0>(&rt, WITHIN_0);
 }
 
 /// Puts bytes in the place of as many letters that fill a text: from `at` on those of `sequence`,
-/// letters else.
-fn check_replaced_at<const N: usize>(rt: &impl Abort, sequence: &[u8], at: usize, answer: Answer)
+/// letters else. Whether it has this answer, and the bytes are as it says.
+pub fn is_replaced_at<const N: usize>(
+    rt: &impl Abort,
+    sequence: &[u8],
+    at: usize,
+    answer: Answer,
+) -> bool
     requires { N ≤ 300 }
 {
     let bytes: [u8; N] = letters_around(rt, at, sequence);
     let mut text = letters::<N>(rt, N);
     let given = apply(&mut text, ReplaceBytes(&bytes));
     let left = if answer == Done { bytes } else { [b'a'; N] };
+    given == answer && text.into_bytes() == left
+}
+
+fn assert_replaced_at<const N: usize>(rt: &impl Abort, sequence: &[u8], at: usize, answer: Answer)
+    requires { N ≤ 300 }
+{
     assert!(rt;
-        given == answer && text.into_bytes() == left,
+        is_replaced_at::<N>(rt, sequence, at, answer),
         "{sequence:?} from {at}"
     );
 }
 
 /// At both ends of a text, and in its middle.
-fn check_replaced(rt: &impl Abort, sequence: &[u8], answer: Answer) {
-    check_replaced_at::<5>(rt, sequence, 0, answer);
-    check_replaced_at::<5>(rt, sequence, 1, answer);
+fn assert_replaced(rt: &impl Abort, sequence: &[u8], answer: Answer) {
+    assert_replaced_at::<5>(rt, sequence, 0, answer);
+    assert_replaced_at::<5>(rt, sequence, 1, answer);
     assert!(rt; sequence.len() <= 30);
-    check_replaced_at::<30>(rt, sequence, 0, answer);
-    check_replaced_at::<30>(rt, sequence, 13, answer);
-    check_replaced_at::<30>(rt, sequence, 30 - sequence.len(), answer);
+    assert_replaced_at::<30>(rt, sequence, 0, answer);
+    assert_replaced_at::<30>(rt, sequence, 13, answer);
+    assert_replaced_at::<30>(rt, sequence, 30 - sequence.len(), answer);
 }
 
 /// The byte ranges of a character's UTF-8, from its first byte on.
@@ -124,7 +135,7 @@ fn sequence_of(ranges: &[(u8, u8)], takes_last: bool, changed: Option<(usize, u8
 }
 
 /// Puts that sequence in the place of letters.
-fn check_sequence(
+fn assert_sequence(
     rt: &impl Abort,
     ranges: &[(u8, u8)],
     takes_last: bool,
@@ -133,64 +144,64 @@ fn check_sequence(
 ) {
     let sequence = sequence_of(ranges, takes_last, changed);
     assert!(rt; ranges.len() <= sequence.len());
-    check_replaced(rt, &sequence[..ranges.len()], answer);
+    assert_replaced(rt, &sequence[..ranges.len()], answer);
 }
 
 /// Bytes at the ends of each range.
-fn check_ends(rt: &impl Abort, ranges: &[(u8, u8)], takes_last: bool) {
-    check_sequence(rt, ranges, takes_last, None, Done);
+fn assert_ends(rt: &impl Abort, ranges: &[(u8, u8)], takes_last: bool) {
+    assert_sequence(rt, ranges, takes_last, None, Done);
     for (i, &(first, last)) in ranges.iter().enumerate() {
-        check_sequence(rt, ranges, takes_last, Some((i, first)), Done);
-        check_sequence(rt, ranges, takes_last, Some((i, last)), Done);
+        assert_sequence(rt, ranges, takes_last, Some((i, first)), Done);
+        assert_sequence(rt, ranges, takes_last, Some((i, last)), Done);
     }
 }
 
 #[test]
 fn bytes_at_the_ends_of_each_range_are_taken(rt: HostRuntime) {
     for ranges in RANGES {
-        check_ends(&rt, ranges, false);
-        check_ends(&rt, ranges, true);
+        assert_ends(&rt, ranges, false);
+        assert_ends(&rt, ranges, true);
     }
 }
 
 /// Bytes beside the ends of each range but the first byte's.
-fn check_outside(rt: &impl Abort, ranges: &[(u8, u8)], takes_last: bool) {
+fn assert_outside(rt: &impl Abort, ranges: &[(u8, u8)], takes_last: bool) {
     for (i, &(first, last)) in ranges.iter().enumerate().skip(1) {
         let before = first.wrapping_sub(1);
-        check_sequence(rt, ranges, takes_last, Some((i, before)), NotUtf8);
+        assert_sequence(rt, ranges, takes_last, Some((i, before)), NotUtf8);
         let after = last.wrapping_add(1);
-        check_sequence(rt, ranges, takes_last, Some((i, after)), NotUtf8);
+        assert_sequence(rt, ranges, takes_last, Some((i, after)), NotUtf8);
     }
 }
 
 /// The sequence ends too early.
-fn check_cut_short(rt: &impl Abort, ranges: &[(u8, u8)], takes_last: bool) {
+fn assert_cut_short(rt: &impl Abort, ranges: &[(u8, u8)], takes_last: bool) {
     for end in 1..ranges.len() {
-        check_sequence(rt, &ranges[..end], takes_last, None, NotUtf8);
+        assert_sequence(rt, &ranges[..end], takes_last, None, NotUtf8);
     }
 }
 
 #[test]
 fn bytes_just_outside_of_a_range_are_refused(rt: HostRuntime) {
     for ranges in RANGES {
-        check_outside(&rt, ranges, false);
-        check_outside(&rt, ranges, true);
-        check_cut_short(&rt, ranges, false);
-        check_cut_short(&rt, ranges, true);
+        assert_outside(&rt, ranges, false);
+        assert_outside(&rt, ranges, true);
+        assert_cut_short(&rt, ranges, false);
+        assert_cut_short(&rt, ranges, true);
     }
 }
 
-fn check_first_bytes_refused(rt: &impl Abort, first: u8, last: u8) {
+fn assert_first_bytes_refused(rt: &impl Abort, first: u8, last: u8) {
     for byte in first..=last {
-        check_replaced(rt, &[byte, b'a', b'a', b'a'], NotUtf8);
-        check_replaced(rt, &[byte, 0x80, 0x80, 0x80], NotUtf8);
+        assert_replaced(rt, &[byte, b'a', b'a', b'a'], NotUtf8);
+        assert_replaced(rt, &[byte, 0x80, 0x80, 0x80], NotUtf8);
     }
 }
 
 #[test]
 fn a_byte_that_begins_no_character_is_refused(rt: HostRuntime) {
-    check_first_bytes_refused(&rt, 0x80, 0xC1);
-    check_first_bytes_refused(&rt, 0xF5, 0xFF);
+    assert_first_bytes_refused(&rt, 0x80, 0xC1);
+    assert_first_bytes_refused(&rt, 0xF5, 0xFF);
 }
 
 const ILL_FORMED: &[&[u8]] = &[
@@ -234,21 +245,21 @@ const REPLACED_AT_300: &[ReplacedRow] = &[
     (b"\xF0\x9D\x84\x9E", 296, Done),
 ];
 
-fn check_each_replaced<const N: usize>(rt: &impl Abort, rows: &[ReplacedRow])
+fn assert_each_replaced<const N: usize>(rt: &impl Abort, rows: &[ReplacedRow])
     requires { N ≤ 300 }
 {
     for &(sequence, at, answer) in rows {
-        check_replaced_at::<N>(rt, sequence, at, answer);
+        assert_replaced_at::<N>(rt, sequence, at, answer);
     }
 }
 
 #[test]
 fn ill_formed_bytes_of_every_kind_are_refused(rt: HostRuntime) {
     for sequence in ILL_FORMED {
-        check_replaced(&rt, sequence, NotUtf8);
+        assert_replaced(&rt, sequence, NotUtf8);
     }
-    check_each_replaced::<4>(&rt, REPLACED_AT_4);
-    check_each_replaced::<3>(&rt, REPLACED_AT_3);
-    check_each_replaced::<1>(&rt, REPLACED_AT_1);
-    check_each_replaced::<300>(&rt, REPLACED_AT_300);
+    assert_each_replaced::<4>(&rt, REPLACED_AT_4);
+    assert_each_replaced::<3>(&rt, REPLACED_AT_3);
+    assert_each_replaced::<1>(&rt, REPLACED_AT_1);
+    assert_each_replaced::<300>(&rt, REPLACED_AT_300);
 }
