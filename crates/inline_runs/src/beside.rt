@@ -1,5 +1,10 @@
 //! Runs of the code with the plain program beside them.
-ghost use Rattle.std.specs.Prelude.{◌≡◌, length};
+//!
+//! What plays a table answers what is wrong, and small functions assert that nothing is. So tests of
+//! the tests (`wrong_rows`) can play rows that are wrong in one value.
+ghost use Rattle.std.specs.Prelude.{◌≡◌, length, IsNone, IsOk};
+ghost use Rattle.inlinable_string.specs.Run.{LegalReplies, state_after};
+ghost use Rattle.inline_vectors.specs.Plain.{state_of, IsSeenAs};
 
 use inlinable_string::run::{Command, Reply, run, run_dyn};
 use inlinable_string::{Storage, StringExt};
@@ -22,42 +27,117 @@ pub fn before(rt: &impl Abort, alloc: Global, start: Seen<'_>, policy: Policy) -
     made.expect(rt, "memory for the plain text")
 }
 
-/// Asserts that the replies are legal to the plain program, and that it ends with the same text,
-/// in the same storage, in no more room.
-pub fn after(
+/// What is wrong after a run.
+#[derive(Clone, Copy, Debug, PartialEq)]
+pub enum Wrong {
+    /// What the plain program says of the replies and of the text.
+    Verdict(Verdict),
+    /// A reply is another one than is known.
+    Replies,
+    /// The text is another one than is known.
+    Text,
+    /// It lies elsewhere.
+    Storage,
+    /// Inline it has other room than its limit.
+    Room,
+}
+
+/// The first run of a table that is wrong: the number of its row, how many commands of that it had,
+/// and what is wrong after it.
+#[derive(Clone, Copy, Debug, PartialEq)]
+pub struct Fault {
+    pub row: usize,
+    pub count: usize,
+    pub wrong: Wrong,
+}
+
+/// How many runs of a table were made, each of them right, or the first that was wrong.
+pub type Runs = Result<usize, Fault>;
+
+/// Asserts that no run of a table was wrong.
+pub fn assert_runs(rt: &impl Abort, runs: Runs)
+    ensures { IsOk runs }
+{
+    assert!(rt; runs.is_ok(), "{runs:?}");
+}
+
+/// Asserts that nothing is wrong after a run, which is told by its start.
+pub fn assert_right(rt: &impl Abort, wrong: Option<Wrong>, start: &str)
+    ensures { IsNone wrong }
+{
+    assert!(rt; wrong.is_none(), "{wrong:?} from {start}");
+}
+
+/// What is wrong where the replies are to be legal to the plain program, and it is to end with the
+/// same text, in the same storage, in no more room.
+pub fn wrong_verdict(
     rt: &impl Abort,
     alloc: Global,
     start: PlainText,
     commands: &[Command],
     replies: &[Reply],
     end: Seen<'_>,
-) {
+) -> Option<Wrong>
+    ensures replies { IsNone result → LegalReplies (state_of start) commands.now replies.now }
+    ensures end { IsNone result
+        → IsSeenAs end.entry (state_after (state_of start) commands.now replies.now) }
+{
     let verdict = judged(alloc, start, commands, replies, end);
     let verdict = verdict.expect(rt, "memory for the plain program");
-    assert!(rt; verdict == Verdict::Agrees, "{verdict:?} after {replies:?}");
+    if verdict == Verdict::Agrees {
+        None
+    } else {
+        Some(Wrong::Verdict(verdict))
+    }
 }
 
-/// Asserts what is known of a run, and tells of which run and its replies where it does not hold.
-pub fn check_that(rt: &impl Abort, holds: bool, of_run: &str, replies: &[Reply]) {
-    assert!(rt; holds, "{of_run}: {replies:?}");
+/// What is wrong where this text is to be seen, and there. Inline it has room for as many bytes as
+/// the limit.
+pub fn wrong_end(policy: Policy, end: Seen<'_>, string: &str, storage: Storage) -> Option<Wrong>
+    ensures text { IsNone result → end.entry.string.now ≡ string.now }
+    ensures storage { IsNone result → end.entry.storage ≡ storage }
+{
+    if end.string != string {
+        Some(Wrong::Text)
+    } else if end.storage != storage {
+        Some(Wrong::Storage)
+    } else if storage == Storage::Inline && end.capacity != policy.limit {
+        Some(Wrong::Room)
+    } else {
+        None
+    }
 }
 
-/// Asserts the text that is seen after these replies, and where it lies. Inline it has room for as
-/// many bytes as the limit.
-pub fn check_seen(
+/// Runs the commands on the text, with the plain program beside it.
+pub fn wrong_run<S: StringExt>(
     rt: &impl Abort,
+    alloc: Global,
+    text: &mut S,
     policy: Policy,
-    replies: &[Reply],
-    end: Seen<'_>,
-    string: &str,
-    storage: Storage,
-) {
-    let (seen, lies) = (end.string, end.storage);
-    let has_room = lies == Storage::Heap || end.capacity == policy.limit;
-    assert!(rt;
-        seen == string && lies == storage && has_room,
-        "{seen} is {lies:?} after {replies:?}"
-    );
+    commands: &[Command],
+    replies: &mut [Reply],
+) -> Option<Wrong>
+    requires { length replies.old ≡ length commands.now }
+{
+    let start = before(rt, alloc, seen_of(text), policy);
+    run(text, commands, replies);
+    wrong_verdict(rt, alloc, start, commands, replies, seen_of(text))
+}
+
+/// Runs the commands on the text behind the `dyn`, with the plain program beside it.
+pub fn wrong_run_dyn(
+    rt: &impl Abort,
+    alloc: Global,
+    text: &mut dyn StringExt,
+    policy: Policy,
+    commands: &[Command],
+    replies: &mut [Reply],
+) -> Option<Wrong>
+    requires { length replies.old ≡ length commands.now }
+{
+    let start = before(rt, alloc, seen_of_dyn(text), policy);
+    run_dyn(text, commands, replies);
+    wrong_verdict(rt, alloc, start, commands, replies, seen_of_dyn(text))
 }
 
 /// Runs the commands on the text, with the plain program beside it.
@@ -71,9 +151,8 @@ pub fn run_beside<S: StringExt>(
 )
     requires { length replies.old ≡ length commands.now }
 {
-    let start = before(rt, alloc, seen_of(text), policy);
-    run(text, commands, replies);
-    after(rt, alloc, start, commands, replies, seen_of(text));
+    let wrong = wrong_run(rt, alloc, text, policy, commands, replies);
+    assert_right(rt, wrong, "a run");
 }
 
 /// Runs one command on the text, with the plain program beside it. Answers the reply.
@@ -87,20 +166,4 @@ pub fn run_one_beside<S: StringExt>(
     let mut replies = [Reply::NoMemory];
     run_beside(rt, alloc, text, policy, &[command], &mut replies);
     replies[0]
-}
-
-/// Runs the commands on the text behind the `dyn`, with the plain program beside it.
-pub fn run_dyn_beside(
-    rt: &impl Abort,
-    alloc: Global,
-    text: &mut dyn StringExt,
-    policy: Policy,
-    commands: &[Command],
-    replies: &mut [Reply],
-)
-    requires { length replies.old ≡ length commands.now }
-{
-    let start = before(rt, alloc, seen_of_dyn(text), policy);
-    run_dyn(text, commands, replies);
-    after(rt, alloc, start, commands, replies, seen_of_dyn(text));
 }

@@ -1,6 +1,6 @@
 //! Runs whose replies and texts are known from outside.
 use Storage::{Heap, Inline};
-use Verdict::{Agrees, IllegalReply};
+use Verdict::{Agrees, IllegalReply, OtherEnd};
 use inlinable_string::Storage;
 use inlinable_string::run::Command::{
     self, Clear, Insert, InsertStr, Pop, Push, PushStr, Remove, ReplaceBytes, Reserve,
@@ -46,7 +46,7 @@ const THIRDS: &[Other] = &[
 #[test]
 fn follows_six_commands(rt: HostRuntime) -> Result<(), Fail> {
     let (commands, replies) = (SIX_COMMANDS, SIX_REPLIES);
-    check_others(&rt, rt.alloc(), "", commands, replies, SIX_END, THIRDS);
+    assert_others(&rt, rt.alloc(), "", commands, replies, SIX_END, THIRDS);
     Ok(())
 }
 
@@ -136,14 +136,42 @@ const OTHERS: &[Other] = &[
 fn follows_all_commands(rt: HostRuntime) -> Result<(), Fail> {
     let alloc = rt.alloc();
     let (long, long_replies) = (&COMMANDS[..LONG], &REPLIES[..LONG]);
-    check_verdict(&rt, alloc, "a", long, long_replies, LONG_END, Agrees);
-    check_verdict(&rt, alloc, "a", COMMANDS, REPLIES, WHOLE_END, Agrees);
-    check_others(&rt, alloc, "a", COMMANDS, REPLIES, WHOLE_END, OTHERS);
+    let of_long = verdict_of(&rt, alloc, "a", long, long_replies, LONG_END);
+    let of_whole = verdict_of(&rt, alloc, "a", COMMANDS, REPLIES, WHOLE_END);
+    assert!(rt;
+        (of_long, of_whole) == (Agrees, Agrees),
+        "{of_long:?}, {of_whole:?}"
+    );
+    assert_others(&rt, alloc, "a", COMMANDS, REPLIES, WHOLE_END, OTHERS);
     Ok(())
 }
 
+/// The first of the other replies of which the plain program says something else, and what.
+fn wrong_other(
+    rt: &impl Abort,
+    alloc: Global,
+    start: &str,
+    commands: &[Command],
+    replies: &[Reply],
+    end: Seen<'_>,
+    others: &[Other],
+) -> Option<(usize, Verdict)> {
+    for (i, &(index, reply, storage, wanted)) in others.iter().enumerate() {
+        let replies = replies.to_vec(alloc);
+        let mut replies = replies.expect(rt, "memory for the replies");
+        let other = replies.get_mut(index);
+        *other.expect(rt, "a reply of this index") = reply;
+        let end = Seen { storage, ..end };
+        let verdict = verdict_of(rt, alloc, start, commands, &replies, end);
+        if verdict != wanted {
+            return Some((i, verdict));
+        }
+    }
+    None
+}
+
 /// Asserts what the plain program says of a run once for each other reply.
-fn check_others(
+fn assert_others(
     rt: &impl Abort,
     alloc: Global,
     start: &str,
@@ -152,29 +180,41 @@ fn check_others(
     end: Seen<'_>,
     others: &[Other],
 ) {
-    for &(index, reply, storage, wanted) in others {
-        let replies = replies.to_vec(alloc);
-        let mut replies = replies.expect(rt, "memory for the replies");
-        let other = replies.get_mut(index);
-        *other.expect(rt, "a reply of this index") = reply;
-        let end = Seen { storage, ..end };
-        check_verdict(rt, alloc, start, commands, &replies, end, wanted);
-    }
+    let wrong = wrong_other(rt, alloc, start, commands, replies, end, others);
+    assert!(rt; wrong.is_none(), "{wrong:?}");
 }
 
-/// Asserts what the plain program says of a run that begins with this text, inline.
-fn check_verdict(
+/// What the plain program says of a run that begins with this text, inline.
+fn verdict_of(
     rt: &impl Abort,
     alloc: Global,
     start: &str,
     commands: &[Command],
     replies: &[Reply],
     end: Seen<'_>,
-    wanted: Verdict,
-) {
+) -> Verdict {
     let start = plain_from(alloc, start, Inline, 30, true, 30);
     let start = start.expect(rt, "memory for the plain text");
     let verdict = judged(alloc, start, commands, replies, end);
-    let verdict = verdict.expect(rt, "memory for the plain program");
-    assert!(rt; verdict == wanted, "{verdict:?} of {replies:?}");
+    verdict.expect(rt, "memory for the plain program")
+}
+
+/// The same rows with one other verdict: that of the first, or of the last.
+const WRONG_OTHERS: &[&[Other]] = &[
+    &[(2, Done, Heap, IllegalReply), (2, NoMemory, Inline, Agrees)],
+    &[(2, NoMemory, Inline, OtherEnd), (2, Done, Heap, Agrees)],
+    &[(2, BadPlace, Inline, Agrees), (2, Done, Heap, Agrees)],
+];
+
+/// A test of the test: what the plain program says of each first row is another verdict.
+#[test]
+fn a_verdict_that_a_row_does_not_have_is_found(rt: HostRuntime) {
+    let (commands, replies) = (SIX_COMMANDS, SIX_REPLIES);
+    for (rows, verdict) in WRONG_OTHERS.iter().zip([Agrees, Agrees, IllegalReply]) {
+        let wrong = wrong_other(&rt, rt.alloc(), "", commands, replies, SIX_END, rows);
+        assert!(rt; wrong == Some((0, verdict)), "{wrong:?}");
+    }
+    let last = &[THIRDS[0], THIRDS[1], (2, BadPlace, Inline, OtherEnd)];
+    let wrong = wrong_other(&rt, rt.alloc(), "", commands, replies, SIX_END, last);
+    assert!(rt; wrong == Some((2, IllegalReply)), "{wrong:?}");
 }

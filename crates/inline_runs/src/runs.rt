@@ -1,7 +1,10 @@
 //! Rows by `run` and `run_dyn`, with memory that is never refused.
 ghost use Rattle.std.specs.Prelude.{◌≤◌, length};
 
-use crate::beside::{check_seen, check_that, run_beside, run_dyn_beside, run_one_beside};
+use crate::beside::{
+    Fault, Runs, Wrong, assert_right, assert_runs, run_one_beside, wrong_end, wrong_run,
+    wrong_run_dyn,
+};
 use inlinable_string::run::Command::{
     self, Clear, Insert, InsertStr, Pop, Push, PushStr, Remove, ReplaceBytes, Reserve,
     ReserveExact, ShrinkToFit, Truncate,
@@ -20,6 +23,7 @@ mod generated;
 mod memory;
 mod own;
 mod rows;
+mod wrong_rows;
 
 use Storage::{Heap, Inline};
 use rows::{AT_0, AT_3, AT_4, AT_30, MOST_STEPS, Row, Step};
@@ -59,22 +63,8 @@ fn made_of<S: StringMake + Drop>(
     text
 }
 
-/// Runs the first steps of a row on a text made for it, and then one more, and so on to the whole.
-fn check_row<S: StringMake + Drop>(
-    rt: &impl Abort,
-    alloc: Global,
-    policy: Policy,
-    row_limit: usize,
-    row: Row,
-) {
-    for count in 0..row.2.len() + 1 {
-        let mut text: S = made(rt, alloc, row.0);
-        check_steps(rt, alloc, &mut text, policy, row_limit, row, count);
-    }
-}
-
 /// Runs so many steps of a row on an empty text made for it.
-fn check_steps<S: StringExt>(
+fn wrong_steps<S: StringExt>(
     rt: &impl Abort,
     alloc: Global,
     text: &mut S,
@@ -82,27 +72,36 @@ fn check_steps<S: StringExt>(
     row_limit: usize,
     row: Row,
     count: usize,
-) {
+) -> Option<Wrong> {
     let (_, start, steps, _) = row;
     assert!(rt; text.push_str(start).is_ok());
     assert!(rt; count <= steps.len() && steps.len() <= MOST_STEPS);
     let (commands, wanted) = parted(steps);
     let mut room = [NoMemory; MOST_STEPS];
     let replies = &mut room[..count];
-    run_beside(rt, alloc, text, policy, &commands[..count], replies);
-    let (wanted, end) = (&wanted[..count], seen_of(text));
-    check_end(rt, policy, row_limit, row, wanted, replies, end);
+    let wrong = wrong_run(rt, alloc, text, policy, &commands[..count], replies);
+    if wrong.is_some() {
+        return wrong;
+    }
+    wrong_after(
+        policy,
+        row_limit,
+        row,
+        &wanted[..count],
+        replies,
+        seen_of(text),
+    )
 }
 
 /// Runs the whole of a row on an empty text behind a `dyn`, made for it.
-fn check_row_dyn(
+fn wrong_row_dyn(
     rt: &impl Abort,
     alloc: Global,
     text: &mut dyn StringExt,
     policy: Policy,
     row_limit: usize,
     row: Row,
-) {
+) -> Option<Wrong> {
     let (_, start, steps, _) = row;
     assert!(rt; text.push_str(start).is_ok());
     let count = steps.len();
@@ -110,9 +109,12 @@ fn check_row_dyn(
     let (commands, wanted) = parted(steps);
     let mut room = [NoMemory; MOST_STEPS];
     let replies = &mut room[..count];
-    run_dyn_beside(rt, alloc, text, policy, &commands[..count], replies);
-    let (wanted, end) = (&wanted[..count], seen_of_dyn(text));
-    check_end(rt, policy, row_limit, row, wanted, replies, end);
+    let wrong = wrong_run_dyn(rt, alloc, text, policy, &commands[..count], replies);
+    if wrong.is_some() {
+        return wrong;
+    }
+    let end = seen_of_dyn(text);
+    wrong_after(policy, row_limit, row, &wanted[..count], replies, end)
 }
 
 /// Where a text lies after these steps of a row: what is not told is as it was seen.
@@ -126,50 +128,106 @@ fn wanted_storage(policy: Policy, row_limit: usize, steps: &[Step], seen: Storag
     }
 }
 
-/// Asserts the replies to the first steps of a row, and what it tells of a text after them.
-fn check_end(
-    rt: &impl Abort,
+/// What is wrong with the replies to the first steps of a row, or with what it tells of a text after
+/// them.
+fn wrong_after(
     policy: Policy,
     row_limit: usize,
     row: Row,
     wanted: &[Reply],
     replies: &[Reply],
     end: Seen<'_>,
-) {
-    let (_, start, steps, last) = row;
+) -> Option<Wrong> {
+    let (_, _, steps, last) = row;
+    if replies != wanted {
+        return Some(Wrong::Replies);
+    }
     let count = replies.len();
-    check_that(rt, replies == wanted, start, replies);
-    assert!(rt; count <= steps.len());
     let string = if count == steps.len() {
         last
     } else {
         end.string
     };
-    let storage = wanted_storage(policy, row_limit, &steps[..count], end.storage);
-    check_seen(rt, policy, replies, end, string, storage);
+    let steps = steps.get(..count).unwrap_or(steps);
+    let storage = wanted_storage(policy, row_limit, steps, end.storage);
+    wrong_end(policy, end, string, storage)
 }
 
-fn check_rows<S: StringMake + Drop>(
+/// Runs the first steps of a row on a text made for it, and then one more, and so on to the whole.
+/// Answers how many runs were right, and what is wrong after the next one.
+fn right_runs<S: StringMake + Drop>(
+    rt: &impl Abort,
+    alloc: Global,
+    policy: Policy,
+    row_limit: usize,
+    row: Row,
+) -> (usize, Option<Wrong>) {
+    let mut right = 0usize;
+    for count in 0..=row.2.len() {
+        let mut text: S = made(rt, alloc, row.0);
+        let wrong = wrong_steps(rt, alloc, &mut text, policy, row_limit, row, count);
+        if wrong.is_some() {
+            return (right, wrong);
+        }
+        right = right.saturating_add(1);
+    }
+    (right, None)
+}
+
+/// Makes the runs of each row.
+fn runs_of<S: StringMake + Drop>(
+    rt: &impl Abort,
+    alloc: Global,
+    policy: Policy,
+    row_limit: usize,
+    rows: &[Row],
+) -> Runs {
+    let mut runs = 0usize;
+    for (i, row) in rows.iter().enumerate() {
+        let (count, wrong) = right_runs::<S>(rt, alloc, policy, row_limit, *row);
+        if let Some(wrong) = wrong {
+            return Err(Fault {
+                row: i,
+                count,
+                wrong,
+            });
+        }
+        runs = runs.saturating_add(count);
+    }
+    Ok(runs)
+}
+
+fn assert_rows<S: StringMake + Drop>(
     rt: &impl Abort,
     alloc: Global,
     policy: Policy,
     row_limit: usize,
     rows: &[Row],
 ) {
-    for row in rows {
-        check_row::<S>(rt, alloc, policy, row_limit, *row);
-    }
+    assert_runs(rt, runs_of::<S>(rt, alloc, policy, row_limit, rows));
+}
+
+fn assert_row_dyn(
+    rt: &impl Abort,
+    alloc: Global,
+    text: &mut dyn StringExt,
+    policy: Policy,
+    row_limit: usize,
+    row: Row,
+) {
+    let wrong = wrong_row_dyn(rt, alloc, text, policy, row_limit, row);
+    assert_right(rt, wrong, row.1);
 }
 
 #[test]
 fn each_row_on_every_kind_of_text(rt: HostRuntime) -> Result<(), Fail> {
     let alloc = rt.alloc();
     let rows = AT_30;
-    check_rows::<InlinableString>(&rt, alloc, inlinable(30), 30, rows);
-    check_rows::<InlinableStringN<0>>(&rt, alloc, inlinable(0), 30, rows);
-    check_rows::<InlinableStringN<8>>(&rt, alloc, inlinable(8), 30, rows);
-    check_rows::<InlinableStringN<300>>(&rt, alloc, inlinable(300), 30, rows);
-    check_rows::<String>(&rt, alloc, HEAP, 30, rows);
+    assert_rows::<InlinableString>(&rt, alloc, inlinable(30), 30, rows);
+    assert_rows::<InlinableStringN<0>>(&rt, alloc, inlinable(0), 30, rows);
+    assert_rows::<InlinableStringN<8>>(&rt, alloc, inlinable(8), 30, rows);
+    assert_rows::<InlinableStringN<300>>(&rt, alloc, inlinable(300), 30, rows);
+    assert_rows::<String>(&rt, alloc, HEAP, 30, rows);
     Ok(())
 }
 
@@ -178,13 +236,13 @@ fn each_row_on_a_text_behind_a_dyn(rt: HostRuntime) -> Result<(), Fail> {
     let alloc = rt.alloc();
     for &row in AT_30 {
         let mut text: InlinableString = made(&rt, alloc, row.0);
-        check_row_dyn(&rt, alloc, &mut text, inlinable(30), 30, row);
+        assert_row_dyn(&rt, alloc, &mut text, inlinable(30), 30, row);
         let mut text: String = made(&rt, alloc, row.0);
-        check_row_dyn(&rt, alloc, &mut text, HEAP, 30, row);
+        assert_row_dyn(&rt, alloc, &mut text, HEAP, 30, row);
     }
     for &row in AT_0 {
         let mut text: InlinableStringN<0> = made(&rt, alloc, row.0);
-        check_row_dyn(&rt, alloc, &mut text, inlinable(0), 0, row);
+        assert_row_dyn(&rt, alloc, &mut text, inlinable(0), 0, row);
     }
     Ok(())
 }
@@ -192,9 +250,9 @@ fn each_row_on_a_text_behind_a_dyn(rt: HostRuntime) -> Result<(), Fail> {
 #[test]
 fn small_limits_are_kept_to_the_byte(rt: HostRuntime) -> Result<(), Fail> {
     let alloc = rt.alloc();
-    check_rows::<InlinableStringN<0>>(&rt, alloc, inlinable(0), 0, AT_0);
-    check_rows::<InlinableStringN<3>>(&rt, alloc, inlinable(3), 3, AT_3);
-    check_rows::<InlinableStringN<4>>(&rt, alloc, inlinable(4), 4, AT_4);
+    assert_rows::<InlinableStringN<0>>(&rt, alloc, inlinable(0), 0, AT_0);
+    assert_rows::<InlinableStringN<3>>(&rt, alloc, inlinable(3), 3, AT_3);
+    assert_rows::<InlinableStringN<4>>(&rt, alloc, inlinable(4), 4, AT_4);
     Ok(())
 }
 
@@ -205,48 +263,42 @@ const ALL_DONE: &[Reply] = &[Done; 100];
 
 const INSERTED: &[(usize, Storage)] = &[(10, Inline), (11, Heap), (100, Heap)];
 
-fn check_insertions<S: StringMake + Drop>(
+/// So many insertions on a new text.
+fn wrong_insertions<S: StringMake + Drop>(
     rt: &impl Abort,
     alloc: Global,
     policy: Policy,
     (count, storage): (usize, Storage),
-) {
+) -> Option<Wrong> {
     assert!(rt; count <= 100);
     let mut text = S::new(alloc);
     let mut room = [NoMemory; 100];
     let replies = &mut room[..count];
-    run_beside(rt, alloc, &mut text, policy, &INSERTIONS[..count], replies);
-    assert!(rt; text.len() == 3 * count);
-    check_inserted(rt, alloc, policy, replies, seen_of(&text), storage);
-}
-
-/// Asserts that so many insertions were done, and the text after them.
-fn check_inserted(
-    rt: &impl Abort,
-    alloc: Global,
-    policy: Policy,
-    replies: &[Reply],
-    end: Seen<'_>,
-    storage: Storage,
-) {
-    let count = replies.len();
-    assert!(rt; count <= 100);
-    check_that(rt, replies == &ALL_DONE[..count], "insertions", replies);
+    let wrong = wrong_run(rt, alloc, &mut text, policy, &INSERTIONS[..count], replies);
+    if wrong.is_some() {
+        return wrong;
+    }
+    if &*replies != &ALL_DONE[..count] {
+        return Some(Wrong::Replies);
+    }
     let wanted = "foo".repeat(alloc, count);
     let wanted = wanted.expect(rt, "memory for the wanted text");
-    check_seen(rt, policy, replies, end, &wanted, storage);
+    wrong_end(policy, seen_of(&text), &wanted, storage)
 }
 
 #[test]
 fn a_hundred_insertions_at_the_front(rt: HostRuntime) -> Result<(), Fail> {
     for row in INSERTED {
-        check_insertions::<InlinableString>(&rt, rt.alloc(), inlinable(30), *row);
+        let wrong = wrong_insertions::<InlinableString>(&rt, rt.alloc(), inlinable(30), *row);
+        assert_right(&rt, wrong, "insertions");
     }
     Ok(())
 }
 
-/// To an offset: whether it is a place of "aé€𝄞", and what begins there.
-const OFFSETS: &[(usize, bool, Option<char>)] = &[
+/// An offset, whether it is a place of "aé€𝄞", and what begins there.
+type Offset = (usize, bool, Option<char>);
+
+const OFFSETS: &[Offset] = &[
     (0, true, Some('a')),
     (1, true, Some('é')),
     (2, false, None),
@@ -262,13 +314,15 @@ const OFFSETS: &[(usize, bool, Option<char>)] = &[
     (18446744073709551615, false, None),
 ];
 
-fn check_offsets<S: StringMake + Drop>(
+/// The first row to which a command at its offset has another reply.
+fn wrong_offset<S: StringMake + Drop>(
     rt: &impl Abort,
     alloc: Global,
     policy: Policy,
     capacity: Option<usize>,
-) {
-    for &(offset, is_place, begins) in OFFSETS {
+    rows: &[Offset],
+) -> Option<usize> {
+    for (i, &(offset, is_place, begins)) in rows.iter().enumerate() {
         let placed = if is_place { Done } else { BadPlace };
         let taken = match begins {
             Some(c) => Char(c),
@@ -281,31 +335,43 @@ fn check_offsets<S: StringMake + Drop>(
             (Remove(offset), taken),
         ] {
             let text: S = made_of(rt, alloc, capacity, "aé€𝄞");
-            check_offset(rt, alloc, text, policy, offset, command, wanted);
+            if !is_replied(rt, alloc, text, policy, command, wanted) {
+                return Some(i);
+            }
         }
     }
+    None
 }
 
-/// Gives a command at this offset to the text "aé€𝄞".
-fn check_offset<S: StringExt + Drop>(
+/// Gives a command to the text "aé€𝄞". Whether it has this reply, and a bad place leaves the text.
+fn is_replied<S: StringExt + Drop>(
     rt: &impl Abort,
     alloc: Global,
     mut text: S,
     policy: Policy,
-    offset: usize,
     command: Command<'_>,
     wanted: Reply,
-) {
+) -> bool {
     let reply = run_one_beside(rt, alloc, &mut text, policy, command);
     let is_kept = reply != BadPlace || text.as_str() == "aé€𝄞";
-    assert!(rt; reply == wanted && is_kept, "{reply:?} at {offset}");
+    reply == wanted && is_kept
+}
+
+fn assert_offsets<S: StringMake + Drop>(
+    rt: &impl Abort,
+    alloc: Global,
+    policy: Policy,
+    capacity: Option<usize>,
+) {
+    let wrong = wrong_offset::<S>(rt, alloc, policy, capacity, OFFSETS);
+    assert!(rt; wrong.is_none(), "row {wrong:?}");
 }
 
 #[test]
 fn a_place_is_taken_and_no_other_offset(rt: HostRuntime) -> Result<(), Fail> {
     let alloc = rt.alloc();
-    check_offsets::<InlinableString>(&rt, alloc, inlinable(30), None);
-    check_offsets::<InlinableString>(&rt, alloc, inlinable(30), Some(31));
-    check_offsets::<String>(&rt, alloc, HEAP, None);
+    assert_offsets::<InlinableString>(&rt, alloc, inlinable(30), None);
+    assert_offsets::<InlinableString>(&rt, alloc, inlinable(30), Some(31));
+    assert_offsets::<String>(&rt, alloc, HEAP, None);
     Ok(())
 }

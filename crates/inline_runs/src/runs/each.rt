@@ -4,11 +4,11 @@ ghost use Rattle.std.specs.Prelude.{◌≡◌, ◌*◌, length};
 use super::memory::all_memory;
 use super::own::{EightBytes, OnHeap};
 use super::rows::{A30, Row};
-use super::{check_row_dyn, check_steps, made_of};
-use crate::beside::{after, before, check_seen, check_that};
+use super::{assert_row_dyn, made_of, wrong_steps};
+use crate::beside::{Wrong, assert_right, before, wrong_end, wrong_verdict};
 use Memory::{Ample, Refused};
 use Storage::{Heap, Inline};
-use inlinable_string::run::Command::{self, Pop, Push, PushStr, Remove, Truncate};
+use inlinable_string::run::Command::{self, Pop, Push, PushStr, Remove, ShrinkToFit, Truncate};
 use inlinable_string::run::Reply::{self, BadPlace, Char, Done, NoChar, NoMemory, NotUtf8};
 use inlinable_string::run::run_each;
 use inlinable_string::{BoxableString, Storage, StringExt, StringMake};
@@ -24,7 +24,7 @@ type Texts = Vec<Text>;
 
 /// Which type of text goes into a box.
 #[derive(Clone, Copy)]
-enum Kind {
+pub enum Kind {
     String,
     Inlinable,
     EightBytes,
@@ -33,22 +33,22 @@ enum Kind {
 
 /// The text of a box: its kind, how it is made, for so many bytes or by `new`, and what is pushed
 /// to it.
-type Boxed = (Kind, Option<usize>, &'static str);
+pub type Boxed = (Kind, Option<usize>, &'static str);
 
 /// Whether memory can be had while commands are given.
 #[derive(Clone, Copy)]
-enum Memory {
+pub enum Memory {
     Ample,
     Refused,
 }
 
 /// Commands for each text, all replies to them, and each text and where it lies after them.
 #[derive(Clone, Copy)]
-struct Given {
-    memory: Memory,
-    commands: &'static [Command<'static>],
-    replies: &'static [Reply],
-    ends: &'static [(&'static str, Storage)],
+pub struct Given {
+    pub memory: Memory,
+    pub commands: &'static [Command<'static>],
+    pub replies: &'static [Reply],
+    pub ends: &'static [(&'static str, Storage)],
 }
 
 fn policy_of(kind: Kind) -> Policy {
@@ -59,8 +59,8 @@ fn policy_of(kind: Kind) -> Policy {
     }
 }
 
-/// Makes the texts, and gives each list to them in turn with the plain program beside each text.
-fn check_boxed(rt: &impl Abort, alloc: Global, boxed: &[Boxed], lists: &[Given]) {
+/// The texts in their boxes.
+fn texts_of(rt: &impl Abort, alloc: Global, boxed: &[Boxed]) -> Texts {
     let mut texts: Texts = Vec::new(alloc);
     for &(kind, capacity, start) in boxed {
         let text: Text = match kind {
@@ -77,19 +77,53 @@ fn check_boxed(rt: &impl Abort, alloc: Global, boxed: &[Boxed], lists: &[Given])
                 Box::new(alloc, text).expect(rt, "memory for a box")
             }
             Kind::OnHeap => {
-                let text = OnHeap(made_of(rt, alloc, capacity, start));
+                let text = OnHeap {
+                    string: made_of(rt, alloc, capacity, start),
+                    can_shrink: true,
+                };
                 Box::new(alloc, text).expect(rt, "memory for a box")
             }
         };
         assert!(rt; texts.push(text).is_ok());
     }
-    for list in lists {
-        check_each(rt, alloc, &mut texts, boxed, *list);
-    }
+    texts
 }
 
-/// Gives a list to each text, and asserts all replies, and the texts and where they lie after them.
-fn check_each(rt: &impl Abort, alloc: Global, texts: &mut Texts, boxed: &[Boxed], given: Given) {
+/// Makes the texts, and gives each list to them in turn with the plain program beside each text.
+/// Answers how many lists were right, and what is wrong after the next one.
+pub fn right_lists(
+    rt: &impl Abort,
+    alloc: Global,
+    boxed: &[Boxed],
+    lists: &[Given],
+) -> (usize, Option<Wrong>) {
+    let mut texts = texts_of(rt, alloc, boxed);
+    let mut right = 0usize;
+    for list in lists {
+        let wrong = wrong_list(rt, alloc, &mut texts, boxed, *list);
+        if wrong.is_some() {
+            return (right, wrong);
+        }
+        right = right.saturating_add(1);
+    }
+    (right, None)
+}
+
+fn assert_boxed(rt: &impl Abort, alloc: Global, boxed: &[Boxed], lists: &[Given]) {
+    let (right, wrong) = right_lists(rt, alloc, boxed, lists);
+    assert_right(rt, wrong, "boxed texts");
+    assert!(rt; right == lists.len());
+}
+
+/// Gives a list to each text, and tells what is wrong with the replies, or with the texts after
+/// them.
+fn wrong_list(
+    rt: &impl Abort,
+    alloc: Global,
+    texts: &mut Texts,
+    boxed: &[Boxed],
+    given: Given,
+) -> Option<Wrong> {
     let starts = starts_of(rt, alloc, texts, boxed);
     // No text here has this reply.
     let mut room = [NotUtf8; 16];
@@ -98,8 +132,10 @@ fn check_each(rt: &impl Abort, alloc: Global, texts: &mut Texts, boxed: &[Boxed]
     assert!(rt; count <= 16);
     let replies = &mut room[..count];
     run_each_in(rt, alloc, given.memory, texts, given.commands, replies);
-    check_that(rt, &*replies == given.replies, "boxed texts", replies);
-    check_ends(rt, alloc, starts, texts, boxed, given);
+    if &*replies != given.replies {
+        return Some(Wrong::Replies);
+    }
+    wrong_ends(rt, alloc, starts, texts, boxed, given)
 }
 
 /// The plain program's texts at these as they are before a run.
@@ -132,23 +168,28 @@ fn run_each_in(
     }
 }
 
-/// Asserts what each text is after its replies, which are known to be those of the list.
-fn check_ends(
+/// What is wrong with a text after its replies, which are known to be those of the list.
+fn wrong_ends(
     rt: &impl Abort,
     alloc: Global,
     starts: Vec<PlainText>,
     texts: &Texts,
     boxed: &[Boxed],
     given: Given,
-) {
+) -> Option<Wrong> {
     assert!(rt; starts.len() == texts.len() && starts.len() == given.ends.len());
     for (index, start) in starts.into_iter().enumerate() {
-        check_end(rt, alloc, start, texts, boxed, given, index);
+        let wrong = wrong_own_end(rt, alloc, start, texts, boxed, given, index);
+        if wrong.is_some() {
+            return wrong;
+        }
     }
+    None
 }
 
-/// Asserts that the plain program agrees with a text's own replies, and what it is after them.
-fn check_end(
+/// What is wrong where the plain program is to agree with a text's own replies, and the text is to
+/// be as it is told.
+fn wrong_own_end(
     rt: &impl Abort,
     alloc: Global,
     start: PlainText,
@@ -156,16 +197,19 @@ fn check_end(
     boxed: &[Boxed],
     given: Given,
     index: usize,
-) {
+) -> Option<Wrong> {
     let end = seen_of_dyn(&**texts.get(index).expect(rt, "a text for each start"));
     let count = given.commands.len();
     let first = index.saturating_mul(count);
     let own = given.replies.get(first..first.saturating_add(count));
     let own = own.expect(rt, "replies of its own");
-    after(rt, alloc, start, given.commands, own, end);
+    let wrong = wrong_verdict(rt, alloc, start, given.commands, own, end);
+    if wrong.is_some() {
+        return wrong;
+    }
     let made = boxed.get(index).expect(rt, "a kind of its own");
     let wanted = given.ends.get(index).expect(rt, "an end of its own");
-    check_seen(rt, policy_of(made.0), own, end, wanted.0, wanted.1);
+    wrong_end(policy_of(made.0), end, wanted.0, wanted.1)
 }
 
 /// On the text "x" each of these has one reply in every storage.
@@ -211,7 +255,7 @@ const EACH_STORAGE_LISTS: &[Given] = &[
 
 #[test]
 fn boxed_texts_of_each_storage_have_a_run_each(rt: HostRuntime) -> Result<(), Fail> {
-    check_boxed(&rt, rt.alloc(), EACH_STORAGE, EACH_STORAGE_LISTS);
+    assert_boxed(&rt, rt.alloc(), EACH_STORAGE, EACH_STORAGE_LISTS);
     Ok(())
 }
 
@@ -254,7 +298,7 @@ const UNLIKE_LISTS: &[Given] = &[Given {
 
 #[test]
 fn unlike_texts_have_unlike_replies(rt: HostRuntime) -> Result<(), Fail> {
-    check_boxed(&rt, rt.alloc(), UNLIKE, UNLIKE_LISTS);
+    assert_boxed(&rt, rt.alloc(), UNLIKE, UNLIKE_LISTS);
     Ok(())
 }
 
@@ -273,7 +317,7 @@ const OWN_LISTS: &[Given] = &[Given {
 
 #[test]
 fn boxed_texts_of_a_callers_own_have_a_run_each(rt: HostRuntime) -> Result<(), Fail> {
-    check_boxed(&rt, rt.alloc(), OWN, OWN_LISTS);
+    assert_boxed(&rt, rt.alloc(), OWN, OWN_LISTS);
     Ok(())
 }
 
@@ -285,30 +329,44 @@ const REFUSED: &[Boxed] = &[
     (Kind::Inlinable, Some(31), "x"),
 ];
 
-const REFUSED_LISTS: &[Given] = &[Given {
-    memory: Refused,
-    commands: &[Push('b'), Pop],
-    replies: &[
-        NoMemory,
-        NoChar,
-        NoMemory,
-        Char('a'),
-        Done,
-        Char('b'),
-        Done,
-        Char('b'),
-    ],
-    ends: &[
-        ("", Heap),
-        ("aaaaaaaaaaaaaaaaaaaaaaaaaaaaa", Inline),
-        ("x", Inline),
-        ("x", Heap),
-    ],
-}];
+/// Commands while memory is refused, and one when it is back.
+const REFUSED_LISTS: &[Given] = &[
+    Given {
+        memory: Refused,
+        commands: &[Push('b'), Pop],
+        replies: &[
+            NoMemory,
+            NoChar,
+            NoMemory,
+            Char('a'),
+            Done,
+            Char('b'),
+            Done,
+            Char('b'),
+        ],
+        ends: &[
+            ("", Heap),
+            ("aaaaaaaaaaaaaaaaaaaaaaaaaaaaa", Inline),
+            ("x", Inline),
+            ("x", Heap),
+        ],
+    },
+    Given {
+        memory: Ample,
+        commands: &[Push('é')],
+        replies: &[Done, Done, Done, Done],
+        ends: &[
+            ("é", Heap),
+            ("aaaaaaaaaaaaaaaaaaaaaaaaaaaaaé", Heap),
+            ("xé", Inline),
+            ("xé", Heap),
+        ],
+    },
+];
 
 #[test]
 fn each_text_is_refused_memory_by_itself(rt: HostRuntime) -> Result<(), Fail> {
-    check_boxed(&rt, rt.alloc(), REFUSED, REFUSED_LISTS);
+    assert_boxed(&rt, rt.alloc(), REFUSED, REFUSED_LISTS);
     Ok(())
 }
 
@@ -330,7 +388,7 @@ const NO_TEXTS_LISTS: &[Given] = &[
 
 #[test]
 fn no_texts_take_any_commands_and_no_replies(rt: HostRuntime) -> Result<(), Fail> {
-    check_boxed(&rt, rt.alloc(), &[], NO_TEXTS_LISTS);
+    assert_boxed(&rt, rt.alloc(), &[], NO_TEXTS_LISTS);
     Ok(())
 }
 
@@ -347,15 +405,61 @@ const X: &Row = &(
     "",
 );
 
+fn own_text(alloc: Global, can_shrink: bool) -> OnHeap {
+    OnHeap {
+        string: String::new(alloc),
+        can_shrink,
+    }
+}
+
+/// Runs so many steps of a row on an empty text that lies on the heap always.
+fn assert_steps<S: StringExt>(
+    rt: &impl Abort,
+    alloc: Global,
+    text: &mut S,
+    row: Row,
+    count: usize,
+) {
+    let wrong = wrong_steps(rt, alloc, text, HEAP, 0, row, count);
+    assert_right(rt, wrong, row.1);
+}
+
 #[test]
 fn a_text_of_a_callers_own_has_the_replies_of_a_string(rt: HostRuntime) -> Result<(), Fail> {
     let alloc = rt.alloc();
     let mut string = <String as StringMake>::new(alloc);
-    check_steps(&rt, alloc, &mut string, HEAP, 0, *X, 4);
-    let mut text = OnHeap(String::new(alloc));
+    assert_steps(&rt, alloc, &mut string, *X, 4);
+    let mut text = own_text(alloc, true);
     for _ in 0..2u8 {
-        check_steps(&rt, alloc, &mut text, HEAP, 0, *X, 4);
-        check_row_dyn(&rt, alloc, &mut text, HEAP, 0, *X);
+        assert_steps(&rt, alloc, &mut text, *X, 4);
+        assert_row_dyn(&rt, alloc, &mut text, HEAP, 0, *X);
     }
+    Ok(())
+}
+
+/// Commands on a text that can't be shrunk.
+const NOT_SHRUNK: &Row = &(
+    None,
+    "x",
+    &[
+        (ShrinkToFit, NoMemory, Heap),
+        (PushStr("y"), Done, Heap),
+        (ShrinkToFit, NoMemory, Heap),
+    ],
+    "xy",
+);
+
+#[test]
+fn a_shrink_that_a_callers_own_text_refuses_is_want_of_memory(rt: HostRuntime) -> Result<(), Fail> {
+    let alloc = rt.alloc();
+    assert_steps(&rt, alloc, &mut own_text(alloc, false), *NOT_SHRUNK, 3);
+    assert_row_dyn(
+        &rt,
+        alloc,
+        &mut own_text(alloc, false),
+        HEAP,
+        0,
+        *NOT_SHRUNK,
+    );
     Ok(())
 }

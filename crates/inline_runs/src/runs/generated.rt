@@ -2,7 +2,7 @@
 ghost use Rattle.std.specs.Prelude.{◌<◌, ◌≤◌, length};
 
 use super::made;
-use crate::beside::before;
+use crate::beside::{Wrong, before, wrong_verdict};
 use inlinable_string::run::Command::{
     self, Clear, Insert, InsertStr, Pop, Push, PushStr, Remove, ReplaceBytes, Reserve,
     ReserveExact, ShrinkToFit, Truncate,
@@ -14,9 +14,7 @@ use inlinable_string::run::{run, run_dyn};
 use inlinable_string::{InlinableString, InlinableStringN, Storage, StringExt, StringMake};
 use inline_vectors::plain::room::PlainText;
 use inline_vectors::plain::text::{edit, size_of};
-use inline_vectors::verdict::{
-    HEAP, Policy, Seen, Verdict, inlinable, judged, seen_of, seen_of_dyn,
-};
+use inline_vectors::verdict::{HEAP, Policy, Seen, inlinable, seen_of, seen_of_dyn};
 use std::alloc::{AllocError, Global};
 use std::process::Abort;
 use std::test::Fail;
@@ -186,9 +184,9 @@ fn ample_reply(command: Command, reply: Reply) -> Reply {
 
 /// A list of commands, and the replies to them with ample memory.
 #[derive(Drop)]
-struct List {
-    commands: Vec<Command<'static>>,
-    replies: Vec<Reply>,
+pub struct List {
+    pub commands: Vec<Command<'static>>,
+    pub replies: Vec<Reply>,
 }
 
 impl List {
@@ -207,61 +205,56 @@ impl List {
     }
 }
 
-/// Gives a list to a new text with the plain program beside it, and asserts all replies. Answers
-/// where the text lies then.
-fn check_list<S: StringMake + Drop>(
+/// Gives a list to a new text with the plain program beside it. Answers where the text lies then, or
+/// what is wrong.
+fn end_of_list<S: StringMake + Drop>(
     rt: &impl Abort,
     alloc: Global,
     policy: Policy,
     capacity: Option<usize>,
     list: &List,
-    number: usize,
-) -> Storage {
+) -> Result<Storage, Wrong> {
     let mut text: S = made(rt, alloc, capacity);
     let start = before(rt, alloc, seen_of(&text), policy);
     let mut replies = [BadPlace; MOST_COMMANDS];
     let count = list.commands.len();
     assert!(rt; count <= MOST_COMMANDS);
     run(&mut text, &list.commands, &mut replies[..count]);
-    let given = &replies[..count];
-    check_replies(rt, alloc, start, list, given, seen_of(&text), number);
-    text.storage()
+    end_of(rt, alloc, start, list, &replies[..count], seen_of(&text))
 }
 
 /// The same on a text behind a `dyn`.
-fn check_list_dyn(
+fn end_of_list_dyn(
     rt: &impl Abort,
     alloc: Global,
     text: &mut dyn StringExt,
     policy: Policy,
     list: &List,
-    number: usize,
-) {
+) -> Result<Storage, Wrong> {
     let start = before(rt, alloc, seen_of_dyn(text), policy);
     let mut replies = [BadPlace; MOST_COMMANDS];
     let count = list.commands.len();
     assert!(rt; count <= MOST_COMMANDS);
     run_dyn(text, &list.commands, &mut replies[..count]);
-    let given = &replies[..count];
-    check_replies(rt, alloc, start, list, given, seen_of_dyn(text), number);
+    end_of(rt, alloc, start, list, &replies[..count], seen_of_dyn(text))
 }
 
-fn check_replies(
+/// Where a text lies that is seen so after these replies, or what is wrong with them or with it.
+fn end_of(
     rt: &impl Abort,
     alloc: Global,
     start: PlainText,
     list: &List,
     replies: &[Reply],
     end: Seen<'_>,
-    number: usize,
-) {
-    let limit = start.limit;
-    let verdict = judged(alloc, start, &list.commands, replies, end);
-    let verdict = verdict.expect(rt, "memory for the plain program");
-    assert!(rt;
-        replies == list.replies.as_slice() && verdict == Verdict::Agrees,
-        "{verdict:?} of {replies:?} to list {number} at limit {limit}"
-    );
+) -> Result<Storage, Wrong> {
+    if replies != list.replies.as_slice() {
+        return Err(Wrong::Replies);
+    }
+    match wrong_verdict(rt, alloc, start, &list.commands, replies, end) {
+        Some(wrong) => Err(wrong),
+        None => Ok(end.storage),
+    }
 }
 
 /// Which of the seven kinds a reply is.
@@ -279,16 +272,19 @@ fn kind_of(reply: Reply) -> usize
     }
 }
 
-/// How many lists left a text of 30 inline bytes on the heap, and how many replies there were of
-/// each kind.
+/// How many texts were given a list, how many lists left a text of 30 inline bytes on the heap, and
+/// how many replies there were of each kind.
 #[derive(Clone, Copy)]
 struct Counts {
+    texts: usize,
     on_heap: usize,
     kinds: [u64; 7],
 }
 
 impl Counts {
-    fn add(&mut self, replies: &[Reply], end: Storage) {
+    /// Adds a list that so many texts were given.
+    fn add(&mut self, texts: usize, replies: &[Reply], end: Storage) {
+        self.texts = self.texts.saturating_add(texts);
         if end == Storage::Heap {
             self.on_heap = self.on_heap.saturating_add(1);
         }
@@ -298,9 +294,10 @@ impl Counts {
         }
     }
 
-    /// Asserts that the lists were of every sort.
-    fn check(&self, rt: &impl Abort) {
-        let on_heap = self.on_heap;
+    /// Asserts that each list was given to four texts, and that the lists were of every sort.
+    fn assert_all_sorts(&self, rt: &impl Abort) {
+        let (texts, on_heap) = (self.texts, self.on_heap);
+        assert!(rt; texts == 4 * LISTS, "{texts}");
         assert!(rt; (LISTS / 5..LISTS / 5 * 4).contains(&on_heap), "{on_heap}");
         for (kind, count) in self.kinds.iter().enumerate() {
             assert!(rt; 500 <= *count, "replies of kind {kind}: {count}");
@@ -308,47 +305,59 @@ impl Counts {
     }
 }
 
-/// Gives a list to a text of each kind. Answers where that of 30 inline bytes lies then.
-fn check_kinds(
+/// Gives a list to a text of each kind. Answers how many these were, and where that of 30 inline
+/// bytes lies then, or what is wrong.
+pub fn ends_of(
     rt: &impl Abort,
     alloc: Global,
     capacity: Option<usize>,
     list: &List,
-    number: usize,
-) -> Storage {
-    check_list::<InlinableStringN<0>>(rt, alloc, inlinable(0), capacity, list, number);
-    check_list::<InlinableStringN<8>>(rt, alloc, inlinable(8), capacity, list, number);
+) -> Result<(usize, Storage), Wrong> {
+    let none = end_of_list::<InlinableStringN<0>>(rt, alloc, inlinable(0), capacity, list)?;
+    let eight = end_of_list::<InlinableStringN<8>>(rt, alloc, inlinable(8), capacity, list)?;
     let mut text: String = made(rt, alloc, capacity);
-    check_list_dyn(rt, alloc, &mut text, HEAP, list, number);
-    check_list::<InlinableString>(rt, alloc, inlinable(30), capacity, list, number)
+    let string = end_of_list_dyn(rt, alloc, &mut text, HEAP, list)?;
+    let thirty = end_of_list::<InlinableString>(rt, alloc, inlinable(30), capacity, list)?;
+    Ok(([none, eight, string, thirty].len(), thirty))
 }
 
-/// Gives each list to a text of each kind. Answers of what sorts the lists were.
-fn check_lists(rt: &impl Abort, alloc: Global) -> Counts {
+/// Gives each list to a text of each kind. Answers of what sorts the lists were, or the number of the
+/// first that is wrong.
+fn counts_of_lists(rt: &impl Abort, alloc: Global) -> Result<Counts, (usize, Wrong)> {
     let mut draws = Draws { state: SEED };
     let mut list = List {
         commands: Vec::new(alloc),
         replies: Vec::new(alloc),
     };
     let mut counts = Counts {
+        texts: 0,
         on_heap: 0,
         kinds: [0; 7],
     };
     for number in 0..LISTS {
         assert!(rt; list.draw(alloc, &mut draws).is_ok());
         let capacity = draws.one_of(CAPACITIES);
-        let end = check_kinds(rt, alloc, capacity, &list, number);
-        counts.add(&list.replies, end);
+        match ends_of(rt, alloc, capacity, &list) {
+            Ok((texts, end)) => counts.add(texts, &list.replies, end),
+            Err(wrong) => return Err((number, wrong)),
+        }
     }
-    counts
+    Ok(counts)
 }
 
 #[test]
 fn generated_lists_have_the_replies_of_the_plain_program(rt: HostRuntime) -> Result<(), Fail> {
-    let counts = check_lists(&rt, rt.alloc());
-    let Counts { on_heap, kinds } = &counts;
-    println!(rt; "{LISTS} lists from seed {SEED}")?;
-    println!(rt; "replies of each kind {kinds:?}, ends on the heap {on_heap}")?;
-    counts.check(&rt);
+    let counts = counts_of_lists(&rt, rt.alloc());
+    let wrong = counts.err();
+    assert!(rt;
+        wrong.is_none(),
+        "a list of seed {SEED}, and what is wrong: {wrong:?}"
+    );
+    if let Ok(counts) = &counts {
+        let Counts { on_heap, kinds, .. } = counts;
+        println!(rt; "{LISTS} lists from seed {SEED}")?;
+        println!(rt; "replies of each kind {kinds:?}, ends on the heap {on_heap}")?;
+        counts.assert_all_sorts(&rt);
+    }
     Ok(())
 }

@@ -3,7 +3,9 @@ ghost use Rattle.std.specs.Prelude.{◌≡◌, length};
 
 use super::made_of;
 use super::rows::{A26, A27, A28, A30, DIGITS};
-use crate::beside::{after, before, check_seen, check_that, run_one_beside};
+use crate::beside::{
+    Fault, Runs, Wrong, assert_right, assert_runs, before, run_one_beside, wrong_end, wrong_verdict,
+};
 use Storage::{Heap, Inline};
 use inlinable_string::run::Command::{
     self, Clear, Insert, InsertStr, Pop, Push, PushStr, Remove, Reserve, ReserveExact, ShrinkToFit,
@@ -26,18 +28,18 @@ pub fn all_memory(rt: &impl Abort, alloc: Global) -> Hoard {
 
 /// A run of which the memory is refused from some command on.
 #[derive(Clone, Copy)]
-struct Row {
+pub struct Row {
     /// How the text is made, for so many bytes or by `new`, and what is pushed to it.
-    capacity: Option<usize>,
-    start: &'static str,
+    pub capacity: Option<usize>,
+    pub start: &'static str,
     /// A command before them all that is `Done`, with memory.
-    granted: Option<Command<'static>>,
+    pub granted: Option<Command<'static>>,
     /// Those to which memory is refused, and the replies to the first of them: the others may have
     /// any that is legal.
-    refused: &'static [Command<'static>],
-    replies: &'static [Reply],
-    end: &'static str,
-    storage: Storage,
+    pub refused: &'static [Command<'static>],
+    pub replies: &'static [Reply],
+    pub end: &'static str,
+    pub storage: Storage,
 }
 
 /// The most commands of a row.
@@ -260,8 +262,13 @@ fn prepared<S: StringMake + Drop>(rt: &impl Abort, alloc: Global, policy: Policy
     text
 }
 
-/// Asserts what a row tells of its run, and that the plain program agrees.
-fn check_row<S: StringMake + Drop>(rt: &impl Abort, alloc: Global, policy: Policy, row: Row) {
+/// What is wrong with what a row tells of its run, or where the plain program does not agree.
+fn wrong_row<S: StringMake + Drop>(
+    rt: &impl Abort,
+    alloc: Global,
+    policy: Policy,
+    row: Row,
+) -> Option<Wrong> {
     let (told, count) = (row.replies.len(), row.refused.len());
     assert!(rt; told <= count && count <= MOST_COMMANDS);
     let mut text: S = prepared(rt, alloc, policy, row);
@@ -269,34 +276,59 @@ fn check_row<S: StringMake + Drop>(rt: &impl Abort, alloc: Global, policy: Polic
     let mut room = [NoMemory; MOST_COMMANDS];
     let replies = &mut room[..count];
     run_held(rt, alloc, &mut text, row.refused, replies);
-    check_that(rt, &replies[..told] == row.replies, row.start, replies);
+    if &replies[..told] != row.replies {
+        return Some(Wrong::Replies);
+    }
     let end = seen_of(&text);
-    check_seen(rt, policy, replies, end, row.end, row.storage);
-    after(rt, alloc, start, row.refused, replies, end);
+    let wrong = wrong_end(policy, end, row.end, row.storage);
+    if wrong.is_some() {
+        return wrong;
+    }
+    wrong_verdict(rt, alloc, start, row.refused, replies, end)
 }
 
-fn check_rows<S: StringMake + Drop>(rt: &impl Abort, alloc: Global, policy: Policy, rows: &[Row]) {
-    for row in rows {
-        check_row::<S>(rt, alloc, policy, *row);
+/// Makes the run of each row.
+pub fn runs_of<S: StringMake + Drop>(
+    rt: &impl Abort,
+    alloc: Global,
+    policy: Policy,
+    rows: &[Row],
+) -> Runs {
+    let mut runs = 0usize;
+    for (i, row) in rows.iter().enumerate() {
+        if let Some(wrong) = wrong_row::<S>(rt, alloc, policy, *row) {
+            let count = row.refused.len();
+            return Err(Fault {
+                row: i,
+                count,
+                wrong,
+            });
+        }
+        runs = runs.saturating_add(1);
     }
+    Ok(runs)
+}
+
+fn assert_rows<S: StringMake + Drop>(rt: &impl Abort, alloc: Global, policy: Policy, rows: &[Row]) {
+    assert_runs(rt, runs_of::<S>(rt, alloc, policy, rows));
 }
 
 #[test]
 fn an_inline_or_heap_text_asks_for_no_memory_that_its_rules_spare(
     rt: HostRuntime,
 ) -> Result<(), Fail> {
-    check_rows::<InlinableString>(&rt, rt.alloc(), inlinable(30), AT_30);
+    assert_rows::<InlinableString>(&rt, rt.alloc(), inlinable(30), AT_30);
     Ok(())
 }
 
 #[test]
 fn a_string_asks_for_no_memory_that_was_reserved(rt: HostRuntime) -> Result<(), Fail> {
-    check_rows::<String>(&rt, rt.alloc(), HEAP, ON_A_STRING);
+    assert_rows::<String>(&rt, rt.alloc(), HEAP, ON_A_STRING);
     Ok(())
 }
 
 /// Asserts the reply to a push, how many bytes the text has after it, and where it lies.
-fn check_push<S: StringExt>(
+fn assert_push<S: StringExt>(
     rt: &impl Abort,
     reply: Reply,
     text: &S,
@@ -311,7 +343,7 @@ const HELD_AND_FREE: &[Command<'static>] = &[PushStr(A30), Push('b'), Pop, Push(
 
 const HELD_AND_FREE_REPLIES: &[Reply] = &[Done, NoMemory, Char('a'), Done];
 
-fn check_held_and_free<S: StringMake + Drop>(rt: &impl Abort, alloc: Global, policy: Policy) {
+fn assert_held_and_free<S: StringMake + Drop>(rt: &impl Abort, alloc: Global, policy: Policy) {
     let mut text = S::new(alloc);
     let start = before(rt, alloc, seen_of(&text), policy);
     let mut replies = [BadPlace; 4];
@@ -319,14 +351,16 @@ fn check_held_and_free<S: StringMake + Drop>(rt: &impl Abort, alloc: Global, pol
     let storage = text.storage();
     run(&mut text, &HELD_AND_FREE[3..], &mut replies[3..]);
     let holds = &replies[..] == HELD_AND_FREE_REPLIES && storage == Inline;
-    check_that(rt, holds, "a push that was refused", &replies);
-    check_push(rt, replies[3], &text, (Done, 32, Heap));
-    after(rt, alloc, start, HELD_AND_FREE, &replies, seen_of(&text));
+    assert!(rt; holds, "{storage:?} after {replies:?}");
+    assert_push(rt, replies[3], &text, (Done, 32, Heap));
+    let end = seen_of(&text);
+    let wrong = wrong_verdict(rt, alloc, start, HELD_AND_FREE, &replies, end);
+    assert_right(rt, wrong, "");
 }
 
 #[test]
 fn a_push_that_was_refused_is_done_once_memory_is_back(rt: HostRuntime) -> Result<(), Fail> {
-    check_held_and_free::<InlinableString>(&rt, rt.alloc(), inlinable(30));
+    assert_held_and_free::<InlinableString>(&rt, rt.alloc(), inlinable(30));
     Ok(())
 }
 
@@ -334,22 +368,23 @@ const PUSHES: &[Command<'static>] = &[Push('a'); 300];
 
 const PUSHED: &[Reply] = &[Done; 300];
 
-fn check_300_pushes<S: StringMake + Drop>(rt: &impl Abort, alloc: Global, policy: Policy) {
+fn assert_300_pushes<S: StringMake + Drop>(rt: &impl Abort, alloc: Global, policy: Policy) {
     let mut text = S::new(alloc);
     let start = before(rt, alloc, seen_of(&text), policy);
     let mut replies = [NoMemory; 300];
     run_held(rt, alloc, &mut text, PUSHES, &mut replies);
-    check_that(rt, &replies[..] == PUSHED, "pushes", &replies);
+    assert!(rt; &replies[..] == PUSHED, "{replies:?}");
     let mut last = [Done];
     run_held(rt, alloc, &mut text, &[Push('a')], &mut last);
-    check_push(rt, last[0], &text, (NoMemory, 300, Inline));
-    after(rt, alloc, start, PUSHES, &replies, seen_of(&text));
+    assert_push(rt, last[0], &text, (NoMemory, 300, Inline));
+    let wrong = wrong_verdict(rt, alloc, start, PUSHES, &replies, seen_of(&text));
+    assert_right(rt, wrong, "");
     let last = run_one_beside(rt, alloc, &mut text, policy, Push('a'));
-    check_push(rt, last, &text, (Done, 301, Heap));
+    assert_push(rt, last, &text, (Done, 301, Heap));
 }
 
 #[test]
 fn pushes_within_a_limit_of_300_ask_for_no_memory(rt: HostRuntime) -> Result<(), Fail> {
-    check_300_pushes::<InlinableStringN<300>>(&rt, rt.alloc(), inlinable(300));
+    assert_300_pushes::<InlinableStringN<300>>(&rt, rt.alloc(), inlinable(300));
     Ok(())
 }
