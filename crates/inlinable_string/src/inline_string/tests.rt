@@ -2,7 +2,10 @@
 //!
 //! Each row of a table begins with a text of its own, and the steps of a list are made in turn on
 //! one text. The name of a table ends with the limit of its texts.
-ghost use Rattle.std.specs.Prelude.{◌≤◌};
+//!
+//! What plays a table answers the first row that is wrong, and one function asserts that none is. So
+//! tests of the tests (`wrong_tables`) can play tables that are wrong in one value.
+ghost use Rattle.std.specs.Prelude.{◌≤◌, IsOk, IsTrue};
 
 use super::InlineStringN;
 use edits::Answer::{self, Char, Done, NotEnoughSpace};
@@ -15,6 +18,7 @@ use std::process::Abort;
 
 mod edits;
 mod refused;
+mod wrong_tables;
 
 /// An edit, the answer to it, and the text and its start after it.
 type Step<'a> = (Edit<'a>, Answer, &'a str, usize);
@@ -42,18 +46,43 @@ const LENGTHS: &str = "aé€𝄞";
 /// 10 bytes to put in.
 const NEW: &str = "0123456789";
 
-/// The one assertion that all tests share, since each one is dear to prove.
-fn check_same<T: Copy + Debug + PartialEq>(rt: &impl Abort, given: T, wanted: T) {
+/// What is wrong after an edit.
+#[derive(Clone, Copy, Debug, PartialEq)]
+enum Wrong {
+    /// The answer, which is this.
+    Answer(Answer),
+    /// The text.
+    Text,
+    /// Where the text starts, which is here.
+    Start(usize),
+    /// The bytes that the text gives.
+    Bytes,
+}
+
+/// How many rows were right, or the number of the first that was wrong, and what is wrong there.
+type Played = Result<usize, (usize, Wrong)>;
+
+/// Asserts that two values are the same.
+fn assert_same<T: Copy + Debug + PartialEq>(rt: &impl Abort, given: T, wanted: T)
+    ensures { IsTrue (T.eq given wanted) }
+{
     assert_eq!(rt; given, wanted);
 }
 
-fn check_text<const N: usize>(
+/// Asserts that no row was wrong.
+fn assert_right(rt: &impl Abort, played: Played)
+    ensures { IsOk played }
+{
+    assert!(rt; played.is_ok(), "{played:?}");
+}
+
+fn assert_text<const N: usize>(
     rt: &impl Abort,
     text: &InlineStringN<N>,
     string: &str,
     start: usize,
 ) {
-    check_same(rt, (text.as_str(), text.start), (string, start));
+    assert_same(rt, (text.as_str(), text.start), (string, start));
 }
 
 /// Makes an edit so many times.
@@ -65,7 +94,7 @@ fn apply_times<const N: usize>(
     answer: Answer,
 ) {
     for _ in 0..times {
-        check_same(rt, apply(text, edit), answer);
+        assert_same(rt, apply(text, edit), answer);
     }
 }
 
@@ -79,56 +108,94 @@ fn text_at<const N: usize>(rt: &impl Abort, string: &str, start: usize) -> Inlin
     apply_times(rt, &mut text, 1, PushStr(kept), Done);
     apply_times(rt, &mut text, start, Remove(0), Char('<'));
     apply_times(rt, &mut text, usize::from(needs_byte), Pop, Char('>'));
-    check_text(rt, &text, string, start);
+    assert_text(rt, &text, string, start);
     text
 }
 
-/// Makes the step in row `i` on the text.
-fn check_step<const N: usize>(rt: &impl Abort, i: usize, text: &mut InlineStringN<N>, step: Step) {
+/// Makes a step on the text.
+fn wrong_after<const N: usize>(text: &mut InlineStringN<N>, step: Step) -> Option<Wrong> {
     let (edit, answer, after, start) = step;
     let given = apply(text, edit);
-    // The row's number is compared with itself, so that a failure shows it.
-    check_same(
-        rt,
-        (i, given, text.as_str(), text.start),
-        (i, answer, after, start),
-    );
-}
-
-fn check<const N: usize>(rt: &impl Abort, rows: &[Row])
-    requires { N ≤ 300 }
-{
-    for (i, &(before, start, edit, answer, after, new_start)) in rows.iter().enumerate() {
-        let mut text = text_at::<N>(rt, before, start);
-        check_step(rt, i, &mut text, (edit, answer, after, new_start));
+    if given != answer {
+        Some(Wrong::Answer(given))
+    } else if text.as_str() != after {
+        Some(Wrong::Text)
+    } else if text.start != start {
+        Some(Wrong::Start(text.start))
+    } else {
+        None
     }
 }
 
-fn check_in_turn<const N: usize>(rt: &impl Abort, string: &str, steps: &[Step])
+/// Makes the edit of each row on a text of its own.
+fn each_played<const N: usize>(rt: &impl Abort, rows: &[Row]) -> Played
+    requires { N ≤ 300 }
+{
+    let mut count = 0usize;
+    for (i, &(before, start, edit, answer, after, new_start)) in rows.iter().enumerate() {
+        let mut text = text_at::<N>(rt, before, start);
+        if let Some(wrong) = wrong_after(&mut text, (edit, answer, after, new_start)) {
+            return Err((i, wrong));
+        }
+        count = count.saturating_add(1);
+    }
+    Ok(count)
+}
+
+/// Makes the steps in turn on one text.
+fn played_in_turn<const N: usize>(rt: &impl Abort, string: &str, steps: &[Step]) -> Played
     requires { N ≤ 300 }
 {
     let mut text = text_at::<N>(rt, string, 0);
+    let mut count = 0usize;
     for (i, step) in steps.iter().enumerate() {
-        check_step(rt, i, &mut text, *step);
+        if let Some(wrong) = wrong_after(&mut text, *step) {
+            return Err((i, wrong));
+        }
+        count = count.saturating_add(1);
     }
+    Ok(count)
 }
 
-fn check_bytes<const N: usize>(rt: &impl Abort, rows: &[Shown])
+/// Compares the bytes of each row with those that its text gives.
+fn bytes_compared<const N: usize>(rt: &impl Abort, rows: &[Shown]) -> Played
     requires { N ≤ 300 }
 {
-    for row in rows {
-        let &(string, start, _) = row;
-        let bytes = text_at::<N>(rt, string, start).into_bytes();
-        check_same(rt, (string, start, &bytes[..]), *row);
+    let mut count = 0usize;
+    for (i, &(string, start, bytes)) in rows.iter().enumerate() {
+        let given = text_at::<N>(rt, string, start).into_bytes();
+        if &given[..] != bytes {
+            return Err((i, Wrong::Bytes));
+        }
+        count = count.saturating_add(1);
     }
+    Ok(count)
+}
+
+fn assert_each<const N: usize>(rt: &impl Abort, rows: &[Row])
+    requires { N ≤ 300 }
+{
+    assert_right(rt, each_played::<N>(rt, rows));
+}
+
+fn assert_in_turn<const N: usize>(rt: &impl Abort, string: &str, steps: &[Step])
+    requires { N ≤ 300 }
+{
+    assert_right(rt, played_in_turn::<N>(rt, string, steps));
+}
+
+fn assert_bytes<const N: usize>(rt: &impl Abort, rows: &[Shown])
+    requires { N ≤ 300 }
+{
+    assert_right(rt, bytes_compared::<N>(rt, rows));
 }
 
 #[test]
 fn a_text_that_is_made_starts_at_the_front(rt: HostRuntime) {
-    check_text::<30>(&rt, &InlineStringN::new(), "", 0);
-    check_text::<30>(&rt, &InlineStringN::default(), "", 0);
-    check_text::<30>(&rt, &InlineStringN::from("abcdef"), "abcdef", 0);
-    check_text::<5>(&rt, &InlineStringN::from("abc"), "abc", 0);
+    assert_text::<30>(&rt, &InlineStringN::new(), "", 0);
+    assert_text::<30>(&rt, &InlineStringN::default(), "", 0);
+    assert_text::<30>(&rt, &InlineStringN::from("abcdef"), "abcdef", 0);
+    assert_text::<5>(&rt, &InlineStringN::from("abc"), "abc", 0);
 }
 
 const ROOM_TAKEN_30: &[Step] = &[
@@ -146,8 +213,8 @@ const ROOM_TAKEN_4: &[Step] = &[
 
 #[test]
 fn removals_at_the_front_leave_room_that_insertions_there_take(rt: HostRuntime) {
-    check_in_turn::<30>(&rt, "abcdef", ROOM_TAKEN_30);
-    check_in_turn::<4>(&rt, "abcd", ROOM_TAKEN_4);
+    assert_in_turn::<30>(&rt, "abcdef", ROOM_TAKEN_30);
+    assert_in_turn::<4>(&rt, "abcd", ROOM_TAKEN_4);
 }
 
 const THIRTY_A: &str = "aaaaaaaaaaaaaaaaaaaaaaaaaaaaaa";
@@ -171,8 +238,8 @@ const PUSHED_CHARACTERS_30: &[Step] = &[
 
 #[test]
 fn a_push_takes_the_room_in_front_where_the_back_is_too_small(rt: HostRuntime) {
-    check_in_turn::<30>(&rt, THIRTY_A, PUSHED_TEXT_30);
-    check_in_turn::<30>(&rt, THIRTY_A, PUSHED_CHARACTERS_30);
+    assert_in_turn::<30>(&rt, THIRTY_A, PUSHED_TEXT_30);
+    assert_in_turn::<30>(&rt, THIRTY_A, PUSHED_CHARACTERS_30);
 }
 
 const BOTH_SIDES_30: &[Row] = &[
@@ -209,9 +276,9 @@ const BOTH_SIDES_4: &[Row] = &[
 
 #[test]
 fn the_part_with_less_to_move_moves_where_both_sides_have_room(rt: HostRuntime) {
-    check::<30>(&rt, BOTH_SIDES_30);
-    check::<8>(&rt, BOTH_SIDES_8);
-    check::<4>(&rt, BOTH_SIDES_4);
+    assert_each::<30>(&rt, BOTH_SIDES_30);
+    assert_each::<8>(&rt, BOTH_SIDES_8);
+    assert_each::<4>(&rt, BOTH_SIDES_4);
 }
 
 const ONE_SIDE_30: &[Row] = &[
@@ -249,8 +316,8 @@ const ONE_SIDE_8: &[Row] = &[
 
 #[test]
 fn the_part_on_the_one_side_with_room_moves(rt: HostRuntime) {
-    check::<30>(&rt, ONE_SIDE_30);
-    check::<8>(&rt, ONE_SIDE_8);
+    assert_each::<30>(&rt, ONE_SIDE_30);
+    assert_each::<8>(&rt, ONE_SIDE_8);
 }
 
 const LETTERS: &str = "abcdefghijklmnopqrstuvwxyz";
@@ -338,9 +405,9 @@ const SIDES_TOGETHER_4: &[Row] = &[
 
 #[test]
 fn the_text_slides_to_the_front_where_only_both_sides_together_have_room(rt: HostRuntime) {
-    check::<30>(&rt, SIDES_TOGETHER_30);
-    check::<8>(&rt, SIDES_TOGETHER_8);
-    check::<4>(&rt, SIDES_TOGETHER_4);
+    assert_each::<30>(&rt, SIDES_TOGETHER_30);
+    assert_each::<8>(&rt, SIDES_TOGETHER_8);
+    assert_each::<4>(&rt, SIDES_TOGETHER_4);
 }
 
 const REMOVALS_30: &[Row] = &[
@@ -373,9 +440,9 @@ const REMOVALS_4: &[Row] = &[
 
 #[test]
 fn a_removal_moves_the_shorter_part(rt: HostRuntime) {
-    check::<30>(&rt, REMOVALS_30);
-    check::<8>(&rt, REMOVALS_8);
-    check::<4>(&rt, REMOVALS_4);
+    assert_each::<30>(&rt, REMOVALS_30);
+    assert_each::<8>(&rt, REMOVALS_8);
+    assert_each::<4>(&rt, REMOVALS_4);
 }
 
 /// The characters of `LENGTHS`, the longest first.
@@ -396,7 +463,7 @@ const CUTS_AND_REPLACEMENTS_30: &[Row] = &[
 
 #[test]
 fn a_cut_and_a_replacement_leave_the_start(rt: HostRuntime) {
-    check::<30>(&rt, CUTS_AND_REPLACEMENTS_30);
+    assert_each::<30>(&rt, CUTS_AND_REPLACEMENTS_30);
 }
 
 const NO_BYTE_30: &[Row] = &[
@@ -417,8 +484,8 @@ const NO_BYTE_0: &[Row] = &[
 
 #[test]
 fn an_insertion_of_no_byte_leaves_the_start(rt: HostRuntime) {
-    check::<30>(&rt, NO_BYTE_30);
-    check::<0>(&rt, NO_BYTE_0);
+    assert_each::<30>(&rt, NO_BYTE_30);
+    assert_each::<0>(&rt, NO_BYTE_0);
 }
 
 const EMPTIED_30: &[Row] = &[
@@ -435,7 +502,7 @@ const EMPTIED_30: &[Row] = &[
 
 #[test]
 fn an_emptied_text_takes_a_whole_text_wherever_it_starts(rt: HostRuntime) {
-    check::<30>(&rt, EMPTIED_30);
+    assert_each::<30>(&rt, EMPTIED_30);
 }
 
 const FAR_STARTS_300: &[Row] = &[
@@ -446,7 +513,7 @@ const FAR_STARTS_300: &[Row] = &[
 
 #[test]
 fn a_start_above_255_is_kept(rt: HostRuntime) {
-    check::<300>(&rt, FAR_STARTS_300);
+    assert_each::<300>(&rt, FAR_STARTS_300);
 }
 
 const SHOWN_30: &[Shown] = &[(
@@ -469,8 +536,8 @@ const SHOWN_0: &[Shown] = &[("", 0, b"")];
 
 #[test]
 fn the_bytes_begin_at_the_front_and_zeros_follow(rt: HostRuntime) {
-    check_bytes::<30>(&rt, SHOWN_30);
-    check_bytes::<8>(&rt, SHOWN_8);
-    check_bytes::<4>(&rt, SHOWN_4);
-    check_bytes::<0>(&rt, SHOWN_0);
+    assert_bytes::<30>(&rt, SHOWN_30);
+    assert_bytes::<8>(&rt, SHOWN_8);
+    assert_bytes::<4>(&rt, SHOWN_4);
+    assert_bytes::<0>(&rt, SHOWN_0);
 }

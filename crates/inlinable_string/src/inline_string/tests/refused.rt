@@ -1,7 +1,7 @@
 //! Edits that are refused: the text and its start stay as they are.
 use super::edits::Answer::{BadPlace, NoChar, NotEnoughSpace, NotUtf8, WrongLength};
 use super::edits::Edit::{Insert, InsertStr, Pop, Push, PushStr, Remove, ReplaceBytes, Truncate};
-use super::{FULL, LENGTHS, NEW, Row, check};
+use super::{FULL, LENGTHS, NEW, Row, assert_each};
 
 const TWENTY_ONE: &str = "abcdefghijklmnopqrstu";
 
@@ -63,7 +63,7 @@ const REFUSED_4: &[Row] = &[
 
 #[test]
 fn a_refused_edit_leaves_the_start(rt: HostRuntime) {
-    check::<30>(&rt, REFUSED_30);
-    check::<8>(&rt, REFUSED_8);
-    check::<4>(&rt, REFUSED_4);
+    assert_each::<30>(&rt, REFUSED_30);
+    assert_each::<8>(&rt, REFUSED_8);
+    assert_each::<4>(&rt, REFUSED_4);
 }
