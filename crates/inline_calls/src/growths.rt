@@ -1,6 +1,6 @@
 //! Growths: what they make of a text, and when it goes to the heap.
 use crate::steps::Lies::{AsMade, OnHeap};
-use crate::steps::{Step, assert_each, assert_each_alone, assert_repeated_everywhere};
+use crate::steps::{Step, assert_each, assert_each_alone, assert_repeated_everywhere, whole_of};
 use crate::texts::{LETTERS_26, LETTERS_27, LETTERS_28, LETTERS_29, LETTERS_30, LETTERS_31};
 use inlinable_string::run::Command::{
     Insert, InsertStr, Push, PushStr, Reserve, ReserveExact, ShrinkToFit,
@@ -213,4 +213,16 @@ const GROWN_ON_THE_HEAP: &[(&str, &[Step])] = &[(
 fn a_text_on_the_heap_goes_on_growing(rt: HostRuntime) {
     assert!(rt; LONG.len() == 53);
     assert_each(&rt, rt.alloc(), GROWN_ON_THE_HEAP);
+}
+
+#[test]
+fn a_hundred_thousand_bytes_go_in_at_once(rt: HostRuntime) {
+    let alloc = rt.alloc();
+    let long = whole_of(&rt, alloc, "a", 100_000);
+    let whole = whole_of(&rt, alloc, "a", 100_030);
+    let steps = [
+        (PushStr(long.as_str()), Done, whole.as_str(), OnHeap),
+        (InsertStr(30, long.as_str()), Done, whole.as_str(), OnHeap),
+    ];
+    assert_each_alone(&rt, alloc, &[(LETTERS_30, &steps)]);
 }

@@ -483,20 +483,24 @@ const GROWTHS: &[Command] = &[
     ReserveExact(4),
 ];
 
-/// Gives a growth to a text of 36 letters, made as by `text_of`, while one block of `size` bytes can
-/// be had.
-fn reply_with_one_block<S: StringMake + Drop>(
-    rt: &impl Abort,
-    alloc: Global,
-    room: Option<usize>,
-    size: usize,
-    growth: Command,
-) -> Reply {
-    let mut text: S = letters(rt, alloc, room, 36);
+/// All memory that can be had but for one block of `size` bytes.
+fn all_but_one_block(rt: &impl Abort, alloc: Global, size: usize) -> Hoard {
     let block: Result<Vec<u8>, _> = Vec::with_capacity(alloc, size);
     let block = block.expect(rt, "memory");
     let hoard = all_memory(rt, alloc);
     drop(block);
+    hoard
+}
+
+/// Gives a growth to a text of 36 letters, made new, while one block of `size` bytes can be had.
+fn reply_with_one_block<S: StringMake + Drop>(
+    rt: &impl Abort,
+    alloc: Global,
+    size: usize,
+    growth: Command,
+) -> Reply {
+    let mut text: S = letters(rt, alloc, None, 36);
+    let hoard = all_but_one_block(rt, alloc, size);
     let reply = called(&mut text, growth);
     drop(hoard);
     reply
@@ -511,7 +515,7 @@ pub fn replies_with_one_block<S: StringMake + Drop>(
 ) -> Result<usize, (usize, Reply)> {
     let mut count = 0usize;
     for (i, &growth) in GROWTHS.iter().enumerate() {
-        let reply = reply_with_one_block::<S>(rt, alloc, None, size, growth);
+        let reply = reply_with_one_block::<S>(rt, alloc, size, growth);
         if reply != wanted {
             return Err((i, reply));
         }
@@ -536,4 +540,39 @@ fn assert_promotions<S: StringMake + Drop>(
 fn a_promotion_asks_once_and_for_no_more_than_its_size(rt: HostRuntime) {
     assert_promotions::<InlinableStringN<39>>(&rt, rt.alloc(), 40, Done);
     assert_promotions::<InlinableStringN<39>>(&rt, rt.alloc(), 24, NoMemory);
+}
+
+/// So many letters 'a'.
+const LETTERS_36: &str = "aaaaaaaaaaaaaaaaaaaaaaaaaaaaaaaaaaaa";
+
+/// Steps on 36 letters, of a text of which 39 may lie inline: it goes to the heap and comes back.
+const THERE_AND_BACK: &[Step] = &[
+    (
+        Push('𝄞'),
+        Done,
+        "aaaaaaaaaaaaaaaaaaaaaaaaaaaaaaaaaaaa𝄞",
+        OnHeap,
+    ),
+    (Pop, Char('𝄞'), LETTERS_36, OnHeap),
+    (ShrinkToFit, Done, LETTERS_36, Shrunk),
+    (
+        Push('𝄞'),
+        Done,
+        "aaaaaaaaaaaaaaaaaaaaaaaaaaaaaaaaaaaa𝄞",
+        OnHeap,
+    ),
+    (Pop, Char('𝄞'), LETTERS_36, OnHeap),
+    (ShrinkToFit, Done, LETTERS_36, Shrunk),
+];
+
+/// A second promotion finds the block that the first one took and a shrink gave back.
+#[test]
+fn a_text_that_comes_back_inline_gives_its_block_back(rt: HostRuntime) {
+    let (alloc, limit) = (rt.alloc(), Some(39));
+    let kind = Kind { limit, room: None };
+    let mut text: InlinableStringN<39> = letters(&rt, alloc, None, 36);
+    let hoard = all_but_one_block(&rt, alloc, 40);
+    let answer = played(&mut text, kind, THERE_AND_BACK);
+    drop(hoard);
+    assert_right(&rt, answer);
 }

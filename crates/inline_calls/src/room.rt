@@ -1,6 +1,7 @@
 //! Room: when a reservation goes to the heap, what it is good for, and when a text comes back.
+use crate::played::assert_right;
 use crate::steps::Lies::{AsMade, OnHeap, Shrunk};
-use crate::steps::{Step, assert_each, assert_each_alone};
+use crate::steps::{Step, assert_each, assert_each_alone, played_on_all};
 use crate::texts::{LETTERS_30, LETTERS_31};
 use inlinable_string::run::Command::{Pop, Push, PushStr, Reserve, ReserveExact, ShrinkToFit};
 use inlinable_string::run::Reply::{Char, Done, NoMemory};
@@ -33,6 +34,8 @@ const RESERVED: &[(&str, &[Step])] = &[
     (
         "a",
         &[
+            (Reserve(1_000_000), Done, "a", OnHeap),
+            (ReserveExact(1_000_000), Done, "a", OnHeap),
             (Reserve(usize::MAX), NoMemory, "a", AsMade),
             (ReserveExact(usize::MAX), NoMemory, "a", AsMade),
             (Reserve(usize::MAX - 1), NoMemory, "a", AsMade),
@@ -149,10 +152,12 @@ fn assert_too_large<S: StringMake + Drop>(rt: &impl Abort, alloc: Global) {
     assert!(rt; S::with_capacity(alloc, usize::MAX).is_err());
 }
 
-/// Each kind of text is made with room for 0, 10, 30, 31 and 100 bytes.
+/// Each kind of text is made with room for 0, 10, 30, 31 and 100 bytes, and for many.
 #[test]
 fn a_text_is_made_inline_with_room_for_up_to_30_bytes(rt: HostRuntime) {
     assert_each(&rt, rt.alloc(), &[("", &[])]);
+    let played = played_on_all(&rt, rt.alloc(), Some(100_000), "", &[]);
+    assert_right(&rt, played);
     assert_too_large::<InlinableString>(&rt, rt.alloc());
     assert_too_large::<String>(&rt, rt.alloc());
 }

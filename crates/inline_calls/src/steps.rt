@@ -243,7 +243,7 @@ pub fn played_on_new<S: StringMake + Drop>(
 }
 
 /// Plays the steps on a text of each of the library's types, made with this room.
-fn played_on_all(
+pub fn played_on_all(
     rt: &impl Abort,
     alloc: Global,
     room: Option<usize>,

@@ -1,6 +1,6 @@
 //! Tests of the tests: tables of edits that are wrong in one value each, and what making them has to
 //! find.
-use super::edits::Answer::{Char, Done, NotEnoughSpace, NotUtf8};
+use super::edits::Answer::{Char, Done, NotEnoughSpace, NotUtf8, WrongLength};
 use super::edits::Edit::{Pop, Push};
 use super::edits::Wrong::{Answer, Text};
 use super::edits::{Played, Step, Wrong, each_played, each_played_alone};
@@ -118,7 +118,7 @@ fn other_bytes_and_answers_than_those_of_a_row_are_found(rt: HostRuntime) {
     for rows in WRONG_BYTES {
         assert!(rt; wrong_bytes::<4>(&rt, rows) == Some(1));
     }
-    let is_found = !is_replaced_at::<5>(&rt, b"\x80", 1, Done)
+    let is_found = !is_replaced_at::<5>(&rt, b"\x80", 1, WrongLength)
         && !is_replaced_at::<5>(&rt, b"b", 1, NotUtf8)
         && !stays_full(&mut letters::<4>(&rt, 4), Push('a'), Done)
         && !stays_full(&mut letters::<4>(&rt, 4), Pop, Char('a'));
