@@ -1,6 +1,8 @@
 //! Each request for memory refused in turn, by `rt try --test --fail-alloc N`, which refuses the
 //! Nth of each test. These tests pass whichever of theirs is refused, and say `refused` where one
 //! was. `.ci/refusals` builds them anew for each N, so no test makes more than a few requests.
+ghost use Rattle.std.specs.Prelude.{IsOk};
+
 use inlinable_string::{InlinableString, InlinableStringN, Storage, StringExt, StringMake};
 use std::alloc::{AllocError, Global};
 use std::process::Abort;
@@ -8,6 +10,7 @@ use std::test::Fail;
 use test_memory::Refusals;
 
 mod runs;
+mod wrong_tables;
 
 /// Room that does not lie inline.
 const HEAP_ROOM: usize = 31;
@@ -56,26 +59,74 @@ type Start = (usize, &'static str, Storage);
 /// A growth, and what it puts before the text and after it.
 type Added = (Growth, &'static str, &'static str);
 
+/// What is wrong after a growth.
+#[derive(Clone, Copy, Debug, PartialEq)]
+enum Wrong {
+    /// It was refused, and so was another one before it.
+    SecondRefusal,
+    /// It was refused, and the text, where it lies or its room is not as before.
+    Change,
+    /// The text.
+    Text,
+    /// It is not on the heap.
+    Storage,
+}
+
+/// How many growths were right, or the number of the first that was wrong, and what is wrong there.
+type Grown = Result<usize, (usize, Wrong)>;
+
 /// Grows a text that fills its room, again if it is refused; after a refusal it is as before.
-fn assert_grown<S: StringMake + Drop>(
+fn wrong_growth<S: StringMake + Drop>(
     rt: &impl Abort,
     alloc: Global,
     refusals: &mut Refusals,
     (room, content, storage): Start,
     (growth, front, back): Added,
-) {
+) -> Option<Wrong> {
     let mut text: S = made(rt, alloc, refusals, room);
     text.push_str(content).expect(rt, "the room was asked for");
     let before = (content, storage, text.capacity());
     if grow(&mut text, growth).is_err() {
-        assert!(rt; refusals.meet(), "want of memory with no request refused");
-        assert_eq!(rt; (text.as_str(), text.storage(), text.capacity()), before);
+        if !refusals.meet() {
+            return Some(Wrong::SecondRefusal);
+        }
+        if (text.as_str(), text.storage(), text.capacity()) != before {
+            return Some(Wrong::Change);
+        }
         assert!(rt; grow(&mut text, growth).is_ok());
     }
-    assert_eq!(rt;
-        (between(text.as_str(), front, back), text.storage()),
-        (Some(content), Storage::Heap)
-    );
+    if between(text.as_str(), front, back) != Some(content) {
+        Some(Wrong::Text)
+    } else if text.storage() != Storage::Heap {
+        Some(Wrong::Storage)
+    } else {
+        None
+    }
+}
+
+/// Grows a text of its own in each of these ways.
+fn grown<S: StringMake + Drop>(
+    rt: &impl Abort,
+    alloc: Global,
+    refusals: &mut Refusals,
+    start: Start,
+    ways: &[Added],
+) -> Grown {
+    let mut count = 0usize;
+    for (i, added) in ways.iter().enumerate() {
+        if let Some(wrong) = wrong_growth::<S>(rt, alloc, refusals, start, *added) {
+            return Err((i, wrong));
+        }
+        count = count.saturating_add(1);
+    }
+    Ok(count)
+}
+
+/// Asserts that no growth was wrong.
+fn assert_right(rt: &impl Abort, grown: Grown)
+    ensures { IsOk grown }
+{
+    assert!(rt; grown.is_ok(), "{grown:?}");
 }
 
 /// What stands between these in a text that begins and ends with them.
@@ -103,16 +154,14 @@ const RESERVATIONS: &[Added] = &[
 ];
 
 /// Grows a text of its own in each of these ways.
-fn check<S: StringMake + Drop>(
+fn assert_grown<S: StringMake + Drop>(
     rt: &(impl Abort + Print),
     alloc: Global,
     start: Start,
     ways: &[Added],
 ) -> Result<(), Fail> {
     let mut refusals = Refusals::none();
-    for added in ways {
-        assert_grown::<S>(rt, alloc, &mut refusals, start, *added);
-    }
+    assert_right(rt, grown::<S>(rt, alloc, &mut refusals, start, ways));
     if refusals.has_met {
         println!(rt; "refused")?;
     }
@@ -121,52 +170,52 @@ fn check<S: StringMake + Drop>(
 
 #[test]
 fn a_push_that_promotes(rt: HostRuntime) -> Result<(), Fail> {
-    check::<InlinableString>(&rt, rt.alloc(), INLINE, PUSHES)
+    assert_grown::<InlinableString>(&rt, rt.alloc(), INLINE, PUSHES)
 }
 
 #[test]
 fn an_insertion_that_promotes(rt: HostRuntime) -> Result<(), Fail> {
-    check::<InlinableString>(&rt, rt.alloc(), INLINE, INSERTIONS)
+    assert_grown::<InlinableString>(&rt, rt.alloc(), INLINE, INSERTIONS)
 }
 
 #[test]
 fn a_reservation_that_promotes(rt: HostRuntime) -> Result<(), Fail> {
-    check::<InlinableString>(&rt, rt.alloc(), INLINE, RESERVATIONS)
+    assert_grown::<InlinableString>(&rt, rt.alloc(), INLINE, RESERVATIONS)
 }
 
 #[test]
 fn a_push_to_a_text_that_has_no_inline_room(rt: HostRuntime) -> Result<(), Fail> {
-    check::<InlinableStringN<0>>(&rt, rt.alloc(), (0, "", Storage::Inline), PUSHES)
+    assert_grown::<InlinableStringN<0>>(&rt, rt.alloc(), (0, "", Storage::Inline), PUSHES)
 }
 
 #[test]
 fn a_push_on_the_heap(rt: HostRuntime) -> Result<(), Fail> {
-    check::<InlinableString>(&rt, rt.alloc(), ON_HEAP, PUSHES)
+    assert_grown::<InlinableString>(&rt, rt.alloc(), ON_HEAP, PUSHES)
 }
 
 #[test]
 fn an_insertion_on_the_heap(rt: HostRuntime) -> Result<(), Fail> {
-    check::<InlinableString>(&rt, rt.alloc(), ON_HEAP, INSERTIONS)
+    assert_grown::<InlinableString>(&rt, rt.alloc(), ON_HEAP, INSERTIONS)
 }
 
 #[test]
 fn a_reservation_on_the_heap(rt: HostRuntime) -> Result<(), Fail> {
-    check::<InlinableString>(&rt, rt.alloc(), ON_HEAP, RESERVATIONS)
+    assert_grown::<InlinableString>(&rt, rt.alloc(), ON_HEAP, RESERVATIONS)
 }
 
 #[test]
 fn a_push_to_a_string(rt: HostRuntime) -> Result<(), Fail> {
-    check::<String>(&rt, rt.alloc(), ON_HEAP, PUSHES)
+    assert_grown::<String>(&rt, rt.alloc(), ON_HEAP, PUSHES)
 }
 
 #[test]
 fn an_insertion_into_a_string(rt: HostRuntime) -> Result<(), Fail> {
-    check::<String>(&rt, rt.alloc(), ON_HEAP, INSERTIONS)
+    assert_grown::<String>(&rt, rt.alloc(), ON_HEAP, INSERTIONS)
 }
 
 #[test]
 fn a_reservation_in_a_string(rt: HostRuntime) -> Result<(), Fail> {
-    check::<String>(&rt, rt.alloc(), ON_HEAP, RESERVATIONS)
+    assert_grown::<String>(&rt, rt.alloc(), ON_HEAP, RESERVATIONS)
 }
 
 #[test]

@@ -97,11 +97,36 @@ fn judged_from_new(
     judged(alloc, plain, commands, replies, end)
 }
 
+/// What is wrong after a run.
+#[derive(Clone, Copy, Debug, PartialEq)]
+pub enum Wrong {
+    /// More than one request was refused.
+    SecondRefusal,
+    /// None was refused, and the replies are not those with none refused.
+    Replies,
+}
+
+/// Whether a request was refused in a run with these replies, which are `ample` where none is; or
+/// what is wrong with them.
+pub fn refused_in(replies: &[Reply], ample: &[Reply]) -> Result<bool, Wrong> {
+    let mut refusals = Refusals::none();
+    for _ in count_no_memory(ample)..count_no_memory(replies) {
+        if !refusals.meet() {
+            return Err(Wrong::SecondRefusal);
+        }
+    }
+    let refused = refusals.has_met;
+    if !refused && replies != ample {
+        return Err(Wrong::Replies);
+    }
+    Ok(refused)
+}
+
 /// Asserts that at most one request was refused, that the replies are those with none refused where
-/// none was, and what the plain program says. Answers whether one was refused.
+/// none was, and that the plain program agrees. Answers whether one was refused.
 ///
 /// The plain program's own request may be the refused one: then it is asked again.
-fn check_refused(
+fn assert_refused_once(
     rt: &impl Abort,
     alloc: Global,
     policy: Policy,
@@ -110,15 +135,9 @@ fn check_refused(
     ample: &[Reply],
     end: Seen<'_>,
 ) -> bool {
-    let mut refusals = Refusals::none();
-    let fewest = count_no_memory(ample);
-    for _ in fewest..count_no_memory(replies) {
-        assert!(rt; refusals.meet(), "want of memory with no request refused");
-    }
-    let refused = refusals.has_met;
-    if !refused {
-        assert!(rt; replies == ample, "{replies:?}");
-    }
+    let refused = refused_in(replies, ample);
+    assert!(rt; refused.is_ok(), "{refused:?} in {replies:?}");
+    let refused = refused.unwrap_or(false);
     let storage = if policy.demotes {
         Storage::Inline
     } else {
@@ -147,7 +166,7 @@ fn meets_refusal<S: StringMake + Drop>(rt: &impl Abort, alloc: Global, policy: P
     let mut replies = [BadPlace; 20];
     run(&mut text, COMMANDS, &mut replies);
     let end = seen_of(&text);
-    check_refused(rt, alloc, policy, COMMANDS, &replies, REPLIES, end)
+    assert_refused_once(rt, alloc, policy, COMMANDS, &replies, REPLIES, end)
 }
 
 #[test]
@@ -172,7 +191,7 @@ fn a_run_on_a_string_behind_a_dyn(rt: HostRuntime) -> Result<(), Fail> {
     let mut replies = [BadPlace; 20];
     run_dyn(&mut text, COMMANDS, &mut replies);
     let end = seen_of_dyn(&text);
-    if check_refused(&rt, rt.alloc(), HEAP, COMMANDS, &replies, REPLIES, end) {
+    if assert_refused_once(&rt, rt.alloc(), HEAP, COMMANDS, &replies, REPLIES, end) {
         println!(rt; "refused")?;
     }
     Ok(())
@@ -190,15 +209,15 @@ fn meets_refusal_at_promotion<S: StringMake + Drop>(
     run(&mut text, &commands, &mut replies);
     let ample = [Done, Done, Char('b'), Done];
     let end = seen_of(&text);
-    let refused = check_refused(rt, alloc, policy, &commands, &replies, &ample, end);
+    let refused = assert_refused_once(rt, alloc, policy, &commands, &replies, &ample, end);
     if refused {
-        check_one_refused(rt, replies, end);
+        assert_one_refused(rt, replies, end);
     }
     refused
 }
 
 /// The first request is that of the promotion, the second that of the growth after it.
-fn check_one_refused(rt: &impl Abort, replies: [Reply; 4], end: Seen<'_>) {
+fn assert_one_refused(rt: &impl Abort, replies: [Reply; 4], end: Seen<'_>) {
     let wanted = if replies[1] == NoMemory {
         ([Done, NoMemory, Char('a'), Done], A29_EURO)
     } else {
