@@ -1,5 +1,7 @@
 //! Whole scripts, over readers and writers in memory.
 
+ghost use Rattle.std.specs.Prelude.{IsNone};
+
 mod streams;
 
 use script_language::script::script;
@@ -27,6 +29,41 @@ fn words(alloc: Global, texts: &[&str]) -> Result<Vec<String>, Fail> {
     Ok(words)
 }
 
+/// What is wrong after a script.
+#[derive(Clone, Copy, Debug, PartialEq)]
+enum Wrong {
+    /// The answer, which is this.
+    Answer(Result<(), ScriptFault>),
+    /// What it writes.
+    Output,
+}
+
+/// What is wrong where a script is to have this answer and to write this.
+fn wrong_after<R: Read>(
+    rt: &impl AllocGlobal,
+    texts: &[&str],
+    input: &mut R,
+    (answer, output): (Result<(), ScriptFault>, &[u8]),
+) -> Result<Option<Wrong>, Fail> {
+    let words = words(rt.alloc(), texts)?;
+    let mut out = Vec::new(rt.alloc());
+    let given = script(rt.alloc(), words.as_slice(), input, &mut out);
+    if given != answer {
+        Ok(Some(Wrong::Answer(given)))
+    } else if out.as_slice() != output {
+        Ok(Some(Wrong::Output))
+    } else {
+        Ok(None)
+    }
+}
+
+/// Asserts that nothing is wrong; `name` tells the script from others.
+fn assert_right(rt: &impl Abort, name: &impl Debug, wrong: Option<Wrong>)
+    ensures { IsNone wrong }
+{
+    assert!(rt; wrong.is_none(), "{wrong:?} after {name:?}");
+}
+
 /// Asserts what a script answers and what it writes; `name` tells it from others.
 fn assert_answer<R: Read>(
     rt: &(impl Abort + AllocGlobal),
@@ -35,10 +72,8 @@ fn assert_answer<R: Read>(
     input: &mut R,
     wanted: (Result<(), ScriptFault>, &[u8]),
 ) -> Result<(), Fail> {
-    let words = words(rt.alloc(), texts)?;
-    let mut out = Vec::new(rt.alloc());
-    let answer = script(rt.alloc(), words.as_slice(), input, &mut out);
-    assert_eq!(rt; (answer, out.as_slice()), wanted, "{name:?}");
+    let wrong = wrong_after(rt, texts, input, wanted)?;
+    assert_right(rt, name, wrong);
     Ok(())
 }
 
@@ -388,5 +423,46 @@ fn each_fault_has_its_line_and_its_status(rt: HostRuntime) -> Result<(), Fail> {
         let shown = format!(in rt.alloc(); "{fault}")?;
         assert_eq!(rt; (shown.as_str(), fault.status()), (line, status));
     }
+    Ok(())
+}
+
+/// Answers and outputs of `SCRIPT` of which one value is another one, and what is wrong.
+const WRONG: &[(Result<(), ScriptFault>, &[u8], Wrong)] = &[
+    (Err(ScriptFault::NoMemory), OUTPUT, Wrong::Answer(Ok(()))),
+    (Err(ScriptFault::NoMemory), b"", Wrong::Answer(Ok(()))),
+    (Ok(()), b"", Wrong::Output),
+    // The first, a middle and the last character.
+    (
+        Ok(()),
+        b"Done\nchar b\ntext a\nlength 1\nstorage inline\n",
+        Wrong::Output,
+    ),
+    (
+        Ok(()),
+        b"done\nchar b\ntext b\nlength 1\nstorage inline\n",
+        Wrong::Output,
+    ),
+    (
+        Ok(()),
+        b"done\nchar b\ntext a\nlength 1\nstorage inline",
+        Wrong::Output,
+    ),
+];
+
+/// A test of the tests.
+#[test]
+fn another_answer_or_output_than_is_wanted_is_found(rt: HostRuntime) -> Result<(), Fail> {
+    for (i, &(answer, output, wanted)) in WRONG.iter().enumerate() {
+        let mut input = SCRIPT;
+        let wrong = wrong_after(&rt, &["inline"], &mut input, (answer, output))?;
+        assert!(rt; wrong == Some(wanted), "{wrong:?} in row {i}");
+    }
+    let mut input = b"pop\npush ab\n".as_slice();
+    let wanted = (Err(ScriptFault::BadLine(1)), b"".as_slice());
+    let wrong = wrong_after(&rt, &["inline"], &mut input, wanted)?;
+    assert!(rt;
+        wrong == Some(Wrong::Answer(Err(ScriptFault::BadLine(2)))),
+        "{wrong:?}"
+    );
     Ok(())
 }
