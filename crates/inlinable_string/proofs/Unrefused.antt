@@ -4,7 +4,7 @@ use Rattle.inlinable_string.specs.Text.{size}
 use Rattle.inlinable_string.specs.State.{TextState, IsLawful}
 use Rattle.inlinable_string.specs.Edit.{edit, text_after_step, text_after}
 use Rattle.inlinable_string.specs.Run.{Need, reserves, need_of, state_after_step, IsCounted, IsLegal, LegalReplies}
-use Rattle.inlinable_string.specs.Laws.{replies_of, edited, ReservesWithin, StaysWithin}
+use Rattle.inlinable_string.specs.Laws.{replies_of, text_after_edits, ReservesWithin, StaysWithin}
 use Rattle.inlinable_string.specs.declared.string_ext.Storage.TheVariants.{Inline}
 use Rattle.inlinable_string.specs.declared.run.Command.{Command}
 use Rattle.inlinable_string.specs.declared.run.Reply.{Reply}
@@ -46,7 +46,7 @@ unrefused_replies s (c ∷ commands) (r ∷ replies) legal given =
 -- and the text is that of the edits
 pub unrefused_text : (s : TextState) (commands : List Command) (replies : List Reply)
     → LegalReplies s commands replies → ¬ Contains replies NoMemory
-    → text_after s.text commands replies ≡ edited s.text commands
+    → text_after s.text commands replies ≡ text_after_edits s.text commands
 unrefused_text s [] [] legal given = refl
 unrefused_text s [] (r ∷ replies) legal given = absurd legal
 unrefused_text s (c ∷ commands) [] legal given = absurd legal
@@ -54,7 +54,7 @@ unrefused_text s (c ∷ commands) (r ∷ replies) legal given =
     let text : text_after_step s.text c r ≡ (edit s.text c).1 =
     text_granted s.text c r (λ is. given (refused_first r replies is)) in
     unrefused_text (state_after_step s c r) commands replies legal.1
-    (λ has. given (refused_later r replies has)) ∙ ap (λ t. edited t commands) text
+    (λ has. given (refused_later r replies has)) ∙ ap (λ t. text_after_edits t commands) text
 
 -- a reservation within a limit that a `usize` counts is counted
 counted_within : (s : TextState) (need : Need) (reply : Reply) → s.policy.limit < 2 ^ 64
@@ -97,7 +97,7 @@ short_replies s commands replies laws inline within = (
 
 pub short_text : (s : TextState) (commands : List Command) (replies : List Reply) → IsLawful s
     → s.storage ≡ Inline → StaysWithin s.policy.limit s.text commands
-    → LegalReplies s commands replies → text_after s.text commands replies ≡ edited s.text commands
+    → LegalReplies s commands replies → text_after s.text commands replies ≡ text_after_edits s.text commands
 short_text s commands replies laws inline within legal =
     unrefused_text s commands replies legal
     (short_run_never_asks s commands replies laws inline within legal)
@@ -105,8 +105,8 @@ short_text s commands replies laws inline within legal =
 -- each command in its turn
 pub stays_at : (n : ℕ) (t : List ℕ) (commands : List Command) (i : ℕ) (command : Command)
     → StaysWithin n t commands → slice_get commands i ≡ Some command
-    → ReservesWithin n (edited t (take i commands)) (need_of command)
-    × (size (edit (edited t (take i commands)) command).1 ≤ n)
+    → ReservesWithin n (text_after_edits t (take i commands)) (need_of command)
+    × (size (edit (text_after_edits t (take i commands)) command).1 ≤ n)
 stays_at n t [] i command within is = cc
 stays_at n t (c ∷ commands) zero command within is =
     let same : c ≡ command = cc in
@@ -116,8 +116,8 @@ stays_at n t (c ∷ commands) (suc i) command within is =
 
 pub stays_if : (n : ℕ) (t : List ℕ) (commands : List Command)
     → ((i : ℕ) (command : Command) → slice_get commands i ≡ Some command
-    → ReservesWithin n (edited t (take i commands)) (need_of command)
-    × (size (edit (edited t (take i commands)) command).1 ≤ n))
+    → ReservesWithin n (text_after_edits t (take i commands)) (need_of command)
+    × (size (edit (text_after_edits t (take i commands)) command).1 ≤ n))
     → StaysWithin n t commands
 stays_if n t [] each = tt
 stays_if n t (c ∷ commands) each =

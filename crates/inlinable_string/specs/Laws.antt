@@ -14,9 +14,9 @@ replies_of t (command ∷ commands) =
     (edit t command).0 ∷ replies_of (edit t command).1 commands
 
 -- the text after them
-abbrev pub edited : List ℕ → List Command → List ℕ
-edited t [] = t
-edited t (command ∷ commands) = edited (edit t command).1 commands
+abbrev pub text_after_edits : List ℕ → List Command → List ℕ
+text_after_edits t [] = t
+text_after_edits t (command ∷ commands) = text_after_edits (edit t command).1 commands
 
 -- what is reserved, if it is, has room within n bytes beside the text t
 abbrev pub ReservesWithin : ℕ → List ℕ → Need → Type 0

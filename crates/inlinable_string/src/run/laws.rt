@@ -7,7 +7,7 @@ ghost use Rattle.inlinable_string.specs.Text.{bytes_of, size, cut, IsCut, IsPlac
 ghost use Rattle.inlinable_string.specs.State.{TextState, IsLawful};
 ghost use Rattle.inlinable_string.specs.Edit.{edit, text_after};
 ghost use Rattle.inlinable_string.specs.Run.{need_of, IsLegal, LegalReplies, IsRun, EachRun, state_after_step, state_after, storage_after, credit, credit_after};
-ghost use Rattle.inlinable_string.specs.Laws.{replies_of, edited, ReservesWithin, StaysWithin, PushesWithin, is_refusal};
+ghost use Rattle.inlinable_string.specs.Laws.{replies_of, text_after_edits, ReservesWithin, StaysWithin, PushesWithin, is_refusal};
 
 use super::{Command, Reply};
 use crate::string_ext::Storage;
@@ -166,7 +166,7 @@ pub fn unrefused_runs_are_edits()
         → replies ≡ replies_of s.text commands }
     ensures text { (s : TextState) (commands : List Command) (replies : List Reply)
         → LegalReplies s commands replies → ¬ Contains replies Reply.NoMemory
-        → text_after s.text commands replies ≡ edited s.text commands }
+        → text_after s.text commands replies ≡ text_after_edits s.text commands }
 {}
 
 /// Short runs are edits: the replies of plain edits are legal, no others are, and the text is that
@@ -179,15 +179,15 @@ pub fn short_runs_are_edits()
     ensures text { (s : TextState) (commands : List Command) (replies : List Reply)
         → IsLawful s → s.storage ≡ Storage.Inline
         → StaysWithin s.policy.limit s.text commands → LegalReplies s commands replies
-        → text_after s.text commands replies ≡ edited s.text commands }
+        → text_after s.text commands replies ≡ text_after_edits s.text commands }
 {}
 
 /// A run stays within a limit exactly where each command does, on the text after those before it.
 pub fn short_runs_are_short_at_each_command()
     ensures { (n : ℕ) (t : List ℕ) (commands : List Command) → StaysWithin n t commands
         ↔ ((i : ℕ) (command : Command) → slice_get commands i ≡ Some command
-        → ReservesWithin n (edited t (take i commands)) (need_of command)
-        × (size (edit (edited t (take i commands)) command).1 ≤ n)) }
+        → ReservesWithin n (text_after_edits t (take i commands)) (need_of command)
+        × (size (edit (text_after_edits t (take i commands)) command).1 ≤ n)) }
 {}
 
 /// Reserved pushes never fail: pushes directly after a reservation that was carried out, or at the

@@ -4,7 +4,7 @@ ghost use Rattle.std.specs.Prelude.{◌≡◌, ◌∷◌, [], List, ℕ, true, f
 ghost use Rattle.std.specs.Str.{chars};
 ghost use Rattle.inlinable_string.specs.Text.{size};
 ghost use Rattle.inlinable_string.specs.Run.{pushes, inserts, reserves, shrinks, nothing};
-ghost use Rattle.inlinable_string.specs.Laws.{replies_of, edited, ReservesWithin, StaysWithin, PushesWithin, is_refusal};
+ghost use Rattle.inlinable_string.specs.Laws.{replies_of, text_after_edits, ReservesWithin, StaysWithin, PushesWithin, is_refusal};
 ghost use Rattle.inline_vectors.specs.Worked.{four_edits};
 
 use inlinable_string::run::{Command, Reply};
@@ -14,13 +14,13 @@ use inlinable_string::run::{Command, Reply};
 pub fn four_edits_in_turn()
     ensures replies { replies_of (97 ∷ []) four_edits
         ≡ Reply.Done ∷ Reply.BadPlace ∷ Reply.Char 97 ∷ Reply.Char 233 ∷ [] }
-    ensures text { edited (97 ∷ []) four_edits ≡ [] }
+    ensures text { text_after_edits (97 ∷ []) four_edits ≡ [] }
 {}
 
 /// No commands have no replies, and leave the text.
 pub fn no_edits()
     ensures replies { (t : List ℕ) → replies_of t [] ≡ [] }
-    ensures text { (t : List ℕ) → edited t [] ≡ t }
+    ensures text { (t : List ℕ) → text_after_edits t [] ≡ t }
 {}
 
 /// Beside three bytes 27 may be reserved within 30, and 28 may not.
