@@ -7,22 +7,24 @@ number that is counted. A document that comes to state a number gets a line here
 
 STATED = {
     'README.md': (
-        '{crates} crates, the {edits_alone} edits of `must-fail/`, {tests} tests',
-        '{edits} edits: {edits_alone} of the library, each in a check of its own',
-        'and {edits_together}, several in one check',
-        '{library_edits} of the library, {plain_edits} of the plain program, '
-        '{script_edits} of the script language',
-        'tests that the gate proves and runs | {tests} |',
-        '{requests}, and {meetings} times',
-        '{refusal_builds} builds of tests',
+        '`crates/callers` has {callers} such functions',
         '{lists} generated lists of commands',
-        '{lists}, at 0, 8 and 30 bytes inline and on `String`',
-        '{stored_cases} cases on each of two builds',
-        'stored cases replayed, on each of the two builds | {stored_cases} |',
-        '{hostile_inputs} inputs on each of two builds',
-        'against a model of the rules, on each of the two builds | {hostile_inputs} |',
-        '{stored_cases} stored cases, {original_cases} of them answered by the original crate, '
         'and {hostile_inputs} hostile inputs',
+    ),
+    'docs/TESTING.md': (
+        '{crates} crates, the {edits_alone} edits of `must-fail/`, {tests} tests',
+        '{edits_together} edits of code ({library_edits} of the library, {plain_edits} of the plain '
+        'program, {script_edits} of the script language)',
+        '{wrong_definitions} wrong definitions, each alone',
+        '{callers} callers, and {wrong_clauses} weaker clauses',
+        '{refusal_builds} builds of tests, with each request for memory refused in turn: '
+        '{requests} of them, met {meetings} times',
+        '{stored_cases} stored cases and {replayed_answers} generated scripts, on each of two builds',
+        '{hostile_inputs} inputs on each of two builds',
+        '**Lists of commands**, {lists} from seed',
+        '**Scripts**, {stored_answers}, of which the gate runs the first {replayed_answers}',
+        '**Hostile inputs**, {hostile_inputs} from seed',
+        'generated scripts answered by the original crate, for the digests | {stored_answers} |',
     ),
     'replay/README.md': (
         'digests for {stored_answers} generated scripts',

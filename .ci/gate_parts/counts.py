@@ -9,6 +9,7 @@ import re
 from collections import Counter
 
 from floors import HOSTILE_INPUTS, REFUSALS, STORED
+from gate_parts.callers import require_callers
 from gate_parts.digests import STEP
 from gate_parts.edit_files import edits_of
 from gate_parts.replay import THOUSANDS
@@ -128,6 +129,7 @@ def counted():
         'script_edits': together['script_language'],
         'wrong_definitions': sum(edit_count('wrong-definitions').values()),
         'wrong_clauses': sum(edit_count('wrong-clauses').values()),
+        'callers': require_callers(),
         # in each crate one more build shows that no test makes a further request
         'requests': requests, 'meetings': meetings, 'refusal_builds': requests + len(REFUSALS),
         'stored_cases': cases, 'original_cases': cases - STORED['named.cases'],
