@@ -18,7 +18,7 @@ from stated import STATED
 
 LIBRARY = 'inlinable_string'
 # A crate that only tests use.
-TEST_CRATES = ('test_memory',)
+TEST_CRATES = ('test_support',)
 # Folders that no commit has.
 MADE = ('.git', 'out', '__pycache__')
 EDIT_FOLDERS = ('must-fail', 'must-fail-together', 'wrong-definitions', 'wrong-clauses')
@@ -125,7 +125,7 @@ def counted():
         'crates': len(dependencies()), 'tests': test_count(), 'lists': list_count(),
         'edits_alone': alone, 'edits_together': sum(together.values()),
         'edits': alone + sum(together.values()),
-        'library_edits': together[LIBRARY], 'plain_edits': together['inline_vectors'],
+        'library_edits': together[LIBRARY], 'plain_edits': together['inline_model'],
         'script_edits': together['script_language'],
         'wrong_definitions': sum(edit_count('wrong-definitions').values()),
         'wrong_clauses': sum(edit_count('wrong-clauses').values()),

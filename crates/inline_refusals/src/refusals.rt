@@ -7,7 +7,7 @@ use inlinable_string::{InlinableString, InlinableStringN, Storage, StringExt, St
 use std::alloc::{AllocError, Global};
 use std::process::Abort;
 use std::test::Fail;
-use test_memory::Refusals;
+use test_support::Refusals;
 
 mod runs;
 mod wrong_tables;

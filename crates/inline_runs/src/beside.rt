@@ -4,13 +4,13 @@
 //! the tests (`wrong_rows`) can play rows that are wrong in one value.
 ghost use Rattle.std.specs.Prelude.{◌≡◌, length, IsNone, IsOk};
 ghost use Rattle.inlinable_string.specs.Run.{LegalReplies, state_after};
-ghost use Rattle.inline_vectors.specs.Plain.{state_of, IsSeenAs};
+ghost use Rattle.inline_model.specs.Plain.{state_of, IsSeenAs};
 
 use inlinable_string::run::{Command, Reply, run, run_dyn};
 use inlinable_string::{Storage, StringExt};
-use inline_vectors::plain::plain_from;
-use inline_vectors::plain::room::PlainText;
-use inline_vectors::verdict::{Policy, Seen, Verdict, judged, seen_of, seen_of_dyn};
+use inline_model::plain::plain_from;
+use inline_model::plain::room::PlainText;
+use inline_model::verdict::{Policy, Seen, Verdict, judged, seen_of, seen_of_dyn};
 use std::alloc::Global;
 use std::process::Abort;
 

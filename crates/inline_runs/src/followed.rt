@@ -9,8 +9,8 @@ use inlinable_string::run::Command::{
 use inlinable_string::run::Reply::{
     self, BadPlace, Char, Done, NoChar, NoMemory, NotUtf8, WrongLength,
 };
-use inline_vectors::plain::plain_from;
-use inline_vectors::verdict::{Seen, Verdict, judged};
+use inline_model::plain::plain_from;
+use inline_model::verdict::{Seen, Verdict, judged};
 use std::alloc::Global;
 use std::process::Abort;
 use std::test::Fail;

@@ -1,4 +1,4 @@
-//! Tests over the runs of `inlinable_string`, with the plain program of `inline_vectors` beside them.
+//! Tests over the runs of `inlinable_string`, with the plain program of `inline_model` beside them.
 #![tactic(auto)]
 
 #[cfg(test)]

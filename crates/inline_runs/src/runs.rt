@@ -13,7 +13,7 @@ use inlinable_string::run::Reply::{
     self, BadPlace, Char, Done, NoChar, NoMemory, NotUtf8, WrongLength,
 };
 use inlinable_string::{InlinableString, InlinableStringN, Storage, StringExt, StringMake};
-use inline_vectors::verdict::{HEAP, Policy, Seen, inlinable, seen_of, seen_of_dyn};
+use inline_model::verdict::{HEAP, Policy, Seen, inlinable, seen_of, seen_of_dyn};
 use std::alloc::Global;
 use std::process::Abort;
 use std::test::Fail;

@@ -6,7 +6,7 @@ use script_language::script::script;
 use std::alloc::Global;
 use std::process::Abort;
 use std::test::Fail;
-use test_memory::Hoard;
+use test_support::Hoard;
 
 /// The answer to a script, and how many bytes of the room it wrote.
 pub fn written_into(

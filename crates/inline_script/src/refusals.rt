@@ -7,7 +7,7 @@ use script_language::ScriptFault;
 use std::alloc::Global;
 use std::process::Abort;
 use std::test::Fail;
-use test_memory::Refusals;
+use test_support::Refusals;
 
 /// A script, what it prints, and what it prints where a request of its run is refused.
 #[derive(Clone, Copy)]

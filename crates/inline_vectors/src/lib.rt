@@ -1,8 +1,29 @@
-//! What stands beside `inlinable_string`: its definitions as a plain program, what that says of a
-//! run of the real code, and rows that the prover computes from the definitions. The tests that use
-//! it stand in crates above.
+//! Tests over the public calls of `inlinable_string`, with the values that they must give.
 #![tactic(auto)]
 
-pub mod plain;
-pub mod verdict;
-pub mod worked;
+#[cfg(test)]
+mod carried;
+#[cfg(test)]
+mod cuts;
+#[cfg(test)]
+mod growths;
+#[cfg(test)]
+mod inline;
+#[cfg(test)]
+mod limits;
+#[cfg(test)]
+mod memory;
+#[cfg(test)]
+mod objects;
+#[cfg(test)]
+mod places;
+#[cfg(test)]
+mod played;
+#[cfg(test)]
+mod room;
+#[cfg(test)]
+mod steps;
+#[cfg(test)]
+mod texts;
+#[cfg(test)]
+mod wrong_tables;

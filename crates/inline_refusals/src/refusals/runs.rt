@@ -8,14 +8,12 @@ use inlinable_string::run::Reply::{
 };
 use inlinable_string::run::{run, run_dyn};
 use inlinable_string::{InlinableString, InlinableStringN, Storage, StringExt, StringMake};
-use inline_vectors::plain::plain_from;
-use inline_vectors::verdict::{
-    HEAP, Policy, Seen, Verdict, inlinable, judged, seen_of, seen_of_dyn,
-};
+use inline_model::plain::plain_from;
+use inline_model::verdict::{HEAP, Policy, Seen, Verdict, inlinable, judged, seen_of, seen_of_dyn};
 use std::alloc::{AllocError, Global};
 use std::process::Abort;
 use std::test::Fail;
-use test_memory::Refusals;
+use test_support::Refusals;
 
 /// Commands of each kind on a new text.
 const COMMANDS: &[Command<'static>] = &[

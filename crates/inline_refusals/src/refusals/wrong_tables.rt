@@ -6,7 +6,7 @@ use super::{Added, Growth, INLINE, Wrong, grown};
 use inlinable_string::InlinableString;
 use inlinable_string::run::Reply::{self, Char, Done, NoMemory};
 use std::process::Abort;
-use test_memory::Refusals;
+use test_support::Refusals;
 
 const RIGHT: Added = (Growth::Push('é'), "", "é");
 

@@ -12,8 +12,8 @@ use inlinable_string::run::Command::{self, Pop, Push, PushStr, Remove, ShrinkToF
 use inlinable_string::run::Reply::{self, BadPlace, Char, Done, NoChar, NoMemory, NotUtf8};
 use inlinable_string::run::run_each;
 use inlinable_string::{BoxableString, Storage, StringExt, StringMake};
-use inline_vectors::plain::room::PlainText;
-use inline_vectors::verdict::{HEAP, Policy, inlinable, seen_of_dyn};
+use inline_model::plain::room::PlainText;
+use inline_model::verdict::{HEAP, Policy, inlinable, seen_of_dyn};
 use std::alloc::Global;
 use std::process::Abort;
 use std::test::Fail;

@@ -12,9 +12,9 @@ use inlinable_string::run::Reply::{
 };
 use inlinable_string::run::{run, run_dyn};
 use inlinable_string::{InlinableString, InlinableStringN, Storage, StringExt, StringMake};
-use inline_vectors::plain::room::PlainText;
-use inline_vectors::plain::text::{edit, size_of};
-use inline_vectors::verdict::{HEAP, Policy, Seen, inlinable, seen_of, seen_of_dyn};
+use inline_model::plain::room::PlainText;
+use inline_model::plain::text::{edit, size_of};
+use inline_model::verdict::{HEAP, Policy, Seen, inlinable, seen_of, seen_of_dyn};
 use std::alloc::{AllocError, Global};
 use std::process::Abort;
 use std::test::Fail;

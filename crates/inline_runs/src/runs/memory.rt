@@ -14,12 +14,12 @@ use inlinable_string::run::Command::{
 use inlinable_string::run::Reply::{self, BadPlace, Char, Done, NoMemory};
 use inlinable_string::run::run;
 use inlinable_string::{InlinableString, InlinableStringN, Storage, StringExt, StringMake};
-use inline_vectors::plain::room::PlainText;
-use inline_vectors::verdict::{HEAP, Policy, inlinable, seen_of};
+use inline_model::plain::room::PlainText;
+use inline_model::verdict::{HEAP, Policy, inlinable, seen_of};
 use std::alloc::Global;
 use std::process::Abort;
 use std::test::Fail;
-use test_memory::Hoard;
+use test_support::Hoard;
 
 /// All memory that can be had.
 pub fn all_memory(rt: &impl Abort, alloc: Global) -> Hoard {

@@ -12,8 +12,8 @@ use Storage::{Heap, Inline};
 use inlinable_string::run::Command::{self, Pop, Push, PushStr};
 use inlinable_string::run::Reply::{self, Char, Done, NoChar, NoMemory};
 use inlinable_string::{InlinableString, Storage, StringMake};
-use inline_vectors::verdict::Verdict::OtherEnd;
-use inline_vectors::verdict::{HEAP, Seen, inlinable};
+use inline_model::verdict::Verdict::OtherEnd;
+use inline_model::verdict::{HEAP, Seen, inlinable};
 use std::process::Abort;
 
 /// A row of which each value is right.

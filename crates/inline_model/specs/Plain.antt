@@ -1,0 +1,32 @@
+-- What the values of the plain program stand for.
+use Rattle.std.specs.Prelude.{◌≡◌, ◌+◌, ◌≤◌}
+use Rattle.std.specs.Str.{chars}
+use Rattle.inlinable_string.specs.Text.{size}
+use Rattle.inlinable_string.specs.State.{TextState}
+use Rattle.inlinable_string.specs.Run.{Need, pushes, inserts, reserves, shrinks, nothing}
+use Rattle.inline_model.specs.declared.plain.room.PlainText.{PlainText}
+use Rattle.inline_model.specs.declared.verdict.Seen.{Seen}
+use Rattle.inline_model.specs.declared.plain.room.Need as plain
+use Rattle.inline_model.specs.declared.plain.room.Need.TheVariants.{Pushes, Inserts, Reserves, Shrinks, Nothing}
+
+-- the state of a plain text; its capacity is the least that is certain
+abbrev pub state_of : PlainText → TextState
+state_of plain = record {
+  text = plain.text.items;
+  storage = plain.storage;
+  capacity = size plain.text.items + plain.credit;
+  policy = record { demotes = plain.demotes; limit = plain.limit };
+}
+
+-- a need, in the words of the definitions
+abbrev pub need_in : plain.Need → Need
+need_in (Pushes n) = pushes n
+need_in (Inserts n) = inserts n
+need_in (Reserves n) = reserves n
+need_in Shrinks = shrinks
+need_in Nothing = nothing
+
+-- what a text shows is what a state says, with as much room or more
+abbrev pub IsSeenAs : Seen → TextState → Type 0
+IsSeenAs seen s = (chars seen.string.now ≡ s.text) × (seen.storage ≡ s.storage)
+    × (s.capacity ≤ seen.capacity)

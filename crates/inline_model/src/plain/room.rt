@@ -1,0 +1,198 @@
+//! Where a plain text lies, and for what it has room.
+ghost use Rattle.std.specs.Prelude.{◌≡◌, ◌↔◌, IfOk, IsTrue};
+ghost use Rattle.std.specs.Str.{chars};
+ghost use Rattle.inlinable_string.specs.Text.{size};
+ghost use Rattle.inlinable_string.specs.State.{HasInlineRoom, storage_with_room, storage_when_shrunk};
+ghost use Rattle.inlinable_string.specs.Run.{need_of, storage_when_met, storage_after_step, credit_when_met, credit_after_step, AsksMemory, IsMet, IsFree, IsCounted, shrinks};
+ghost use Rattle.inline_model.specs.Plain.{state_of, need_in};
+
+use crate::plain::text::{edit, size_of};
+use inlinable_string::Storage;
+use inlinable_string::run::{Command, Reply};
+use std::alloc::{AllocError, Global};
+
+/// A text as a plain list, with where it lies.
+#[derive(Drop)]
+pub struct PlainText {
+    /// Its characters.
+    pub text: Vec<char>,
+    /// Where its bytes lie.
+    pub storage: Storage,
+    /// How many bytes more have room there for certain.
+    pub credit: usize,
+    /// Whether shrinking brings a text back from the heap.
+    pub demotes: bool,
+    /// How many bytes lie inline at most.
+    pub limit: usize,
+}
+
+/// What a command needs of the room where a text lies.
+#[derive(Clone, Copy)]
+pub enum Need {
+    /// So many bytes more at the end.
+    Pushes(usize),
+    /// So many bytes more at any place.
+    Inserts(usize),
+    /// Room for so many bytes more.
+    Reserves(usize),
+    /// No more room than the text has bytes.
+    Shrinks,
+    /// No room.
+    Nothing,
+}
+
+/// How many bytes the text of a string has.
+fn bytes_in(string: &str) -> usize
+    ensures { result ≡ size (chars string.now) }
+{
+    string.len()
+}
+
+/// What a command needs.
+pub fn need_of(command: Command) -> Need
+    ensures { need_in result ≡ need_of command.entry }
+{
+    match command {
+        Command::Push(c) => Need::Pushes(c.len_utf8()),
+        Command::PushStr(string) => Need::Pushes(bytes_in(string)),
+        Command::Insert(_, c) => Need::Inserts(c.len_utf8()),
+        Command::InsertStr(_, string) => Need::Inserts(bytes_in(string)),
+        Command::Truncate(_) => Need::Nothing,
+        Command::Pop => Need::Nothing,
+        Command::Remove(_) => Need::Nothing,
+        Command::Clear => Need::Nothing,
+        Command::ReplaceBytes(_) => Need::Nothing,
+        Command::Reserve(bytes) => Need::Reserves(bytes),
+        Command::ReserveExact(bytes) => Need::Reserves(bytes),
+        Command::ShrinkToFit => Need::Shrinks,
+    }
+}
+
+/// Whether the text lies inline, and stays within the limit with so many bytes more.
+pub fn has_inline_room(plain: &PlainText, bytes: usize) -> bool
+    ensures { IsTrue result ↔ HasInlineRoom (state_of plain.now) bytes }
+{
+    match plain.storage {
+        Storage::Inline => size_of(&plain.text) as u128 + bytes as u128 <= plain.limit as u128,
+        Storage::Heap => false,
+    }
+}
+
+/// Where the text lies once it has got room for so many bytes more.
+pub fn storage_with_room(plain: &PlainText, bytes: usize) -> Storage
+    ensures { result ≡ storage_with_room (state_of plain.now) bytes }
+{
+    if has_inline_room(plain, bytes) {
+        Storage::Inline
+    } else {
+        Storage::Heap
+    }
+}
+
+/// Whether the text may lie inline by what decides it, wherever it lies now.
+pub fn may_shrink(plain: &PlainText) -> bool
+    ensures { IsTrue result ↔ IsMet (state_of plain.now) shrinks }
+{
+    plain.demotes && size_of(&plain.text) <= plain.limit
+}
+
+/// Where the text lies once it was asked to take no more room than it needs.
+pub fn storage_when_shrunk(plain: &PlainText) -> Storage
+    ensures { result ≡ storage_when_shrunk (state_of plain.now) }
+{
+    if plain.storage == Storage::Inline || may_shrink(plain) {
+        Storage::Inline
+    } else {
+        Storage::Heap
+    }
+}
+
+/// Where the text lies once a need is met.
+pub fn storage_when_met(plain: &PlainText, need: Need) -> Storage
+    ensures { result ≡ storage_when_met (state_of plain.now) (need_in need) }
+{
+    match need {
+        Need::Pushes(bytes) => storage_with_room(plain, bytes),
+        Need::Inserts(bytes) => storage_with_room(plain, bytes),
+        Need::Reserves(bytes) => storage_with_room(plain, bytes),
+        Need::Shrinks => storage_when_shrunk(plain),
+        Need::Nothing => plain.storage,
+    }
+}
+
+/// Where the text lies after a command with its reply.
+pub fn storage_after_step(plain: &PlainText, command: Command, reply: Reply) -> Storage
+    ensures { result ≡ storage_after_step (state_of plain.now) command.entry reply }
+{
+    match reply {
+        Reply::Done => storage_when_met(plain, need_of(command)),
+        _ => plain.storage,
+    }
+}
+
+/// How many bytes have room for certain once a need is met, where it was `credit`.
+pub fn credit_when_met(credit: usize, need: Need) -> usize
+    ensures { result ≡ credit_when_met credit (need_in need) }
+{
+    match need {
+        Need::Pushes(bytes) => credit.saturating_sub(bytes),
+        Need::Reserves(bytes) => bytes,
+        Need::Inserts(_) | Need::Shrinks | Need::Nothing => 0,
+    }
+}
+
+/// How many bytes have room for certain after a command with its reply, where it was `credit`.
+pub fn credit_after_step(credit: usize, command: Command, reply: Reply) -> usize
+    ensures { result ≡ credit_after_step credit command.entry reply }
+{
+    match reply {
+        Reply::Done => credit_when_met(credit, need_of(command)),
+        Reply::BadPlace => credit,
+        _ => 0,
+    }
+}
+
+/// Whether what is needed is there without any memory.
+pub fn is_met(plain: &PlainText, need: Need) -> bool
+    ensures { IsTrue result ↔ IsMet (state_of plain.now) (need_in need) }
+{
+    match need {
+        Need::Pushes(bytes) => has_inline_room(plain, bytes) || bytes <= plain.credit,
+        Need::Inserts(bytes) => has_inline_room(plain, bytes),
+        Need::Reserves(bytes) => has_inline_room(plain, bytes),
+        Need::Shrinks => may_shrink(plain),
+        Need::Nothing => true,
+    }
+}
+
+/// Whether the command may ask for memory: it needs room, and no other refusal comes first.
+pub fn asks_memory(alloc: Global, text: &[char], command: Command) -> Result<bool, AllocError>
+    ensures { IfOk result (λ asks. IsTrue asks ↔ AsksMemory text.now command.entry) }
+{
+    let needs_room = match need_of(command) {
+        Need::Nothing => false,
+        _ => true,
+    };
+    let (reply, _) = edit(alloc, text, command)?;
+    Ok(needs_room && reply == Reply::Done)
+}
+
+/// Whether the command may not be refused for want of memory.
+pub fn is_free(alloc: Global, plain: &PlainText, command: Command) -> Result<bool, AllocError>
+    ensures { IfOk result (λ free. IsTrue free ↔ IsFree (state_of plain.now) command.entry) }
+{
+    let asks = asks_memory(alloc, &plain.text, command)?;
+    Ok(!asks || is_met(plain, need_of(command)))
+}
+
+/// Whether the reply says of no room that it is reserved which a `usize` can't count.
+pub fn is_counted(plain: &PlainText, need: Need, reply: Reply) -> bool
+    ensures { IsTrue result ↔ IsCounted (state_of plain.now) (need_in need) reply }
+{
+    match need {
+        Need::Reserves(bytes) => {
+            reply != Reply::Done || size_of(&plain.text).checked_add(bytes).is_some()
+        }
+        _ => true,
+    }
+}

@@ -1,0 +1,119 @@
+//! The words of the laws: runs without refusals, runs that stay within a limit, and pushes within a
+//! reservation.
+ghost use Rattle.std.specs.Prelude.{◌≡◌, ◌∷◌, [], List, ℕ, true, false, codes};
+ghost use Rattle.std.specs.Str.{chars};
+ghost use Rattle.inlinable_string.specs.Text.{size};
+ghost use Rattle.inlinable_string.specs.Run.{pushes, inserts, reserves, shrinks, nothing};
+ghost use Rattle.inlinable_string.specs.Laws.{replies_of, text_after_edits, ReservesWithin, StaysWithin, PushesWithin, is_refusal};
+ghost use Rattle.inline_model.specs.Worked.{four_edits};
+
+use inlinable_string::run::{Command, Reply};
+
+/// é is put at the end of "a"; a cut at 2 is inside it, the a is taken out, and then the é is taken
+/// off.
+pub fn four_edits_in_turn()
+    ensures replies { replies_of (97 ∷ []) four_edits
+        ≡ Reply.Done ∷ Reply.BadPlace ∷ Reply.Char 97 ∷ Reply.Char 233 ∷ [] }
+    ensures text { text_after_edits (97 ∷ []) four_edits ≡ [] }
+{}
+
+/// No commands have no replies, and leave the text.
+pub fn no_edits()
+    ensures replies { (t : List ℕ) → replies_of t [] ≡ [] }
+    ensures text { (t : List ℕ) → text_after_edits t [] ≡ t }
+{}
+
+/// Beside three bytes 27 may be reserved within 30, and 28 may not.
+pub fn reservation_of_27_bytes_is_within()
+    ensures met { (t : List ℕ) → size t ≡ 3 → ReservesWithin 30 t (reserves 27) }
+    ensures missed { (t : List ℕ) → size t ≡ 3 → ¬ ReservesWithin 30 t (reserves 28) }
+{}
+
+/// Whatever else is needed reserves nothing.
+pub fn other_needs_reserve_nothing()
+    ensures push { (t : List ℕ) → ReservesWithin 0 t (pushes 1) }
+    ensures insert { (t : List ℕ) → ReservesWithin 0 t (inserts 1) }
+    ensures shrink { (t : List ℕ) → ReservesWithin 0 t shrinks }
+    ensures other { (t : List ℕ) → ReservesWithin 0 t nothing }
+{}
+
+/// From the empty text 30 bytes at the end stay within 30.
+pub fn thirty_bytes_stay_within(string: &str)
+    requires { size (chars string.now) ≡ 30 }
+    ensures met { StaysWithin 30 [] (Command.PushStr string.entry ∷ []) }
+    ensures missed { ¬ StaysWithin 29 [] (Command.PushStr string.entry ∷ []) }
+{}
+
+/// And 31 bytes don't.
+pub fn thirty_one_bytes_do_not_stay_within(string: &str)
+    requires { size (chars string.now) ≡ 31 }
+    ensures { ¬ StaysWithin 30 [] (Command.PushStr string.entry ∷ []) }
+{}
+
+/// What is reserved counts beside the text: 30 bytes beside none, 27 beside three.
+pub fn reserved_bytes_stay_within()
+    ensures met { StaysWithin 30 [] (Command.Reserve 30 ∷ []) }
+    ensures missed { ¬ StaysWithin 30 [] (Command.Reserve 31 ∷ []) }
+    ensures exact { StaysWithin 30 [] (Command.ReserveExact 30 ∷ []) }
+    ensures beside_three { (t : List ℕ) → size t ≡ 3
+        → StaysWithin 30 t (Command.Reserve 27 ∷ []) }
+    ensures missed_beside_three { (t : List ℕ) → size t ≡ 3
+        → ¬ StaysWithin 30 t (Command.Reserve 28 ∷ []) }
+    ensures exact_missed { (t : List ℕ) → size t ≡ 3
+        → ¬ StaysWithin 30 t (Command.ReserveExact 28 ∷ []) }
+{}
+
+/// Each text of a run counts, but for the one that it starts from: the second command leaves four
+/// bytes, though the third would leave fewer.
+pub fn each_text_stays_within()
+    ensures met { StaysWithin 4 [] (Command.Push 8364 ∷ Command.Push 97 ∷ Command.Pop ∷ []) }
+    ensures missed { ¬ StaysWithin 3 []
+        (Command.Push 8364 ∷ Command.Push 97 ∷ Command.Pop ∷ []) }
+    ensures cleared { (t : List ℕ) → StaysWithin 3 t (Command.Clear ∷ Command.Push 8364 ∷ []) }
+    ensures none { (t : List ℕ) → StaysWithin 0 t [] }
+{}
+
+/// Ten bytes at the end are within ten, alone or with pushes of nothing, and not with another byte.
+pub fn ten_bytes_are_within(string: &str)
+    requires { size (chars string.now) ≡ 10 }
+    ensures met { PushesWithin 10 (Command.PushStr string.entry ∷ []) }
+    ensures missed { ¬ PushesWithin 9 (Command.PushStr string.entry ∷ []) }
+    ensures one_more { ¬ PushesWithin 10 (Command.PushStr string.entry ∷ Command.Push 97 ∷ []) }
+{}
+
+/// Two pushes of five bytes each are within ten.
+pub fn two_pushes_are_within(first: &str, second: &str)
+    requires first { size (chars first.now) ≡ 5 }
+    requires second { size (chars second.now) ≡ 5 }
+    ensures met { PushesWithin 10
+        (Command.PushStr first.entry ∷ Command.PushStr second.entry ∷ []) }
+    ensures missed { ¬ PushesWithin 9
+        (Command.PushStr first.entry ∷ Command.PushStr second.entry ∷ []) }
+{}
+
+/// A push of eleven bytes is not within ten.
+pub fn eleven_bytes_are_not_within(string: &str)
+    requires { size (chars string.now) ≡ 11 }
+    ensures { ¬ PushesWithin 10 (Command.PushStr string.entry ∷ []) }
+{}
+
+/// Commands other than pushes are not within any number, also where they add nothing; no commands
+/// are within each.
+pub fn pushes_alone_are_within()
+    ensures none { PushesWithin 0 [] }
+    ensures push { PushesWithin 3 (Command.Push 8364 ∷ []) }
+    ensures pop { (k : ℕ) → ¬ PushesWithin k (Command.Pop ∷ []) }
+    ensures insert { (k : ℕ) → ¬ PushesWithin k (Command.Insert 0 97 ∷ []) }
+    ensures reserve { (k : ℕ) → ¬ PushesWithin k (Command.Reserve 0 ∷ []) }
+{}
+
+/// Want of memory is a refusal of memory, and no other reply is.
+pub fn want_of_memory_is_a_refusal()
+    ensures no_memory { is_refusal Reply.NoMemory ≡ true }
+    ensures done { is_refusal Reply.Done ≡ false }
+    ensures char { is_refusal (Reply.Char 97) ≡ false }
+    ensures no_char { is_refusal Reply.NoChar ≡ false }
+    ensures bad_place { is_refusal Reply.BadPlace ≡ false }
+    ensures not_utf8 { is_refusal Reply.NotUtf8 ≡ false }
+    ensures wrong_length { is_refusal Reply.WrongLength ≡ false }
+{}

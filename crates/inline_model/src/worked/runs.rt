@@ -1,0 +1,160 @@
+//! Lists of commands, with what is left of the text and whether the replies are legal.
+ghost use Rattle.std.specs.Prelude.{◌≡◌, ◌+◌, ◌<◌, ◌∷◌, [], List, ℕ, length, codes, replicate};
+ghost use Rattle.std.specs.Str.{chars};
+ghost use Rattle.inlinable_string.specs.Text.{size};
+ghost use Rattle.inlinable_string.specs.State.{TextState};
+ghost use Rattle.inlinable_string.specs.Edit.{text_after};
+ghost use Rattle.inlinable_string.specs.Run.{LegalReplies, IsRun, EachRun, state_after_step, state_after, storage_after, credit_after};
+ghost use Rattle.inlinable_string.specs.Step.{Covers, IsStep};
+ghost use Rattle.inline_model.specs.Worked.{inline_text, heap_text, heap_only_text, two_commands, six_commands, six_replies, room_commands, room_replies};
+
+use inlinable_string::Storage;
+use inlinable_string::run::{Command, Reply};
+
+/// Fewer replies than commands, or more, are not legal.
+#[tactic(auto, using(crate::proofs::Follows::as_many))]
+pub fn each_command_has_one_reply()
+    ensures fewer { (s : TextState) (commands : List Command) (replies : List Reply)
+        → length replies < length commands → ¬ LegalReplies s commands replies }
+    ensures more { (s : TextState) (commands : List Command) (replies : List Reply)
+        → length commands < length replies → ¬ LegalReplies s commands replies }
+{}
+
+/// To the empty text 27 times a, then € and b are added; a cut at 28 is inside €, one at 27 is done,
+/// and the last a is taken off. 26 times a is left, on the heap since there were 31 bytes.
+pub fn run_to_the_heap(long: &str, euro: &str, letter: &str)
+    requires long { long.now ≡ replicate 27 97 }
+    requires euro { euro.now ≡ 226 ∷ 130 ∷ 172 ∷ [] }
+    requires letter { letter.now ≡ codes "b" }
+    ensures text { text_after [] (six_commands long.entry euro.entry letter.entry)
+        (six_replies Reply.Done) ≡ replicate 26 97 }
+    ensures storage { storage_after (inline_text [] 30)
+        (six_commands long.entry euro.entry letter.entry) (six_replies Reply.Done)
+        ≡ Storage.Heap }
+    ensures legal { LegalReplies (inline_text [] 30)
+        (six_commands long.entry euro.entry letter.entry) (six_replies Reply.Done) }
+{}
+
+/// The same where memory is refused to b: 26 times a is left, inline since there were 30 bytes.
+pub fn run_that_stays_inline(long: &str, euro: &str, letter: &str)
+    requires long { long.now ≡ replicate 27 97 }
+    requires euro { euro.now ≡ 226 ∷ 130 ∷ 172 ∷ [] }
+    requires letter { letter.now ≡ codes "b" }
+    ensures text { text_after [] (six_commands long.entry euro.entry letter.entry)
+        (six_replies Reply.NoMemory) ≡ replicate 26 97 }
+    ensures storage { storage_after (inline_text [] 30)
+        (six_commands long.entry euro.entry letter.entry) (six_replies Reply.NoMemory)
+        ≡ Storage.Inline }
+    ensures legal { LegalReplies (inline_text [] 30)
+        (six_commands long.entry euro.entry letter.entry) (six_replies Reply.NoMemory) }
+{}
+
+/// Memory is refused to a reservation that would bring "aé" to the heap; then € is put in at 1, not
+/// taken out at 2, and taken out at 1, and room for as many bytes as lie inline is reserved.
+pub fn run_of_a_refused_promotion()
+    ensures text { text_after (97 ∷ 233 ∷ []) room_commands room_replies ≡ 97 ∷ 233 ∷ [] }
+    ensures storage { storage_after (inline_text (97 ∷ 233 ∷ []) 30) room_commands room_replies
+        ≡ Storage.Inline }
+    ensures credit { credit_after (inline_text (97 ∷ 233 ∷ []) 30) room_commands room_replies
+        ≡ 27 }
+    ensures legal { LegalReplies (inline_text (97 ∷ 233 ∷ []) 30) room_commands room_replies }
+{}
+
+/// Memory may not be refused to ten bytes at the end once room for ten is reserved, whatever the
+/// text is and wherever it lies.
+pub fn reserved_push_is_not_refused(string: &str)
+    requires { size (chars string.now) ≡ 10 }
+    ensures { (s : TextState) → ¬ LegalReplies s
+        (Command.Reserve 10 ∷ Command.PushStr string.entry ∷ [])
+        (Reply.Done ∷ Reply.NoMemory ∷ []) }
+{}
+
+/// After a step a text has room for its bytes and for the credit, and keeps its policy: after a
+/// reservation for what was reserved, after want of memory for no more.
+pub fn states_after_a_step()
+    ensures reserve { (t : List ℕ)
+        → state_after_step (heap_text t 40) (Command.Reserve 100) Reply.Done
+        ≡ heap_text t (size t + 100) }
+    ensures refused { (t : List ℕ)
+        → state_after_step (heap_text t 40) (Command.Push 97) Reply.NoMemory
+        ≡ heap_text t (size t + 0) }
+    ensures heap_only { (t : List ℕ)
+        → state_after_step (heap_only_text t 40) Command.ShrinkToFit Reply.Done
+        ≡ heap_only_text t (size t + 0) }
+{}
+
+/// Commands without a reply, and replies without a command, do nothing.
+pub fn nothing_is_done_alone()
+    ensures command { (t : List ℕ) (command : Command) (commands : List Command)
+        → text_after t (command ∷ commands) [] ≡ t }
+    ensures reply { (t : List ℕ) (replies : List Reply) → text_after t [] replies ≡ t }
+    ensures command_state { (s : TextState) (command : Command) (commands : List Command)
+        → state_after s (command ∷ commands) [] ≡ s }
+    ensures reply_state { (s : TextState) (replies : List Reply)
+        → state_after s [] replies ≡ s }
+{}
+
+/// A value in more room than a state says is covered by it, and in less room, or with another text,
+/// storage or policy, it is not.
+pub fn state_covers_values()
+    ensures same { (s : TextState) → Covers s s }
+    ensures more_room { (t : List ℕ) → Covers (heap_text t 40) (heap_text t 41) }
+    ensures less_room { (t : List ℕ) → ¬ Covers (heap_text t 40) (heap_text t 39) }
+    ensures text { ¬ Covers (heap_text [] 40) (heap_text (97 ∷ []) 40) }
+    ensures storage { (t : List ℕ) → ¬ Covers (inline_text t 30) (heap_text t 30) }
+    ensures policy { (t : List ℕ) → ¬ Covers (heap_text t 40) (heap_only_text t 40) }
+{}
+
+/// "a" put at the end of the empty text on the heap, in room for 40 bytes, leaves no less room, and
+/// no other text, storage or policy. Want of memory is not legal, nor are fewer replies or more.
+pub fn run_of_one_push()
+    ensures met { IsRun (heap_text [] 40) (Command.Push 97 ∷ []) (Reply.Done ∷ [])
+        (heap_text (97 ∷ []) 40) }
+    ensures less_room { ¬ IsRun (heap_text [] 40) (Command.Push 97 ∷ []) (Reply.Done ∷ [])
+        (heap_text (97 ∷ []) 39) }
+    ensures text { ¬ IsRun (heap_text [] 40) (Command.Push 97 ∷ []) (Reply.Done ∷ [])
+        (heap_text [] 40) }
+    ensures storage { ¬ IsRun (heap_text [] 30) (Command.Push 97 ∷ []) (Reply.Done ∷ [])
+        (inline_text (97 ∷ []) 30) }
+    ensures policy { ¬ IsRun (heap_text [] 40) (Command.Push 97 ∷ []) (Reply.Done ∷ [])
+        (heap_only_text (97 ∷ []) 40) }
+    ensures refused { ¬ IsRun (heap_text [] 40) (Command.Push 97 ∷ []) (Reply.NoMemory ∷ [])
+        (heap_text [] 40) }
+    ensures fewer { ¬ IsRun (heap_text [] 40) (Command.Push 97 ∷ []) [] (heap_text [] 40) }
+    ensures more { ¬ IsRun (heap_text [] 40) [] (Reply.Done ∷ []) (heap_text [] 40) }
+{}
+
+/// The same as one step, whichever room was certain before.
+pub fn step_of_one_push()
+    ensures met { IsStep (heap_text [] 40) (Command.Push 97) Reply.Done
+        (heap_text (97 ∷ []) 40) }
+    ensures less_room { ¬ IsStep (heap_text [] 40) (Command.Push 97) Reply.Done
+        (heap_text (97 ∷ []) 39) }
+    ensures refused { ¬ IsStep (heap_text [] 40) (Command.Push 97) Reply.NoMemory
+        (heap_text [] 40) }
+{}
+
+/// Of "a" and of "b" the character is taken off, and of the empty text none: each text has two
+/// replies of its own, in the order of the texts.
+pub fn runs_of_two_texts()
+    ensures met { EachRun (inline_text (97 ∷ []) 30 ∷ inline_text (98 ∷ []) 30 ∷ [])
+        two_commands
+        (Reply.Char 97 ∷ Reply.NoChar ∷ Reply.Char 98 ∷ Reply.NoChar ∷ [])
+        (inline_text [] 30 ∷ inline_text [] 30 ∷ []) }
+    ensures other_order { ¬ EachRun (inline_text (97 ∷ []) 30 ∷ inline_text (98 ∷ []) 30 ∷ [])
+        two_commands
+        (Reply.Char 98 ∷ Reply.NoChar ∷ Reply.Char 97 ∷ Reply.NoChar ∷ [])
+        (inline_text [] 30 ∷ inline_text [] 30 ∷ []) }
+    ensures same_replies { ¬ EachRun (inline_text (97 ∷ []) 30 ∷ inline_text (98 ∷ []) 30 ∷ [])
+        two_commands (Reply.Char 97 ∷ Reply.NoChar ∷ [])
+        (inline_text [] 30 ∷ inline_text [] 30 ∷ []) }
+{}
+
+/// No text has any replies, and none is lost or found.
+pub fn runs_of_no_text()
+    ensures met { (commands : List Command) → EachRun [] commands [] [] }
+    ensures found { (s : TextState) (commands : List Command) (replies : List Reply)
+        → ¬ EachRun [] commands replies (s ∷ []) }
+    ensures lost { (s : TextState) (commands : List Command) (replies : List Reply)
+        → ¬ EachRun (s ∷ []) commands replies [] }
+{}
