@@ -28,4 +28,4 @@ WRONG_DEFINITIONS = {'inlinable_string': 113, 'script_language': 96}
 
 # Edits in `wrong-clauses/`, and public functions of `callers` that promise something.
 WRONG_CLAUSES = 4
-CALLERS = 105
+CALLERS = 106

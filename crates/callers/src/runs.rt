@@ -1,13 +1,14 @@
 //! Lists of commands: what the replies and the text are where the commands are known.
-ghost use Rattle.std.specs.Prelude.{◌≡◌, ℕ, ◌+◌, ◌++◌, [], ◌∷◌, vec_len, IsTrue};
+ghost use Rattle.std.specs.Prelude.{◌≡◌, ◌↔◌, ℕ, ◌+◌, ◌++◌, [], ◌∷◌, vec_len, IsTrue};
 ghost use Rattle.std.specs.Str.{chars};
+ghost use Rattle.inlinable_string.specs.Text.{IsPlace};
 ghost use Rattle.inlinable_string.specs.State.{HasInlineRoom};
 ghost use Rattle.inlinable_string.specs.Values.{inlinable_state};
 
 use inlinable_string::laws::sizes_of_parts;
 use inlinable_string::run::{
-    Command, Reply, pop_takes_off_the_last_character, reserved_pushes_never_fail, run, run_dyn,
-    run_each,
+    Command, Reply, edits_are_done_at_places, pop_takes_off_the_last_character,
+    reserved_pushes_never_fail, run, run_dyn, run_each,
 };
 use inlinable_string::{InlinableString, Storage, StringExt};
 use std::alloc::{AllocError, Global};
@@ -110,6 +111,16 @@ pub fn add_by_run<S: StringExt>(text: &mut S, part: &str) -> bool
         &[Command::Reserve(part.len()), Command::PushStr(part)],
         &mut replies,
     );
+    replies[0] == Reply::Done
+}
+
+/// Cuts at a place by a run: the reply tells whether it was one.
+pub fn cut_by_run<S: StringExt>(text: &mut S, place: usize) -> bool
+    ensures { IsTrue result ↔ IsPlace (S.state text.old).text place }
+{
+    edits_are_done_at_places();
+    let mut replies = [Reply::NoMemory; 1];
+    run(text, &[Command::Truncate(place)], &mut replies);
     replies[0] == Reply::Done
 }
 

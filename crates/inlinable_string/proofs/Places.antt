@@ -26,6 +26,27 @@ by_parts t p answer bad done = (
   λ none. ap answer (no_cut t p none) ∙ bad,
 )
 
+-- a command that goes by the parts of the text is carried out exactly where there are any
+place_from : (t : List ℕ) (p : ℕ) (answer : Option (List ℕ × List ℕ) → Reply)
+    (o : Option (List ℕ × List ℕ)) → answer None ≡ BadPlace → cut t p ≡ o → answer o ≡ Done
+    → IsPlace t p
+place_from t p answer None bad e h = let clash : BadPlace ≡ Done = sym bad ∙ h in cc
+place_from t p answer (Some parts) bad e h = (parts.0, parts.1, is_cut t p parts.0 parts.1 e)
+
+done_by_parts : (t : List ℕ) (p : ℕ) (answer : Option (List ℕ × List ℕ) → Reply)
+    → answer None ≡ BadPlace → ((parts : List ℕ × List ℕ) → answer (Some parts) ≡ Done)
+    → (answer (cut t p) ≡ Done) ↔ IsPlace t p
+done_by_parts t p answer bad done = (
+  place_from t p answer (cut t p) bad refl,
+  λ at. ap answer (cut_is t p at.0 at.1 at.2) ∙ done (at.0, at.1),
+)
+
+pub placed_splice : (t u : List ℕ) (p : ℕ) → ((spliced t u (cut t p)).0 ≡ Done) ↔ IsPlace t p
+placed_splice t u p = done_by_parts t p (λ o. (spliced t u o).0) refl (λ parts. refl)
+
+pub placed_truncation : (t : List ℕ) (p : ℕ) → ((truncated t (cut t p)).0 ≡ Done) ↔ IsPlace t p
+placed_truncation t p = done_by_parts t p (λ o. (truncated t o).0) refl (λ parts. refl)
+
 -- an insertion is answered as a bad place exactly where there is none
 pub misplaced_splice : (t u : List ℕ) (p : ℕ) → ((spliced t u (cut t p)).0 ≡ BadPlace) ↔ (¬ (IsPlace t p))
 misplaced_splice t u p = by_parts t p (λ o. (spliced t u o).0) refl (λ parts. refl)

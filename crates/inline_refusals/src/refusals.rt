@@ -1,6 +1,6 @@
 //! Each request for memory refused in turn, by `rt try --test --fail-alloc N`, which refuses the
 //! Nth of each test. These tests pass whichever of theirs is refused, and say `refused` where one
-//! was. `.ci/refusals` builds them anew for each N, so no test makes more than a few requests.
+//! was. `.ci/gate refusals` builds them anew for each N, so no test makes more than a few requests.
 ghost use Rattle.std.specs.Prelude.{IsOk};
 
 use inlinable_string::{InlinableString, InlinableStringN, Storage, StringExt, StringMake};

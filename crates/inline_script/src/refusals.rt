@@ -1,6 +1,6 @@
 //! Each request for memory refused in turn: these tests pass whichever request of theirs is
 //! refused, and say `refused` where they met the refusal. At most one request of a test is
-//! refused, and `.ci/refusals` says which.
+//! refused, and `.ci/gate refusals` says which.
 
 use crate::memory::written_into;
 use script_language::ScriptFault;

@@ -49,6 +49,16 @@ pub fn bad_places_are_no_places()
         → ((edit t (Command.Truncate p)).0 ≡ Reply.BadPlace) ↔ (¬ IsPlace t p) }
 {}
 
+/// `Done` is answered exactly where there is one.
+pub fn edits_are_done_at_places()
+    ensures insert { (t : List ℕ) (p c : ℕ)
+        → ((edit t (Command.Insert p c)).0 ≡ Reply.Done) ↔ IsPlace t p }
+    ensures insert_str { (t : List ℕ) (p : ℕ) (u : Bor (List ℕ))
+        → ((edit t (Command.InsertStr p u)).0 ≡ Reply.Done) ↔ IsPlace t p }
+    ensures truncate { (t : List ℕ) (p : ℕ)
+        → ((edit t (Command.Truncate p)).0 ≡ Reply.Done) ↔ IsPlace t p }
+{}
+
 /// `Pop` takes off the character that a text ends with, and finds none in the empty text alone.
 pub fn pop_takes_off_the_last_character()
     ensures last { (t v : List ℕ) (c : ℕ)
