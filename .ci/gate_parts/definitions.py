@@ -1,10 +1,13 @@
-"""gate definitions [CRATE ..] [--named WORD] [--jobs N]: tries the wrong definitions, each alone.
+"""gate definitions [CRATE ..] [--named WORD] [--jobs N]: tries the wrong definitions.
 
 They stand in `wrong-definitions`. With --named only those are tried whose name has the word in it.
 
 A wrong definition changes a file of `specs/`, and a law or a worked row must refuse it: a function of
-the same crate, or one of a crate above, each named with a goal that must stay open. A check of that
-function alone shows it, once the same check has shown that the function is proved as things are.
+the same crate, or one of a crate above, each named with a goal that must stay open. A check of the
+named functions alone shows it, once the same check has shown that they are proved as things are.
+
+Several are tried in one check where none changes what the functions reach that must refuse another
+(`reach.py` tells); the others have a check of their own.
 
 A crate above can only be checked over a library that is proved. So there the wrong definition is not
 that of the library: the crate has the library's definitions copied among its own, all that it says
@@ -20,26 +23,44 @@ import sys
 from concurrent.futures import ThreadPoolExecutor
 from functools import partial
 from queue import SimpleQueue
-from typing import List, NamedTuple
+from typing import List, NamedTuple, Set
 
 from floors import WRONG_DEFINITIONS
 from gate_parts.edit_files import Edit, edits_of, texts_with
 from gate_parts.edits import listed
-from gate_parts.rooms import changed_files, check, copies, require_proof
+from gate_parts.reach import changed_by, reached_by, words_by_definition
+from gate_parts.rooms import changed_files, check, copies, more_copies, require_proof
 from gate_parts.said import ill_formed, is_proved, open_goals
 from gate_parts.tree import PROCESSORS, TOP, Failure, crate_folder, crates_with, text_of, write_text
 
 FOLDER = 'wrong-definitions'
+# How many are tried in one check at most: what it prints should be readable where one is not refused.
+MOST_TOGETHER = 8
 # What a crate says of definitions stands in files of these folders and endings.
 SAYING = ('specs', 'src', 'proofs')
 ENDINGS = ('.antt', '.rt')
 
 
 class Task(NamedTuple):
-    """A function, and the edits that it must refuse."""
+    """Edits that are tried in one check, and the crate whose functions must refuse them."""
     crate: str
-    function: str
     edits: List[Edit]
+
+    def goals_of(self, edit):
+        return [goal for goal in edit.goals if goal.crate == self.crate]
+
+    def functions(self):
+        return sorted({goal.function for edit in self.edits for goal in self.goals_of(edit)})
+
+
+class Reach(NamedTuple):
+    """What an edit changes, and what the functions reach that must refuse it."""
+    changed: Set[str]
+    reached: Set[str]
+
+    def is_apart_from(self, other):
+        """Neither changes what the other's functions reach, nor the imports that the other changes."""
+        return not (self.changed & (other.reached | other.changed) or other.changed & self.reached)
 
 
 def wrong_definitions(crate):
@@ -65,13 +86,29 @@ def require_definition(crate, edit):
                       'which the crates above have no copy of')
 
 
-def tasks_of(edits):
-    """A task for each function that an edit names, those with most edits first."""
-    named = {}
-    for edit in edits:
-        for crate, function in sorted(edit.functions()):
-            named.setdefault((crate, function), []).append(edit)
-    tasks = [Task(crate, function, refused) for (crate, function), refused in named.items()]
+def reach_of(library, crate, edit, words):
+    """What the edit changes and its functions reach; None where it has to be tried alone."""
+    changed = changed_by(crate_folder(library), edit)
+    reached = [reached_by(crate_folder(crate), crate, goal.function, words)
+               for goal in edit.goals if goal.crate == crate]
+    return None if changed is None or None in reached else Reach(changed, set().union(*reached))
+
+
+def tasks_of(library, edits):
+    """The edits in tasks: those that may go together, by the crate that must refuse them."""
+    tasks = []
+    for crate in sorted({goal.crate for edit in edits for goal in edit.goals}):
+        words = words_by_definition({os.path.join(crate_folder(name), 'specs') for name in (library, crate)})
+        groups = []
+        for edit in (edit for edit in edits if any(goal.crate == crate for goal in edit.goals)):
+            reach = reach_of(library, crate, edit, words)
+            able = [group for group in groups if reach and len(group) < MOST_TOGETHER
+                    and all(other and reach.is_apart_from(other) for _, other in group)]
+            if not able:
+                able = [[]]
+                groups += able
+            able[0].append((edit, reach))
+        tasks += [Task(crate, [edit for edit, _ in group]) for group in groups]
     return sorted(tasks, key=lambda task: -len(task.edits))
 
 
@@ -101,73 +138,68 @@ def cite_copies(folder, library, crate, names):
                     write_text(path, own)
 
 
+def only(functions):
+    """The words by which `rt` checks these functions alone."""
+    return [word for function in functions for word in ('--only', function)]
+
+
+def require_rows(place, tasks, jobs):
+    """Each function that an edit names is proved as things are, in the form in which it will be tried."""
+    for crate in sorted({task.crate for task in tasks}):
+        functions = sorted({name for task in tasks if task.crate == crate for name in task.functions()})
+        said, _ = check(place, crate, jobs, *only(functions))
+        for function in functions:
+            if not is_proved(crate, function, said):
+                raise Failure(f'{crate}/{function} is not proved as it is:\n{said}')
+
+
 def tried(rooms, library, task):
-    """The names of the edits that the function does not refuse as they say."""
+    """The names of the task's edits that are not refused as they say; prints how they went."""
     room = rooms.get()
     try:
         folder = crate_folder(task.crate, room)
-        said, _ = check(room, task.crate, 1, '--only', task.function)
-        if not is_proved(task.crate, task.function, said):
-            unproved = f'{task.crate}/{task.function} is not proved as it is'
-            wrong = dict.fromkeys((edit.name for edit in task.edits), unproved)
-            return told(library, task, wrong, [said])
-        wrong, heard = {}, []
-        for edit in task.edits:
-            said = said_with(room, folder, edit, task)
-            breach = breach_of(edit, task, said)
-            if breach:
-                wrong[edit.name] = breach
-                heard.append(said)
-        return told(library, task, wrong, heard)
+        with changed_files(folder, texts_with(folder, task.edits)):
+            said, _ = check(room, task.crate, 1, *only(task.functions()))
     finally:
         rooms.put(room)
-
-
-def said_with(room, folder, edit, task):
-    """What a check of the function says with the edit in its definitions."""
-    with changed_files(folder, texts_with(folder, [edit])):
-        return check(room, task.crate, 1, '--only', task.function)[0]
-
-
-def breach_of(edit, task, said):
-    """In words, what is not as the edit says; None where the function refuses it by each goal."""
-    bad = ill_formed(said)
-    if bad:
-        return f'the definition is not well formed, or a name has gone: {bad[0]}'
-    wanted = {goal.name for goal in edit.goals
-              if (goal.crate, goal.function) == (task.crate, task.function)}
-    left = open_goals(task.crate, task.function, said)
-    if wanted <= left:
-        return None
-    return f'not refused by {listed(wanted - left)}; open goals: {listed(left)}'
-
-
-def told(library, task, wrong, heard):
-    """Prints how a function's edits went; answers the names of those that it does not refuse."""
+    wrong = {edit.name: breach for edit in task.edits for breach in breaches_of(edit, task, said)}
     refused = [edit.name for edit in task.edits if edit.name not in wrong]
     if refused:
-        print(f'{library}: refused by {task.crate}/{task.function}: {", ".join(refused)}')
+        print(f'{library}: refused by {task.crate}: {", ".join(refused)}')
     for name, breach in wrong.items():
-        print(f'{library}: NOT AS IT MUST BE: {name}, tried at {task.crate}/{task.function}:',
-              breach, sep='\n    ')
-    print(*heard, sep='\n', end='')
+        print(f'{library}: NOT AS IT MUST BE: {name}: {breach}')
+    if wrong:
+        print(said)
     sys.stdout.flush()
     return set(wrong)
 
 
+def breaches_of(edit, task, said):
+    """In words, what is not as the edit says; nothing where its functions refuse it by each goal."""
+    bad = ill_formed(said)
+    if bad:
+        yield f'the definition is not well formed, or a name has gone: {bad[0]}'
+        return
+    for goal in task.goals_of(edit):
+        left = open_goals(task.crate, goal.function, said)
+        if goal.name not in left:
+            yield f'tried at {goal}, which is not refused; open goals: {", ".join(sorted(left)) or "none"}'
+
+
 def tried_all(library, edits, jobs):
     """The names of the library's wrong definitions that are not refused as they say."""
-    tasks = tasks_of(edits)
+    tasks = tasks_of(library, edits)
     above = sorted({task.crate for task in tasks} - {library})
     require_proof(TOP, library, jobs)
-    print(f'{library}: {len(edits)} wrong definitions, tried at {len(tasks)} functions', flush=True)
+    print(f'{library}: {len(edits)} wrong definitions in {len(tasks)} checks', flush=True)
     rooms = SimpleQueue()
-    with copies([library, *above], min(jobs, len(tasks))) as places:
-        for place in places:
-            for crate in above:
-                copied_definitions(place, library, crate)
-            rooms.put(place)
-        with ThreadPoolExecutor(len(places)) as pool:
+    with copies([library, *above], 1) as (place,):
+        for crate in above:
+            copied_definitions(place, library, crate)
+        require_rows(place, tasks, jobs)
+        for room in [place, *more_copies(place, min(jobs, len(tasks)) - 1)]:
+            rooms.put(room)
+        with ThreadPoolExecutor(rooms.qsize()) as pool:
             return set().union(*pool.map(partial(tried, rooms, library), tasks))
 
 

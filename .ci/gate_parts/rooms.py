@@ -35,6 +35,14 @@ def copies(crates, count):
         yield rooms
 
 
+def more_copies(room, count):
+    """So many copies of a room as it is now, beside it; they go when it goes."""
+    others = [f'{room}-{number}' for number in range(1, count + 1)]
+    for other in others:
+        shutil.copytree(room, other, symlinks=True)
+    return others
+
+
 def copy_crates(room, kept):
     """Copies the tree's crates; of those that are not kept only what `rt` may look at."""
     for crate in os.listdir(os.path.join(TOP, 'crates')):

@@ -18,10 +18,11 @@ from unittest import mock
 from gate_parts import hostile_inputs, said, specified
 from gate_parts.callers import promising
 from gate_parts.counts import misstatements
-from gate_parts.definitions import cite_copies
+from gate_parts.definitions import Reach, cite_copies
 from gate_parts.edit_files import Change, read_edits, texts_with
 from gate_parts.enclosing import function_changed
 from gate_parts.hostile import Tally, tried
+from gate_parts.reach import reached_by, words_by_definition
 from gate_parts.tree import Failure, in_tree, text_of, write_text
 
 CRATES = 'toy:\nabove: toy\ncallers: toy\n'
@@ -82,8 +83,8 @@ for place, _, names in os.walk('..'):
 refused = os.environ.get('REFUSED', '').split() if os.environ['WORD'] in text else []
 if refused:
     print(os.environ.get('ERROR', ''))
-asked = words[words.index('--only') + 1] if '--only' in words else None
-for function in [asked] if asked else {'toy': ['one', 'other'], 'above': ['row'], 'callers': ['call']}[crate]:
+asked = [words[at + 1] for at, word in enumerate(words) if word == '--only']
+for function in asked or {'toy': ['one', 'other'], 'above': ['row'], 'callers': ['call']}[crate]:
     if crate + '/' + function in refused:
         print('note: src/lib.rt:1:1: it is not proved that all is well (`returns-clause-value`); so it is')
         print(f'fn {crate}::{function}: no proof: expected answers in ./proofs')
@@ -204,6 +205,23 @@ class Definitions(InSmallRepository):
         self.write('crates/toy/wrong-definitions/Word.edits',
                    DEFINITION + 'file: proofs/Free.antt\nold: free = 1\nnew: free = 2\n')
         self.assert_fails('have no copy of', 'definitions', **self.IN_ORDER)
+
+    def test_definitions_that_reach_each_other_are_tried_apart(self):
+        own = Reach({'size'}, {'size', 'cut'})
+        self.assertTrue(own.is_apart_from(Reach({'edit'}, {'edit'})))
+        self.assertFalse(own.is_apart_from(Reach({'cut'}, {'cut'})))
+        self.assertFalse(own.is_apart_from(Reach({'edit'}, {'edit', 'size'})))
+        self.assertFalse(own.is_apart_from(Reach({'size'}, {'edit'})))
+
+    def test_what_a_row_reaches(self):
+        folder = os.path.join(self.place, 'crates/above')
+        self.write('crates/above/src/rows.rt', 'pub fn row()\n    ensures { two ≡ 2 }\n{}\n\npub fn code() {\n}\n')
+        self.write('crates/above/specs/Words.antt',
+                   'abbrev pub one : ℕ\none = 1\n\nabbrev pub two : ℕ\ntwo = one + one\n\n'
+                   'abbrev pub three : ℕ\nthree = 3\n')
+        words = words_by_definition([os.path.join(folder, 'specs')])
+        self.assertEqual(reached_by(folder, 'above', 'rows::row', words), {'one', 'two'})
+        self.assertIsNone(reached_by(folder, 'above', 'rows::code', words))
 
     def test_only_what_is_named(self):
         self.assert_passes('definitions', '--named', 'two', '--jobs', '1', **self.IN_ORDER)
