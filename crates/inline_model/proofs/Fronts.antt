@@ -1,9 +1,7 @@
--- Fronts of a text and the places that they end at; its last character.
-use Rattle.std.proofs.Common.{◌≡◌, ℕ, ◌+◌, ◌<◌, List, [], ◌∷◌, ◌++◌, length, take, drop, refl, sym, ap, ◌∙◌, arith, length-append, take-append-drop, take_at, Some, None}
+-- Fronts of a text and the places that they end at.
+use Rattle.std.proofs.Common.{◌≡◌, ℕ, ◌+◌, ◌<◌, List, length, take, drop, refl, sym, ap, ◌∙◌, arith, length-append, take-append-drop, take_at, Some, None}
 use Rattle.inlinable_string.specs.Text.{size, cut}
-use Rattle.inlinable_string.specs.Edit.{last_off, popped}
-use Rattle.inlinable_string.specs.declared.run.Reply.TheVariants.{Char}
-use Rattle.inlinable_string.proofs.Cut.{cut_is, no_cut, last_off-append}
+use Rattle.inlinable_string.proofs.Cut.{cut_is, no_cut}
 
 -- a place after so many characters cuts the text there
 pub cut_after : (t : List ℕ) (p k : ℕ) → size (take k t) ≡ p → cut t p ≡ Some (take k t, drop k t)
@@ -18,8 +16,3 @@ cut_nowhere t p h = no_cut t p (λ at.
     ap (take (length at.0)) at.2.joined ∙ take_at at.0 at.1 (length at.0) refl in
     h (length at.0) (omega (arith, ap length at.2.joined, length-append at.0 at.1))
     (ap size front ∙ at.2.before))
-
--- the last character of a text, taken off
-pub popped_is : (t front : List ℕ) (c : ℕ) → t ≡ front ++ c ∷ []
-    → popped t (last_off t) ≡ (Char c, front)
-popped_is t front c h = rw (h, last_off-append front c) refl

@@ -3,5 +3,4 @@ pub mod Sizes
 pub mod Follows
 pub mod LegalReplies
 pub mod WorkedRuns
-pub mod Replaced
 pub mod Parts

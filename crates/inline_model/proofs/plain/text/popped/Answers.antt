@@ -1,4 +1,4 @@
-use Rattle.inline_model.proofs.Fronts.{popped_is}
+use Rattle.inlinable_string.proofs.Edits.{popped_is}
 use Rattle.inline_model.proofs.plain.text.popped.Goals as goal
 
 pub returns-in-Some-clause-reply : goal.returns-in-Some-clause-reply
