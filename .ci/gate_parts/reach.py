@@ -13,9 +13,10 @@ from gate_parts.tree import text_of
 # The line at which a definition begins.
 DEFINITION = re.compile(r'^(?:abbrev |unfoldable )*pub (?:record |data |abbrev )?([^\s:(]+)', re.MULTILINE)
 WORD = re.compile(r'[^\s(){}\[\];,.→λ]+')
-# A function that does nothing: its contract is the law, or the row.
-ROW = r'^ *pub fn {}\b.*?^ *\{{\}}$'
-LEMMAS = re.compile(r'\bRattle\.{}\.proofs\.(\w+)\b')
+# A function that does nothing, with its attributes: its contract is the law, or the row.
+ROW = r'(?:^ *#\[.*\]\n)*^ *pub fn {}\b.*?^ *\{{\}}$'
+# A lemma file, as proofs name it, and as an attribute does.
+LEMMAS = r'\b(?:Rattle\.{}\.proofs\.|crate::proofs::)(\w+)\b'
 
 
 def spans(text):
@@ -60,18 +61,17 @@ def row_text(folder, function):
     return found[0] if found and found[0].count('pub fn') == 1 else None
 
 
-def proof_text(folder, crate, function):
-    """The answers of a function, and all lemma files of the crate that they name, one through another."""
+def with_proofs(folder, crate, function, row):
+    """The row with its answers, and all lemma files of the crate that these name, one through another."""
     answers = os.path.join(folder, 'proofs', *function.split('::'), 'Answers.antt')
-    texts, left, named = [], [answers], set()
+    left, texts, named = [row, text_of(answers) if os.path.exists(answers) else ''], [], set()
     while left:
-        path = left.pop()
-        if os.path.exists(path):
-            text = text_of(path)
-            texts.append(text)
-            new = set(re.findall(LEMMAS.pattern.format(crate), text)) - named
-            named |= new
-            left += [os.path.join(folder, 'proofs', f'{name}.antt') for name in new]
+        text = left.pop()
+        texts.append(text)
+        new = set(re.findall(LEMMAS.format(crate), text)) - named
+        named |= new
+        paths = [os.path.join(folder, 'proofs', f'{name}.antt') for name in new]
+        left += [text_of(path) for path in paths if os.path.exists(path)]
     return '\n'.join(texts)
 
 
@@ -80,7 +80,7 @@ def reached_by(folder, crate, function, words):
     row = row_text(folder, function)
     if row is None:
         return None
-    left = set(WORD.findall(row + proof_text(folder, crate, function))) & words.keys()
+    left = set(WORD.findall(with_proofs(folder, crate, function, row))) & words.keys()
     found = set()
     while left:
         name = left.pop()
