@@ -1,6 +1,6 @@
-//! Callers of `inlinable_string`, written as a newcomer would write them: each promises what its own
-//! user would want to know, and is proved with nothing written by hand. This crate has no folder of
-//! proofs, and is to have none.
+//! Callers of `inlinable_string`, written as a newcomer would write them: each promises what its
+//! own user would want to know, and is proved with nothing written by hand. This crate has no
+//! folder of proofs, and is to have none.
 //!
 //! Where no clause of a call says enough, the body calls a law of the library by its name.
 #![tactic(auto)]

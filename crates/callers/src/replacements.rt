@@ -1,4 +1,5 @@
-//! Bytes in the place of a text's, as many as it has: each of the three answers, and what it leaves.
+//! Bytes in the place of a text's, as many as it has: each of the three answers, and what it
+//! leaves.
 ghost use Rattle.std.specs.Prelude.{◌≡◌, ◌≢◌, length, IsTrue, IsUtf8};
 ghost use Rattle.inlinable_string.specs.Text.{bytes_of, size};
 ghost use Rattle.inlinable_string.specs.State.{IsSameText};

@@ -23,8 +23,8 @@ abbrev pub ReservesWithin : ℕ → List ℕ → Need → Type 0
 ReservesWithin n t (reserves m) = size t + m ≤ n
 ReservesWithin n t need = Unit {0}
 
--- the texts of a run from t in which no memory is refused have at most n bytes each, and so has each
--- with what is reserved beside it
+-- the texts of a run from t in which no memory is refused have at most n bytes each, and so has
+-- each with what is reserved beside it
 abbrev pub StaysWithin : ℕ → List ℕ → List Command → Type 0
 StaysWithin n t [] = Unit {0}
 StaysWithin n t (command ∷ commands) =

@@ -1,4 +1,5 @@
-//! Text that lies inline while it has at most `N` bytes, and goes to the heap when it outgrows them.
+//! Text that lies inline while it has at most `N` bytes, and goes to the heap when it outgrows
+//! them.
 ghost use Rattle.std.specs.Prelude.{◌≡◌, ◌+◌, ◌≤◌, length, IfOk, OnOk, OnErr};
 ghost use Rattle.std.specs.List.{insert_slice};
 ghost use Rattle.std.specs.Str.{chars, IsCharBoundary};
@@ -27,8 +28,8 @@ pub enum InlinableStringN<const N: usize> {
 }
 
 impl<const N: usize> InlinableStringN<N> {
-    /// Moves an inline text to the heap, with `added` put in at `idx`, into room for as much and for
-    /// `spare` bytes more.
+    /// Moves an inline text to the heap, with `added` put in at `idx`, into room for as much and
+    /// for `spare` bytes more.
     ///
     /// Memory is asked for once, for the exact size, before anything is changed. This stands by
     /// itself, so that a growth that stays inline pays nothing for it.

@@ -309,9 +309,9 @@ impl<const N: usize> InlineStringN<N> {
         self.len() == 0
     }
 
-    /// Whether byte `idx` is a character boundary of the text: 0, its length, or the first byte of a
-    /// character. It is the test for the condition of `insert`, `insert_str`, `truncate`, and where
-    /// `idx < len()` of `remove`.
+    /// Whether byte `idx` is a character boundary of the text: 0, its length, or the first byte of
+    /// a character. It is the test for the condition of `insert`, `insert_str`, `truncate`, and
+    /// where `idx < len()` of `remove`.
     pub fn is_char_boundary(&self, idx: usize) -> bool
         ensures { IsTrue result ↔ IsPlace self.now idx }
     {

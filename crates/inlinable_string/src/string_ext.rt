@@ -107,8 +107,8 @@ pub trait StringExt {
 
     /// Makes room for `additional` bytes more than the text has, and perhaps for others.
     ///
-    /// Pushes directly after it that add at most as many together are not refused. A text that would
-    /// not fit inline with them goes to the heap. A sum past `usize::MAX` is want of memory.
+    /// Pushes directly after it that add at most as many together are not refused. A text that
+    /// would not fit inline with them goes to the heap. A sum past `usize::MAX` is want of memory.
     fn reserve(&mut self, additional: usize) -> Result<(), AllocError>
         ensures text { (state self.new).text ≡ (state self.old).text }
         ensures storage { OnOk result
@@ -118,8 +118,8 @@ pub trait StringExt {
         ensures inline_granted { HasInlineRoom (state self.old) additional → IsOk result }
         ensures policy { (state self.new).policy ≡ (state self.old).policy };
 
-    /// Makes room for `additional` bytes more than the text has, as [`StringExt::reserve`] does, and
-    /// for no others where that can be helped.
+    /// Makes room for `additional` bytes more than the text has, as [`StringExt::reserve`] does,
+    /// and for no others where that can be helped.
     fn reserve_exact(&mut self, additional: usize) -> Result<(), AllocError>
         ensures text { (state self.new).text ≡ (state self.old).text }
         ensures storage { OnOk result
@@ -129,8 +129,8 @@ pub trait StringExt {
         ensures inline_granted { HasInlineRoom (state self.old) additional → IsOk result }
         ensures policy { (state self.new).policy ≡ (state self.old).policy };
 
-    /// Gives back room that the text does not need. A text of at most the limit that lies on the heap
-    /// comes back inline, if its type does that, and is not refused.
+    /// Gives back room that the text does not need. A text of at most the limit that lies on the
+    /// heap comes back inline, if its type does that, and is not refused.
     fn shrink_to_fit(&mut self) -> Result<(), AllocError>
         ensures text { (state self.new).text ≡ (state self.old).text }
         ensures storage { OnOk result
@@ -185,8 +185,8 @@ pub trait StringExt {
     }
 
     /// Overwrites the text with `bytes`, which must be as many as the text has, and UTF-8. Their
-    /// number is tested first. A refusal changes nothing. It takes no memory, and the text stays where
-    /// it lies.
+    /// number is tested first. A refusal changes nothing. It takes no memory, and the text stays
+    /// where it lies.
     fn replace_bytes(&mut self, bytes: &[u8]) -> Result<(), ReplaceError>
         ensures text { OnOk result (bytes_of (state self.new).text ≡ bytes.now) }
         ensures err { OnErr result (IsSameText (state self.old) (state self.new)) }
@@ -224,9 +224,9 @@ pub trait StringExt {
         self.len() == 0
     }
 
-    /// Whether byte `idx` is a character boundary of the text: 0, its length, or the first byte of a
-    /// character. It is the test for the condition of `insert`, `insert_str`, `truncate`, and where
-    /// `idx < len()` of `remove`.
+    /// Whether byte `idx` is a character boundary of the text: 0, its length, or the first byte of
+    /// a character. It is the test for the condition of `insert`, `insert_str`, `truncate`, and
+    /// where `idx < len()` of `remove`.
     fn is_char_boundary(&self, idx: usize) -> bool
         ensures { IsTrue result ↔ IsPlace (state self.now).text idx }
     {
@@ -255,8 +255,8 @@ pub trait StringMake: StringExt {
         ensures storage { (Self.state result).storage ≡ storage_when_made policy 0 }
         ensures policy { (Self.state result).policy ≡ policy };
 
-    /// The empty text, with room for `capacity` bytes. Where these would lie inline it takes no memory
-    /// and is not refused.
+    /// The empty text, with room for `capacity` bytes. Where these would lie inline it takes no
+    /// memory and is not refused.
     fn with_capacity(alloc: Global, capacity: usize) -> Result<Self, AllocError>
         ensures text { IfOk result (λ made. (Self.state made).text ≡ []) }
         ensures room { IfOk result (λ made. capacity ≤ (Self.state made).capacity) }

@@ -1,7 +1,7 @@
 //! Runs of the code with the plain program beside them.
 //!
-//! What plays a table answers what is wrong, and small functions assert that nothing is. So tests of
-//! the tests (`wrong_rows`) can play rows that are wrong in one value.
+//! What plays a table answers what is wrong, and small functions assert that nothing is. So tests
+//! of the tests (`wrong_rows`) can play rows that are wrong in one value.
 ghost use Rattle.std.specs.Prelude.{◌≡◌, length, IsNone, IsOk};
 ghost use Rattle.inlinable_string.specs.Run.{LegalReplies, state_after};
 ghost use Rattle.inline_model.specs.Plain.{state_of, IsSeenAs};

@@ -128,8 +128,8 @@ fn wanted_storage(policy: Policy, row_limit: usize, steps: &[Step], seen: Storag
     }
 }
 
-/// What is wrong with the replies to the first steps of a row, or with what it tells of a text after
-/// them.
+/// What is wrong with the replies to the first steps of a row, or with what it tells of a text
+/// after them.
 fn wrong_after(
     policy: Policy,
     row_limit: usize,

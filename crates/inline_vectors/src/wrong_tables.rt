@@ -1,5 +1,5 @@
-//! Tests of the tests: tables of steps that are wrong in one value each, and what playing them has to
-//! find. The table before each is right, so that all lists are gone through.
+//! Tests of the tests: tables of steps that are wrong in one value each, and what playing them has
+//! to find. The table before each is right, so that all lists are gone through.
 use crate::played::Fault;
 use crate::steps::Lies::{AsMade, OnHeap};
 use crate::steps::Wrong::{self, Text};

@@ -1,6 +1,7 @@
 //! A language for scripts of edits: a script is read, run on a text, and each answer is printed.
 //!
-//! [`script::script`] does all of it; a [`ScriptFault`] says why it was not done, or not to its end.
+//! [`script::script`] does all of it; a [`ScriptFault`] says why it was not done, or not to its
+//! end.
 #![tactic(auto)]
 
 mod cut;

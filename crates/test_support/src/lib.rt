@@ -24,8 +24,8 @@ pub struct Hoard {
 }
 
 impl Hoard {
-    /// Takes blocks of each size until one is refused, the largest first, down to one byte, and then
-    /// what is kept for requests of one small size. `None` where memory is not used up then.
+    /// Takes blocks of each size until one is refused, the largest first, down to one byte, and
+    /// then what is kept for requests of one small size. `None` where memory is not used up then.
     pub fn take(alloc: Global) -> Option<Hoard> {
         let mut blocks = Vec::with_capacity(alloc, MOST_BLOCKS).ok()?;
         for smaller in 0..=LARGEST_SHIFT {

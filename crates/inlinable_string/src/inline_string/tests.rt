@@ -3,8 +3,8 @@
 //! Each row of a table begins with a text of its own, and the steps of a list are made in turn on
 //! one text. The name of a table ends with the limit of its texts.
 //!
-//! What plays a table answers the first row that is wrong, and one function asserts that none is. So
-//! tests of the tests (`wrong_tables`) can play tables that are wrong in one value.
+//! What plays a table answers the first row that is wrong, and one function asserts that none is.
+//! So tests of the tests (`wrong_tables`) can play tables that are wrong in one value.
 ghost use Rattle.std.specs.Prelude.{◌≤◌, IsOk, IsTrue};
 
 use super::InlineStringN;

@@ -20,8 +20,8 @@ pub fn each_command_has_one_reply()
         → length commands < length replies → ¬ LegalReplies s commands replies }
 {}
 
-/// To the empty text 27 times a, then € and b are added; a cut at 28 is inside €, one at 27 is done,
-/// and the last a is taken off. 26 times a is left, on the heap since there were 31 bytes.
+/// To the empty text 27 times a, then € and b are added; a cut at 28 is inside €, one at 27 is
+/// done, and the last a is taken off. 26 times a is left, on the heap since there were 31 bytes.
 pub fn run_to_the_heap(long: &str, euro: &str, letter: &str)
     requires long { long.now ≡ replicate 27 97 }
     requires euro { euro.now ≡ 226 ∷ 130 ∷ 172 ∷ [] }

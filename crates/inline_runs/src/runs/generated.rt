@@ -205,8 +205,8 @@ impl List {
     }
 }
 
-/// Gives a list to a new text with the plain program beside it. Answers where the text lies then, or
-/// what is wrong.
+/// Gives a list to a new text with the plain program beside it. Answers where the text lies then,
+/// or what is wrong.
 fn end_of_list<S: StringMake + Drop>(
     rt: &impl Abort,
     alloc: Global,
@@ -321,8 +321,8 @@ pub fn ends_of(
     Ok(([none, eight, string, thirty].len(), thirty))
 }
 
-/// Gives each list to a text of each kind. Answers of what sorts the lists were, or the number of the
-/// first that is wrong.
+/// Gives each list to a text of each kind. Answers of what sorts the lists were, or the number of
+/// the first that is wrong.
 fn counts_of_lists(rt: &impl Abort, alloc: Global) -> Result<Counts, (usize, Wrong)> {
     let mut draws = Draws { state: SEED };
     let mut list = List {

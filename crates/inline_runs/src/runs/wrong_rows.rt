@@ -1,5 +1,5 @@
-//! Tests of the tests: rows that are wrong in one value each, and what running them has to find. The
-//! row before each is right, so that all rows are gone through.
+//! Tests of the tests: rows that are wrong in one value each, and what running them has to find.
+//! The row before each is right, so that all rows are gone through.
 use super::each::Kind::{Inlinable, String as OfString};
 use super::each::Memory::Ample;
 use super::each::{Given, right_lists};
@@ -229,7 +229,8 @@ fn a_wrong_offset_is_found(rt: HostRuntime) {
     }
 }
 
-/// Replies to the same commands, one of which is another one that is legal or not, and what is wrong.
+/// Replies to the same commands, one of which is another one that is legal or not, and what is
+/// wrong.
 const LISTED: &[(&[Reply], Wrong)] = &[
     (&[NoMemory, Char('a'), NoChar], Replies),
     (&[Done, Char('b'), NoChar], Replies),

@@ -1,5 +1,5 @@
-//! Tests of the tests: tables of edits that are wrong in one value each, and what making them has to
-//! find.
+//! Tests of the tests: tables of edits that are wrong in one value each, and what making them has
+//! to find.
 use super::edits::Answer::{Char, Done, NotEnoughSpace, NotUtf8, WrongLength};
 use super::edits::Edit::{Pop, Push};
 use super::edits::Wrong::{Answer, Text};
@@ -16,7 +16,8 @@ const RIGHT: &[Step] = &[
     (Push('d'), Done, "abd"),
 ];
 
-/// The same edits with one other value, the number of the one that is wrong, and what is wrong there.
+/// The same edits with one other value, the number of the one that is wrong, and what is wrong
+/// there.
 const WRONG: &[(&[Step], usize, Wrong)] = &[
     (
         &[

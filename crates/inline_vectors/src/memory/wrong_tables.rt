@@ -1,5 +1,5 @@
-//! Tests of the tests: shortages that are wrong in one value each, and what going through them has to
-//! find.
+//! Tests of the tests: shortages that are wrong in one value each, and what going through them has
+//! to find.
 use super::{
     LIMIT, NEW, Shortage, each_played_alone_without_memory, replies_with_one_block,
     shortages_played, wrong_made,

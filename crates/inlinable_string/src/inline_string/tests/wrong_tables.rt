@@ -12,7 +12,8 @@ const RIGHT: &[Step] = &[
     (Insert(0, 'f'), Done, "fbcde", 0),
 ];
 
-/// The same steps with one other value, the number of the one that is wrong, and what is wrong there.
+/// The same steps with one other value, the number of the one that is wrong, and what is wrong
+/// there.
 const WRONG: &[(&[Step], usize, Wrong)] = &[
     (
         &[
