@@ -29,7 +29,7 @@ from floors import WRONG_DEFINITIONS
 from gate_parts.edit_files import Edit, edits_of, texts_with
 from gate_parts.edits import listed
 from gate_parts.reach import changed_by, reached_by, words_by_definition
-from gate_parts.rooms import changed_files, check, copies, more_copies, require_proof
+from gate_parts.rooms import changed_files, check, copies, more_copies, only, require_proof
 from gate_parts.said import ill_formed, is_proved, open_goals
 from gate_parts.tree import PROCESSORS, TOP, Failure, crate_folder, crates_with, text_of, write_text
 
@@ -136,11 +136,6 @@ def cite_copies(folder, library, crate, names):
                 own = cited.sub(rf'Rattle.{crate}.specs.\1', text)
                 if own != text:
                     write_text(path, own)
-
-
-def only(functions):
-    """The words by which `rt` checks these functions alone."""
-    return [word for function in functions for word in ('--only', function)]
 
 
 def require_rows(place, tasks, jobs):

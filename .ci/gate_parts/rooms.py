@@ -17,6 +17,11 @@ def check(top, crate, jobs, *options):
     return said, status == 0
 
 
+def only(functions):
+    """The words by which `rt` checks these functions alone."""
+    return [word for function in functions for word in ('--only', function)]
+
+
 def require_proof(top, crate, jobs):
     """Checks that the crate is proved there; what the check keeps in out/ serves later ones."""
     said, is_well = check(top, crate, jobs)
