@@ -7,16 +7,16 @@ proved anew, since a weaker promise is kept all the more, and then the named cal
 each by the goals that are named. A check of these alone shows it, once the same check has shown that
 they are proved as things are; `rt ci` proves all callers.
 """
-import argparse
 import os
 import re
 
 from floors import CALLERS, WRONG_CLAUSES
 from gate_parts.edit_files import edits_of, texts_with
 from gate_parts.edits import breaches
+from gate_parts.options import options
 from gate_parts.rooms import changed_files, check, copies, only, require_proof
 from gate_parts.said import is_proved, refused_in
-from gate_parts.tree import PROCESSORS, Failure, crate_folder, crates_with, text_of
+from gate_parts.tree import Failure, crate_folder, crates_with, text_of
 
 FOLDER = 'wrong-clauses'
 CRATE = 'callers'
@@ -76,15 +76,8 @@ def said_of_callers(library, edits, jobs):
             return check(place, CRATE, jobs, *words)[0]
 
 
-def options(words):
-    parser = argparse.ArgumentParser(prog='gate callers', description=__doc__,
-                                     formatter_class=argparse.RawDescriptionHelpFormatter)
-    parser.add_argument('--jobs', type=int, default=PROCESSORS, metavar='N')
-    return parser.parse_args(words)
-
-
 def main(words):
-    jobs = options(words).jobs
+    jobs = options('callers', __doc__, words, '--jobs').jobs
     edits = {library: wrong_clauses(library) for library in crates_with(FOLDER)}
     count = sum(map(len, edits.values()))
     if count < WRONG_CLAUSES:

@@ -3,7 +3,6 @@
 The sentences that state numbers stand in `.ci/stated.py`. One that is not found in its document, or
 found with another number than is counted, fails.
 """
-import argparse
 import os
 import re
 from collections import Counter
@@ -12,6 +11,7 @@ from floors import HOSTILE_INPUTS, REFUSALS, STORED
 from gate_parts.callers import require_callers
 from gate_parts.digests import STEP
 from gate_parts.edit_files import edits_of
+from gate_parts.options import options
 from gate_parts.replay import THOUSANDS
 from gate_parts.tree import TOP, Failure, crate_folder, dependencies, in_tree, text_of
 from stated import STATED
@@ -162,8 +162,7 @@ def misstatements(text, sentence, numbers):
 
 
 def main(words):
-    argparse.ArgumentParser(prog='gate counts', description=__doc__,
-                            formatter_class=argparse.RawDescriptionHelpFormatter).parse_args(words)
+    options('counts', __doc__, words)
     print_lines(lines_by_kind())
     numbers, wrong = counted(), 0
     for name, number in numbers.items():

@@ -16,7 +16,6 @@ cites the copies, and one of these is changed.
 It is no refusal where an error stands in `specs/` or `src/`, since the definition is then not well
 formed, nor where a name has gone: either would refuse whatever stands on it, true or not.
 """
-import argparse
 import os
 import re
 import sys
@@ -28,10 +27,11 @@ from typing import List, NamedTuple, Set
 from floors import WRONG_DEFINITIONS
 from gate_parts.edit_files import Edit, edits_of, texts_with
 from gate_parts.edits import listed
+from gate_parts.options import options
 from gate_parts.reach import changed_by, reached_by, words_by_definition
 from gate_parts.rooms import changed_files, check, copies, more_copies, only, require_proof
 from gate_parts.said import ill_formed, is_proved, open_goals
-from gate_parts.tree import PROCESSORS, TOP, Failure, crate_folder, crates_with, text_of, write_text
+from gate_parts.tree import TOP, Failure, crate_folder, crates_with, text_of, write_text
 
 FOLDER = 'wrong-definitions'
 # How many are tried in one check at most: what it prints should be readable where one is not refused.
@@ -198,17 +198,8 @@ def tried_all(library, edits, jobs):
             return set().union(*pool.map(partial(tried, rooms, library), tasks))
 
 
-def options(words):
-    parser = argparse.ArgumentParser(prog='gate definitions', description=__doc__,
-                                     formatter_class=argparse.RawDescriptionHelpFormatter)
-    parser.add_argument('crates', nargs='*', metavar='CRATE')
-    parser.add_argument('--named', default='', metavar='WORD')
-    parser.add_argument('--jobs', type=int, default=PROCESSORS, metavar='N')
-    return parser.parse_args(words)
-
-
 def main(words):
-    given = options(words)
+    given = options('definitions', __doc__, words, 'crates', '--named', '--jobs')
     crates = given.crates or sorted({*crates_with(FOLDER), *WRONG_DEFINITIONS})
     edits = {crate: [edit for edit in wrong_definitions(crate) if given.named in edit.name]
              for crate in crates}

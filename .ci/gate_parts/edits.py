@@ -13,7 +13,6 @@ An edit of several functions, or of anything but the body of the function that i
 constant), has a check of its own: what it breaks beyond that can't be taken for the work of another
 edit, nor stand for another's goal.
 """
-import argparse
 import os
 import sys
 from collections import Counter
@@ -24,9 +23,10 @@ from queue import SimpleQueue
 from floors import EDITS
 from gate_parts.edit_files import edits_of, texts_with
 from gate_parts.enclosing import function_changed
+from gate_parts.options import options
 from gate_parts.rooms import changed_files, check, copies, require_proof
 from gate_parts.said import refused_in
-from gate_parts.tree import PROCESSORS, TOP, Failure, crate_folder, crates_with, text_of
+from gate_parts.tree import TOP, Failure, crate_folder, crates_with, text_of
 
 FOLDER = 'must-fail-together'
 
@@ -110,17 +110,8 @@ def prepared(crate, named, jobs):
     return [(crate, group) for group in groups]
 
 
-def options(words):
-    parser = argparse.ArgumentParser(prog='gate edits', description=__doc__,
-                                     formatter_class=argparse.RawDescriptionHelpFormatter)
-    parser.add_argument('crates', nargs='*', metavar='CRATE')
-    parser.add_argument('--named', default='', metavar='WORD')
-    parser.add_argument('--jobs', type=int, default=PROCESSORS, metavar='N')
-    return parser.parse_args(words)
-
-
 def main(words):
-    given = options(words)
+    given = options('edits', __doc__, words, 'crates', '--named', '--jobs')
     crates = given.crates or sorted({*crates_with(FOLDER), *EDITS})
     tasks = [task for crate in crates for task in prepared(crate, given.named, given.jobs)]
     if not tasks:

@@ -12,12 +12,12 @@ Cases that differ are printed; case I of a seed is the same at every count. Inpu
 run, or never bring about some reply or fault, show little: so there must be as many of each as
 `.ci/floors.py` says, unless fewer inputs are asked for than the gate's.
 """
-import argparse
 from collections import Counter
 from functools import partial
 
 from floors import HOSTILE_ACCEPTED_PART, HOSTILE_FAULTS, HOSTILE_INPUTS, HOSTILE_OF_EACH, HOSTILE_REPLIES
 from gate_parts.hostile_inputs import hostile_case
+from gate_parts.options import options
 from gate_parts.programs import NOT_TRIED, all_runs, chosen, difference, run
 
 # So many differences are printed, the shortest; the others are counted alone.
@@ -72,17 +72,8 @@ def counted(title, counts):
     print(f'{title}: ' + ', '.join(f'{count} {name}' for name, count in counts.most_common()))
 
 
-def options(words):
-    parser = argparse.ArgumentParser(prog='gate hostile', description=__doc__,
-                                     formatter_class=argparse.RawDescriptionHelpFormatter)
-    parser.add_argument('programs', nargs='*', metavar='PROGRAM')
-    parser.add_argument('--seed', default='20251122')
-    parser.add_argument('--count', type=int, default=HOSTILE_INPUTS)
-    return parser.parse_args(words)
-
-
 def main(words):
-    given = options(words)
+    given = options('hostile', __doc__, words, 'programs', '--seed', '--count')
     programs = chosen(given.programs)
     tally = Tally(programs)
     print(f'seed {given.seed}, {given.count} inputs', flush=True)

@@ -5,12 +5,12 @@ refusal. A crate is done at the first request that none of them makes, and must 
 then as `.ci/floors.py` says: tests that never say `refused` show nothing. The crates are tried side
 by side; each request is one build of a crate's tests.
 """
-import argparse
 import re
 from concurrent.futures import ThreadPoolExecutor
 from typing import NamedTuple
 
 from floors import REFUSALS
+from gate_parts.options import options
 from gate_parts.tree import crate_folder, run_rt
 
 # More requests than any of the tests may make.
@@ -75,15 +75,8 @@ def enough(crate, requests, meetings, lines):
                            f'and {least_meetings} meetings']
 
 
-def options(words):
-    parser = argparse.ArgumentParser(prog='gate refusals', description=__doc__,
-                                     formatter_class=argparse.RawDescriptionHelpFormatter)
-    parser.add_argument('crates', nargs='*', metavar='CRATE')
-    return parser.parse_args(words)
-
-
 def main(words):
-    crates = options(words).crates or list(REFUSALS)
+    crates = options('refusals', __doc__, words, 'crates').crates or list(REFUSALS)
     is_well = True
     with ThreadPoolExecutor(len(crates)) as pool:
         for is_crate_well, lines in pool.map(swept, crates):

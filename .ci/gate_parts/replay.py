@@ -6,9 +6,9 @@ the last lines are, for each program, like `llvm: 708 cases and 30 digests of 10
 passed, 0 failed`. The files of replay/ must hold just as much as `.ci/floors.py` says;
 replay/README.md says how they came about.
 """
-import argparse
 
 from gate_parts.digests import STEP, failed_digests, stored_digests
+from gate_parts.options import options
 from gate_parts.programs import chosen
 from gate_parts.stored import failed_cases, stored_cases
 
@@ -29,14 +29,6 @@ def replayed(builds, is_whole):
     return not any(failed.values())
 
 
-def options(words):
-    parser = argparse.ArgumentParser(prog='gate replay', description=__doc__,
-                                     formatter_class=argparse.RawDescriptionHelpFormatter)
-    parser.add_argument('programs', nargs='*', metavar='PROGRAM')
-    parser.add_argument('--all', action='store_true')
-    return parser.parse_args(words)
-
-
 def main(words):
-    given = options(words)
+    given = options('replay', __doc__, words, 'programs', '--all')
     return replayed(chosen(given.programs), given.all)

@@ -5,7 +5,6 @@ must make a part fail: edits whose goals stay proved or that stand there twice, 
 cut or gone, hostile inputs of noise alone, tests that never meet a refusal. Beside each stands the
 same in order, which must pass.
 """
-import argparse
 import os
 import shutil
 import subprocess
@@ -23,6 +22,7 @@ from gate_parts.edit_files import Change, read_edits, texts_with
 from gate_parts.enclosing import function_changed
 from gate_parts.hostile import Tally, tried
 from gate_parts.reach import reached_by, words_by_definition
+from gate_parts.options import options
 from gate_parts.tree import Failure, in_tree, text_of, write_text
 
 CRATES = 'toy:\nabove: toy\ncallers: toy\n'
@@ -488,7 +488,6 @@ class Reading(unittest.TestCase):
 
 
 def main(words):
-    argparse.ArgumentParser(prog='gate selftest', description=__doc__,
-                            formatter_class=argparse.RawDescriptionHelpFormatter).parse_args(words)
+    options('selftest', __doc__, words)
     suite = unittest.defaultTestLoader.loadTestsFromModule(sys.modules[__name__])
     return unittest.TextTestRunner(stream=sys.stdout).run(suite).wasSuccessful() and suite.countTestCases() > 0

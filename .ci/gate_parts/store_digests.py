@@ -3,19 +3,14 @@
 The judge is a program over the original crate that reads the script language. It is run on as many
 generated scripts as `replay/digests` must have. This is no part of the gate.
 """
-import argparse
-
 from floors import STORED
 from gate_parts.digests import STEP, all_digests
+from gate_parts.options import options
 from gate_parts.programs import checked
 
 
 def main(words):
-    parser = argparse.ArgumentParser(prog='gate store_digests', description=__doc__,
-                                     formatter_class=argparse.RawDescriptionHelpFormatter)
-    parser.add_argument('judge', metavar='JUDGE')
-    parser.add_argument('--seed', default='20251122')
-    given = parser.parse_args(words)
+    given = options('store_digests', __doc__, words, 'judge', '--seed')
     starts = [(given.seed, number * STEP) for number in range(STORED['digests'])]
     made = all_digests([checked(given.judge)], starts)
     for (seed, first), (scripts, (answers,)) in zip(starts, made):
