@@ -24,9 +24,9 @@ from floors import EDITS
 from gate_parts.edit_files import edits_of, texts_with
 from gate_parts.enclosing import function_changed
 from gate_parts.options import options
-from gate_parts.rooms import changed_files, check, copies, require_proof
+from gate_parts.rooms import changed_files, check, copies, require_proofs
 from gate_parts.said import refused_in
-from gate_parts.tree import TOP, Failure, crate_folder, crates_with, text_of
+from gate_parts.tree import Failure, crate_folder, crates_with, text_of
 
 FOLDER = 'must-fail-together'
 
@@ -98,12 +98,11 @@ def tried(rooms, task):
     return not found
 
 
-def prepared(crate, named, jobs):
-    """The groups of edits of the crate, which can all be applied; the crate is proved as it is."""
+def prepared(crate, named):
+    """The groups of edits of the crate, which can all be applied."""
     groups = groups_of(crate, [edit for edit in own_edits(crate) if named in edit.name])
     for group in groups:
         texts_with(crate_folder(crate), group)
-    require_proof(TOP, crate, jobs)
     alone = sum(len(group) == 1 for group in groups)
     print(f'{crate}: {sum(map(len, groups))} edits in {len(groups)} checks, '
           f'{alone} of them of one edit', flush=True)
@@ -113,9 +112,10 @@ def prepared(crate, named, jobs):
 def main(words):
     given = options('edits', __doc__, words, 'crates', '--named', '--jobs')
     crates = given.crates or sorted({*crates_with(FOLDER), *EDITS})
-    tasks = [task for crate in crates for task in prepared(crate, given.named, given.jobs)]
+    tasks = [task for crate in crates for task in prepared(crate, given.named)]
     if not tasks:
         raise Failure(f'no edit has {given.named} in its name')
+    require_proofs(crates, given.jobs)
     rooms = SimpleQueue()
     with copies(crates, min(given.jobs, len(tasks))) as places:
         for place in places:

@@ -2,6 +2,7 @@
 import os
 import shutil
 import tempfile
+from concurrent.futures import ThreadPoolExecutor
 from contextlib import contextmanager
 
 from gate_parts.tree import (TOP, Failure, crate_folder, run_rt, text_of, with_those_below,
@@ -27,6 +28,17 @@ def require_proof(top, crate, jobs):
     said, is_well = check(top, crate, jobs)
     if not is_well:
         raise Failure(f'{crate} is not proved as it is:\n{said}')
+
+
+def require_proofs(crates, jobs):
+    """The same of several crates of the tree: first those that others stand on, then the others at once."""
+    below = [crate for crate in crates
+             if any(crate in with_those_below([other]) for other in crates if other != crate)]
+    for crate in below:
+        require_proof(TOP, crate, jobs)
+    above = [crate for crate in crates if crate not in below]
+    with ThreadPoolExecutor(len(above)) as pool:
+        list(pool.map(lambda crate: require_proof(TOP, crate, max(1, jobs // len(above))), above))
 
 
 @contextmanager
