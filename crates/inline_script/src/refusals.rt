@@ -52,7 +52,7 @@ fn accepted(
     answer.1
 }
 
-fn check(rt: &(impl Abort + Print), alloc: Global, of: &Script) -> Result<(), Fail> {
+fn assert_answers(rt: &(impl Abort + Print), alloc: Global, of: &Script) -> Result<(), Fail> {
     let mut refusals = Refusals::none();
     let mut cells = [0; 128];
     let count = accepted(rt, alloc, of, &mut cells, &mut refusals);
@@ -69,7 +69,7 @@ fn check(rt: &(impl Abort + Print), alloc: Global, of: &Script) -> Result<(), Fa
 }
 
 #[test]
-fn of_a_text_that_leaves_its_inline_room(rt: HostRuntime) -> Result<(), Fail> {
+fn a_refused_promotion_keeps_the_text_inline(rt: HostRuntime) -> Result<(), Fail> {
     let script = Script {
         word: "inline",
         lines: b"push_str hello world\ntruncate 5\npop\nreplace_bytes 48454c4C\ntruncate 9\n\
@@ -81,55 +81,55 @@ fn of_a_text_that_leaves_its_inline_room(rt: HostRuntime) -> Result<(), Fail> {
             text HEL\nlength 3\nstorage inline\n",
         ],
     };
-    check(&rt, rt.alloc(), &script)
+    assert_answers(&rt, rt.alloc(), &script)
 }
 
 #[test]
-fn of_a_text_with_no_inline_room(rt: HostRuntime) -> Result<(), Fail> {
+fn a_refused_push_leaves_a_text_without_inline_room_empty(rt: HostRuntime) -> Result<(), Fail> {
     let script = Script {
         word: "inline0",
         lines: b"push a\npop\nshrink_to_fit\n",
         output: b"done\nchar a\ndone\ntext \nlength 0\nstorage inline\n",
         refused: &[b"no memory\nnone\ndone\ntext \nlength 0\nstorage inline\n"],
     };
-    check(&rt, rt.alloc(), &script)
+    assert_answers(&rt, rt.alloc(), &script)
 }
 
 #[test]
-fn of_a_text_that_outgrows_eight_bytes(rt: HostRuntime) -> Result<(), Fail> {
+fn a_refused_push_keeps_eight_bytes_inline(rt: HostRuntime) -> Result<(), Fail> {
     let script = Script {
         word: "inline8",
         lines: b"push_str 12345678\npush 9\nreplace_bytes 393837363534333231\n",
         output: b"done\ndone\ndone\ntext 987654321\nlength 9\nstorage heap\n",
         refused: &[b"done\nno memory\nwrong length\ntext 12345678\nlength 8\nstorage inline\n"],
     };
-    check(&rt, rt.alloc(), &script)
+    assert_answers(&rt, rt.alloc(), &script)
 }
 
 #[test]
-fn of_a_text_that_begins_on_the_heap(rt: HostRuntime) -> Result<(), Fail> {
+fn a_refused_reservation_lets_a_heap_text_shrink_inline(rt: HostRuntime) -> Result<(), Fail> {
     let script = Script {
         word: "heap",
         lines: b"push_str 0123456789\nreserve 31\nshrink_to_fit\n",
         output: b"done\ndone\ndone\ntext 0123456789\nlength 10\nstorage inline\n",
         refused: &[b"done\nno memory\ndone\ntext 0123456789\nlength 10\nstorage inline\n"],
     };
-    check(&rt, rt.alloc(), &script)
+    assert_answers(&rt, rt.alloc(), &script)
 }
 
 #[test]
-fn of_a_text_that_begins_on_the_heap_and_gets_no_line(rt: HostRuntime) -> Result<(), Fail> {
+fn a_heap_start_without_lines_prints_the_empty_text(rt: HostRuntime) -> Result<(), Fail> {
     let script = Script {
         word: "heap",
         lines: b"",
         output: b"text \nlength 0\nstorage heap\n",
         refused: &[],
     };
-    check(&rt, rt.alloc(), &script)
+    assert_answers(&rt, rt.alloc(), &script)
 }
 
 #[test]
-fn of_a_string(rt: HostRuntime) -> Result<(), Fail> {
+fn a_refused_growth_leaves_a_string_as_it_was(rt: HostRuntime) -> Result<(), Fail> {
     let script = Script {
         word: "string",
         lines: b"push_str abc\nreserve_exact 100\npop\n",
@@ -139,5 +139,5 @@ fn of_a_string(rt: HostRuntime) -> Result<(), Fail> {
             b"done\nno memory\nchar c\ntext ab\nlength 2\nstorage heap\n",
         ],
     };
-    check(&rt, rt.alloc(), &script)
+    assert_answers(&rt, rt.alloc(), &script)
 }
