@@ -1,7 +1,6 @@
 pub mod Text
 pub mod Cut
 pub mod Edits
-pub mod Shift
 pub mod Window
 pub mod Lawful
 pub mod Steps
