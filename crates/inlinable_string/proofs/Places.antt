@@ -1,5 +1,5 @@
 -- Places and commands.
-use Rattle.std.proofs.Common.{◌≡◌, ◌↔◌, ℕ, List, refl, sym, ap, ◌∙◌, Option, Some, None}
+use Rattle.std.proofs.Common.{◌≡◌, ◌↔◌, ℕ, List, refl, ap, ◌∙◌, Option, Some, None}
 use Rattle.inlinable_string.specs.Text.{cut, IsCut, IsPlace}
 use Rattle.inlinable_string.specs.Edit.{edit, spliced, truncated}
 use Rattle.inlinable_string.specs.declared.run.Command.TheVariants.{Truncate}
@@ -9,37 +9,35 @@ use Rattle.inlinable_string.proofs.Cut.{cut_is, is_cut, no_cut}
 use Rattle.inlinable_string.proofs.Edits.{same_parts}
 
 -- `Truncate` keeps what stands before a place
-truncated_from : (t v : List ℕ) (p : ℕ) (o : Option (List ℕ × List ℕ)) → cut t p ≡ o → truncated t o ≡ (Done, v) → (rest : List ℕ) × IsCut t p v rest
+truncated_from : (t v : List ℕ) (p : ℕ) (o : Option (List ℕ × List ℕ)) → cut t p ≡ o
+    → truncated t o ≡ (Done, v) → (rest : List ℕ) × IsCut t p v rest
 truncated_from t v p None e h = cc (same_parts h).0
-truncated_from t v p (Some parts) e h = (parts.1, is_cut t p v parts.1 (e ∙ ap (λ x. Some (x, parts.1)) (same_parts h).1))
+truncated_from t v p (Some parts) e h =
+    let same = ap (λ x. Some (x, parts.1)) (same_parts h).1 in
+    (parts.1, is_cut t p v parts.1 (e ∙ same))
 
-pub truncations_cut : (t v : List ℕ) (p : ℕ) → (edit t (Truncate p) ≡ (Done, v)) ↔ ((rest : List ℕ) × IsCut t p v rest)
-truncations_cut t v p = (truncated_from t v p (cut t p) refl, λ h. ap (truncated t) (cut_is t p v h.0 h.1))
+pub truncations_cut : (t v : List ℕ) (p : ℕ)
+    → (edit t (Truncate p) ≡ (Done, v)) ↔ ((rest : List ℕ) × IsCut t p v rest)
+truncations_cut t v p =
+    (truncated_from t v p (cut t p) refl, λ h. ap (truncated t) (cut_is t p v h.0 h.1))
 
--- a command with two parts of the text to go by, and the same without
-by_parts : (t : List ℕ) (p : ℕ) (answer : Option (List ℕ × List ℕ) → Reply) → answer None ≡ BadPlace
-    → ((parts : List ℕ × List ℕ) → answer (Some parts) ≡ Done) → (answer (cut t p) ≡ BadPlace) ↔ (¬ (IsPlace t p))
-by_parts t p answer bad done = (
-  λ e at.
-      let was : answer (cut t p) ≡ Done = ap answer (cut_is t p at.0 at.1 at.2) ∙ done (at.0, at.1) in
-      let clash : Done ≡ BadPlace = sym was ∙ e in cc,
-  λ none. ap answer (no_cut t p none) ∙ bad,
-)
+-- a command that goes by the parts of the text is carried out exactly where there are any, and
+-- answered as a bad place elsewhere
+module _ (t : List ℕ) (p : ℕ) (answer : Option (List ℕ × List ℕ) → Reply)
+    (bad : answer None ≡ BadPlace)
+    (done : (parts : List ℕ × List ℕ) → answer (Some parts) ≡ Done) where
+  done_at : IsPlace t p → answer (cut t p) ≡ Done
+  done_at at = ap answer (cut_is t p at.0 at.1 at.2) ∙ done (at.0, at.1)
 
--- a command that goes by the parts of the text is carried out exactly where there are any
-place_from : (t : List ℕ) (p : ℕ) (answer : Option (List ℕ × List ℕ) → Reply)
-    (o : Option (List ℕ × List ℕ)) → answer None ≡ BadPlace → cut t p ≡ o → answer o ≡ Done
-    → IsPlace t p
-place_from t p answer None bad e h = let clash : BadPlace ≡ Done = sym bad ∙ h in cc
-place_from t p answer (Some parts) bad e h = (parts.0, parts.1, is_cut t p parts.0 parts.1 e)
+  bad_elsewhere : (answer (cut t p) ≡ BadPlace) ↔ (¬ (IsPlace t p))
+  bad_elsewhere = (λ e at. cc (done_at at), λ none. ap answer (no_cut t p none) ∙ bad)
 
-done_by_parts : (t : List ℕ) (p : ℕ) (answer : Option (List ℕ × List ℕ) → Reply)
-    → answer None ≡ BadPlace → ((parts : List ℕ × List ℕ) → answer (Some parts) ≡ Done)
-    → (answer (cut t p) ≡ Done) ↔ IsPlace t p
-done_by_parts t p answer bad done = (
-  place_from t p answer (cut t p) bad refl,
-  λ at. ap answer (cut_is t p at.0 at.1 at.2) ∙ done (at.0, at.1),
-)
+  place_from : (o : Option (List ℕ × List ℕ)) → cut t p ≡ o → answer o ≡ Done → IsPlace t p
+  place_from None e h = cc
+  place_from (Some parts) e h = (parts.0, parts.1, is_cut t p parts.0 parts.1 e)
+
+  done_by_parts : (answer (cut t p) ≡ Done) ↔ IsPlace t p
+  done_by_parts = (place_from (cut t p) refl, done_at)
 
 pub placed_splice : (t u : List ℕ) (p : ℕ) → ((spliced t u (cut t p)).0 ≡ Done) ↔ IsPlace t p
 placed_splice t u p = done_by_parts t p (λ o. (spliced t u o).0) refl (λ parts. refl)
@@ -47,9 +45,10 @@ placed_splice t u p = done_by_parts t p (λ o. (spliced t u o).0) refl (λ parts
 pub placed_truncation : (t : List ℕ) (p : ℕ) → ((truncated t (cut t p)).0 ≡ Done) ↔ IsPlace t p
 placed_truncation t p = done_by_parts t p (λ o. (truncated t o).0) refl (λ parts. refl)
 
--- an insertion is answered as a bad place exactly where there is none
-pub misplaced_splice : (t u : List ℕ) (p : ℕ) → ((spliced t u (cut t p)).0 ≡ BadPlace) ↔ (¬ (IsPlace t p))
-misplaced_splice t u p = by_parts t p (λ o. (spliced t u o).0) refl (λ parts. refl)
+pub misplaced_splice : (t u : List ℕ) (p : ℕ)
+    → ((spliced t u (cut t p)).0 ≡ BadPlace) ↔ (¬ (IsPlace t p))
+misplaced_splice t u p = bad_elsewhere t p (λ o. (spliced t u o).0) refl (λ parts. refl)
 
-pub misplaced_truncation : (t : List ℕ) (p : ℕ) → ((truncated t (cut t p)).0 ≡ BadPlace) ↔ (¬ (IsPlace t p))
-misplaced_truncation t p = by_parts t p (λ o. (truncated t o).0) refl (λ parts. refl)
+pub misplaced_truncation : (t : List ℕ) (p : ℕ)
+    → ((truncated t (cut t p)).0 ≡ BadPlace) ↔ (¬ (IsPlace t p))
+misplaced_truncation t p = bad_elsewhere t p (λ o. (truncated t o).0) refl (λ parts. refl)

@@ -1,149 +1,155 @@
--- A text t that lies in l bytes w.
-use Rattle.std.proofs.Common.{◌≡◌, ℕ, ◌+◌, ◌<◌, ◌≤◌, List, [], ◌∷◌, ◌++◌, length, take, drop, refl, sym, ap, ◌∙◌, arith, subst, length-append, length-take-le, take-take, take_at, append-nil, length-drop}
-use Rattle.std.specs.Char.{encode_utf8, IsScalar}
-use Rattle.std.specs.List.{insert_slice, remove_range}
-use Rattle.std.specs.Str.{chars, IsUtf8, IsCharBoundary}
+-- A text in a part of an array.
+use Rattle.std.proofs.Common.{◌≡◌, ℕ, ◌+◌, ◌<◌, ◌≤◌, true, List, [], ◌∷◌, ◌++◌, length, take, drop, refl, sym, ap, ◌∙◌, arith, length-append, length-take-le, take-take, take_at, append-nil, length-drop}
+use Rattle.std.specs.Char.{encode_utf8, is_ascii, IsScalar}
+use Rattle.std.specs.List.{insert_slice}
+use Rattle.std.specs.Str.{chars, IsUtf8}
 use Rattle.std.proofs.Math.ListN.{set}
-use Rattle.std.proofs.lemmas.List.{drop-append-le, drop-take, drop_at, take_all, drop_all, drop-set-add, take_more_set}
-use Rattle.std.proofs.lemmas.Str.{IsUtf8-had, IsUtf8-append, IsUtf8-take, IsUtf8-drop, chars-append, encodes-chars, IsUtf8-past_char, chars_past_char, chars_from_encodes, encode_ascii, IsUtf8-encode}
+use Rattle.std.proofs.lemmas.Bool.Decides.{nat_tests}
+use Rattle.std.proofs.lemmas.List.{drop-append-le, drop-take, take_all, drop_all, drop-set-add, take_more_set}
+use Rattle.std.proofs.lemmas.Str.{IsUtf8-had, IsUtf8-append, IsUtf8-take, IsUtf8-drop, chars-append, encodes-chars, IsUtf8-past_char, chars_past_char, encode_ascii, IsUtf8-encode}
 use Rattle.inlinable_string.specs.Text.{bytes_of, size, IsCut, IsPlace, IsSplice, IsRemoval}
-use Rattle.inlinable_string.proofs.Text.{size-chars, boundary_at_cut, cut_at_boundary, popped-chars}
-
-pub record Holds (t w : List ℕ) (l : ℕ) : Type 0 where
-  pub shown : chars w ≡ t
-  pub utf8 : IsUtf8 w
-  pub long : length w ≡ l
-
-pub size_of : (t w : List ℕ) (l : ℕ) → Holds t w l → size t ≡ l
-size_of t w l h = ap size (sym h.shown) ∙ size-chars _ h.utf8 ∙ h.long
-
-pub bytes_are : (t w : List ℕ) (l : ℕ) → Holds t w l → w ≡ bytes_of t
-bytes_are t w l h = sym (encodes-chars _ h.utf8) ∙ ap bytes_of h.shown
-
-pub edge : (t w : List ℕ) (l p : ℕ) → Holds t w l → IsPlace t p → IsCharBoundary w p
-edge t w l p h at = boundary_at_cut w p at.0 at.1 h.utf8 (rw h.shown at.2)
-
-pub within : (t w : List ℕ) (l p : ℕ) → Holds t w l → IsPlace t p → p ≤ l
-within t w l p h at = omega (arith, (edge t w l p h at).0, h.long)
-
-pub pushed : (t w v s : List ℕ) (l : ℕ) → Holds t w l → IsUtf8 s → v ≡ w ++ s → Holds (t ++ chars s) v (l + length s)
-pushed t w v s l h u e = record {
-  shown = ap chars e ∙ chars-append w s h.utf8 ∙ ap (λ x. x ++ chars s) h.shown;
-  utf8 = rw e (IsUtf8-append _ _ h.utf8 u);
-  long = ap length e ∙ length-append w s ∙ ap (λ k. k + length s) h.long;
-}
-
-pub truncated : (t w v : List ℕ) (l p : ℕ) → Holds t w l → IsPlace t p → v ≡ take p w → IsUtf8 v × ((rest : List ℕ) × IsCut t p (chars v) rest)
-truncated t w v l p h at e =
-    let b = edge t w l p h at in
-    (rw e (IsUtf8-take w p h.utf8 b), (chars (drop p w), rw (← h.shown, e) (cut_at_boundary w p h.utf8 b)))
-
-pub popped : (t w v : List ℕ) (l c : ℕ) → Holds t w l → IsUtf8 v → w ≡ v ++ encode_utf8 c → t ≡ chars v ++ c ∷ []
-popped t w v l c h u e = sym h.shown ∙ popped-chars w v c h.utf8 u e
-
--- a text put in at p
-pub inserted : (t w v s : List ℕ) (l p : ℕ) → Holds t w l → IsUtf8 s → IsPlace t p → v ≡ insert_slice w p s → IsUtf8 v × IsSplice t p (chars s) (chars v)
-inserted t w v s l p h u at e =
-    let b = edge t w l p h at in
-    let a : IsUtf8 (take p w) = IsUtf8-take w p h.utf8 b in
-    let d : IsUtf8 (drop p w) = IsUtf8-drop w p h.utf8 b in (
-      rw e (IsUtf8-append _ _ (IsUtf8-append _ _ a u) d),
-      record {
-        front = chars (take p w);
-        back = chars (drop p w);
-        cut = rw (← h.shown) (cut_at_boundary w p h.utf8 b);
-        joined = ap chars e ∙ chars-append (take p w ++ s) (drop p w) (IsUtf8-append _ _ a u) ∙ ap (λ x. x ++ chars (drop p w)) (chars-append (take p w) s a);
-      },
-    )
-
--- the bytes of the character at p taken out
-pub removed_at : (t w v rest : List ℕ) (l p c : ℕ) → Holds t w l → IsPlace t p → drop p w ≡ encode_utf8 c ++ rest → v ≡ take p w ++ rest → IsUtf8 v × IsRemoval t p c (chars v)
-removed_at t w v rest l p c h at e joined =
-    let b = edge t w l p h at in
-    let a : IsUtf8 (take p w) = IsUtf8-take w p h.utf8 b in
-    let m : IsUtf8 (drop p w) = IsUtf8-drop w p h.utf8 b in
-    let u : IsUtf8 rest = IsUtf8-past_char (drop p w) rest c m e in
-    let cut : IsCut t p (chars (take p w)) (chars (drop p w)) = rw (← h.shown) (cut_at_boundary w p h.utf8 b) in (
-      rw joined (IsUtf8-append _ _ a u),
-      record {
-        front = chars (take p w);
-        back = chars rest;
-        cut = rw (chars_past_char (drop p w) rest c m e) at cut;
-        joined = ap chars joined ∙ chars-append (take p w) rest a;
-      },
-    )
-
--- the same where they end at q
-pub removed : (t w v rest : List ℕ) (l p q c : ℕ) → Holds t w l → IsPlace t p → drop p w ≡ encode_utf8 c ++ rest → drop q w ≡ rest → v ≡ remove_range w p q → IsUtf8 v × IsRemoval t p c (chars v)
-removed t w v rest l p q c h at e d r = removed_at t w v rest l p c h at e (r ∙ ap (λ x. take p w ++ x) d)
+use Rattle.inlinable_string.specs.declared.inline_string.InlineStringN.TheInside.{Inside}
+use Rattle.inlinable_string.proofs.Text.{Holds, holds, bytes_are, size_of, boundary, cut_at, popped-chars, place_within}
 
 -- one character
 pub size_one : (c : ℕ) → length (encode_utf8 c) ≡ size (c ∷ [])
 size_one c = ap length (sym (append-nil (encode_utf8 c)))
 
+pub char_held : {c : ℕ} {bs : List ℕ} → IsUtf8 bs → bs ≡ encode_utf8 c → Holds (c ∷ []) bs (length bs)
+char_held {c} u e = holds u (e ∙ sym (append-nil (encode_utf8 c)))
+
 pub chars_one : (c : ℕ) (bs : List ℕ) → IsUtf8 bs → bs ≡ encode_utf8 c → chars bs ≡ c ∷ []
-chars_one c bs u e = sym (chars_from_encodes (c ∷ []) bs u (append-nil (encode_utf8 c) ∙ sym e))
+chars_one c bs u e = (char_held u e).shown
 
-pub ascii_utf8 : (c : ℕ) → IsScalar c → c < 128 → IsUtf8 (c ∷ [])
-ascii_utf8 c s h = rw (encode_ascii c h) at (IsUtf8-encode c s)
+-- an ASCII character is its byte
+pub ascii_held : (c : ℕ) → IsScalar c → is_ascii c ≡ true → Holds (c ∷ []) (c ∷ []) 1
+ascii_held c s a =
+    let same : encode_utf8 c ≡ c ∷ [] = encode_ascii c (grind (arith, nat_tests)) in
+    char_held (rw same at (IsUtf8-encode c s)) (sym same)
 
-pub ascii_chars : (c : ℕ) → IsScalar c → c < 128 → chars (c ∷ []) ≡ c ∷ []
-ascii_chars c s h = chars_one c (c ∷ []) (ascii_utf8 c s h) (sym (encode_ascii c h))
+module _ {t w : List ℕ} {l : ℕ} (h : Holds t w l) where
+  -- the text u put behind
+  pub pushed : {u s v : List ℕ} {m : ℕ} → Holds u s m → v ≡ w ++ s
+      → ∥ IsUtf8 v ∥₁ × (chars v ≡ t ++ u)
+  pushed {s = s} a e = (
+    ∣ rw e (IsUtf8-append _ _ h.utf8 a.utf8) ∣₁,
+    ap chars e ∙ rw (chars-append w s h.utf8, h.shown, a.shown) refl,
+  )
 
-pub ascii_size : (c : ℕ) → c < 128 → size (c ∷ []) ≡ 1
-ascii_size c h = sym (size_one c) ∙ ap length (encode_ascii c h)
+  -- the text u put in at p
+  pub inserted : {u s v : List ℕ} {m p : ℕ} → Holds u s m → IsPlace t p → v ≡ insert_slice w p s
+      → ∥ IsUtf8 v ∥₁ × IsSplice t p u (chars v)
+  inserted {s = s} {p = p} a at e =
+      let b = boundary h at in
+      let front : IsUtf8 (take p w) = IsUtf8-take w p h.utf8 b in
+      let both : IsUtf8 (take p w ++ s) = IsUtf8-append _ _ front a.utf8 in (
+        ∣ rw e (IsUtf8-append _ _ both (IsUtf8-drop w p h.utf8 b)) ∣₁,
+        record {
+          front = chars (take p w);
+          back = chars (drop p w);
+          cut = cut_at h p b;
+          joined = ap chars e ∙ chars-append _ (drop p w) both
+              ∙ rw (chars-append (take p w) s front, a.shown) refl;
+        },
+      )
 
--- the l bytes from s on of the n bytes bs
-pub window_holds : (t bs : List ℕ) (s l n : ℕ) → chars (take l (drop s bs)) ≡ t → length bs ≡ n → s + l ≤ n → ∥ IsUtf8 (take l (drop s bs)) ∥₁ → Holds t (take l (drop s bs)) l
-window_holds t bs s l n e r h u = record { shown = e; utf8 = IsUtf8-had _ u; long = length-take-le l (drop s bs) (omega (arith, r, h, length-drop s bs)) }
+  -- the bytes of the character at p taken out
+  pub removed : {p : ℕ} (c : ℕ) (rest : List ℕ) {v : List ℕ} → IsPlace t p
+      → drop p w ≡ encode_utf8 c ++ rest → v ≡ take p w ++ rest
+      → ∥ IsUtf8 v ∥₁ × IsRemoval t p c (chars v)
+  removed {p} c rest at e joined =
+      let b = boundary h at in
+      let front : IsUtf8 (take p w) = IsUtf8-take w p h.utf8 b in
+      let back : IsUtf8 (drop p w) = IsUtf8-drop w p h.utf8 b in (
+        ∣ rw joined (IsUtf8-append _ _ front (IsUtf8-past_char _ rest c back e)) ∣₁,
+        record {
+          front = chars (take p w);
+          back = chars rest;
+          cut = rw (chars_past_char (drop p w) rest c back e) at (cut_at h p b);
+          joined = ap chars joined ∙ chars-append (take p w) rest front;
+        },
+      )
 
 -- put in at the end
 pub inserted_last : (w s : List ℕ) (l : ℕ) → length w ≡ l → insert_slice w l s ≡ w ++ s
-inserted_last w s l e = ap (λ x. (x ++ s) ++ drop l w) (take_all l w (omega (arith, e))) ∙ ap (λ x. (w ++ s) ++ x) (drop_all l w (omega (arith, e))) ∙ append-nil (w ++ s)
+inserted_last w s l e =
+    rw (take_all l w (omega (arith, e)), drop_all l w (omega (arith, e)), append-nil) refl
 
--- one byte written behind the window
-pub written_behind : (bs : List ℕ) (s l c : ℕ) → s + l < length bs → take (l + 1) (drop s (set bs (s + l) c)) ≡ take l (drop s bs) ++ c ∷ []
-written_behind bs s l c h = ap (take (l + 1)) (drop-set-add s bs l c) ∙ take_more_set (drop s bs) l c (omega (arith, h, length-drop s bs))
+-- one byte written behind l bytes from s on
+pub written_behind : (bs : List ℕ) (s l c : ℕ) → s + l < length bs
+    → take (l + 1) (drop s (set bs (s + l) c)) ≡ take l (drop s bs) ++ c ∷ []
+written_behind bs s l c h =
+    rw drop-set-add (take_more_set (drop s bs) l c (omega (arith, h, length-drop s bs)))
 
-pub window_truncated : (t bs : List ℕ) (s l n p : ℕ) → s + l ≤ n → Holds t (take l (drop s bs)) l → IsPlace t p → (s + p ≤ n) × IsUtf8 (take p (drop s bs)) × ((rest : List ℕ) × IsCut t p (chars (take p (drop s bs))) rest)
-window_truncated t bs s l n p m h at =
-    let short : p ≤ l = within t (take l (drop s bs)) l p h at in
-    let r = truncated t (take l (drop s bs)) (take p (drop s bs)) l p h at (sym (take-take p l (drop s bs) short)) in (omega (arith, short, m), r.0, r.1)
+-- bytes written behind them
+extended : (old new u : List ℕ) (s l m : ℕ) → s + l ≡ m → m ≤ length old
+    → take (m + length u) new ≡ take m old ++ u
+    → take (l + length u) (drop s new) ≡ take l (drop s old) ++ u
+extended old new u s l m sum h e =
+    let regrouped : s + (l + length u) ≡ m + length u = omega arith in
+    let short : s ≤ length (take m old) = omega (arith, length-take-le m old h) in
+    sym (drop-take s (l + length u) new) ∙ ap (λ k. drop s (take k new)) regrouped
+    ∙ ap (drop s) e ∙ drop-append-le s (take m old) u short
+    ∙ ap (λ x. x ++ u) (ap (λ k. drop s (take k old)) (sym sum) ∙ drop-take s l old)
 
-pub window_popped : (t bs front : List ℕ) (s l n c : ℕ) → s + l ≤ n → Holds t (take l (drop s bs)) l → IsUtf8 front → bytes_of t ≡ front ++ encode_utf8 c
-    → (s + length front ≤ n) × IsUtf8 (take (length front) (drop s bs)) × (t ≡ chars (take (length front) (drop s bs)) ++ c ∷ [])
-window_popped t bs front s l n c m h u e =
-    let ws = drop s bs in
-    let whole : take l ws ≡ front ++ encode_utf8 c = bytes_are t (take l ws) l h ∙ e in
-    let short : length front ≤ l = omega (arith, ap length whole, length-append front (encode_utf8 c), h.long) in
-    let same : take (length front) ws ≡ front = sym (take-take (length front) l ws short) ∙ ap (take (length front)) whole ∙ take_at front (encode_utf8 c) (length front) refl in
-    (omega (arith, short, m), rw same u, rw same (popped t (take l ws) front l c h u whole))
+-- bytes written behind the window of an array
+pub window_extended : {N : ℕ} (s : Inside N) → s.start + s.len ≤ length s.bytes
+    → (u new : List ℕ)
+    → take (s.start + s.len + length u) new ≡ take (s.start + s.len) s.bytes ++ u
+    → take (s.len + length u) (drop s.start new) ≡ take s.len (drop s.start s.bytes) ++ u
+window_extended s inside u new e = extended s.bytes new u s.start s.len _ refl inside e
 
--- bytes written from s on
-pub written_from : (old new u : List ℕ) (s k : ℕ) → s ≤ length old → length u ≡ k → take (s + k) new ≡ take s old ++ u → take k (drop s new) ≡ u
-written_from old new u s k h l e = sym (drop-take s k new) ∙ ap (drop s) e ∙ drop_at (take s old) u s (length-take-le s old h)
+-- the text t of an array, and its window there
+module _ {N : ℕ} {t : List ℕ} (s : Inside N) (view : chars (take s.len (drop s.start s.bytes)) ≡ t)
+    (told : length s.bytes ≡ N)
+    (inv : (s.start + s.len ≤ N) × ∥ IsUtf8 (take s.len (drop s.start s.bytes)) ∥₁) where
+  pub held : Holds t (take s.len (drop s.start s.bytes)) s.len
+  held = record {
+    shown = view;
+    utf8 = IsUtf8-had _ inv.1;
+    long = length-take-le s.len (drop s.start s.bytes) (omega (arith, length-drop s.start s.bytes));
+  }
 
--- bytes written behind the window
-pub extended : (old new u : List ℕ) (s l : ℕ) → s + l ≤ length old → take (s + l + length u) new ≡ take (s + l) old ++ u → take (l + length u) (drop s new) ≡ take l (drop s old) ++ u
-extended old new u s l h e =
-    let regrouped : s + (l + length u) ≡ s + l + length u = omega arith in
-    let short : s ≤ length (take (s + l) old) = omega (arith, length-take-le (s + l) old h) in
-    sym (drop-take s (l + length u) new) ∙ ap (λ k. drop s (take k new)) regrouped ∙ ap (drop s) e ∙ drop-append-le s (take (s + l) old) u short ∙ ap (λ x. x ++ u) (drop-take s l old)
+  -- the window cut at a place
+  pub window_truncated : {p : ℕ} → IsPlace t p
+      → ((s.start + p ≤ N) × ∥ IsUtf8 (take p (drop s.start s.bytes)) ∥₁)
+      × ((rest : List ℕ) × IsCut t p (chars (take p (drop s.start s.bytes))) rest)
+  window_truncated {p} at =
+      let short : p ≤ s.len = omega (arith, place_within t p at, size_of held) in
+      let b = boundary held at in
+      let same : take p (take s.len (drop s.start s.bytes)) ≡ take p (drop s.start s.bytes) =
+      take-take p s.len (drop s.start s.bytes) short in (
+        (omega (arith, short), ∣ rw same at (IsUtf8-take _ p held.utf8 b) ∣₁),
+        (_, rw same at (cut_at held p b)),
+      )
 
--- bytes are a text's
-pub holds : (t bs : List ℕ) → IsUtf8 bs → bs ≡ bytes_of t → Holds t bs (length bs)
-holds t bs u e = record { shown = sym (chars_from_encodes t bs u (sym e)); utf8 = u; long = refl }
+  -- the window without its last character c, where front is what stands before that
+  pub window_popped : (all rest front : List ℕ) (c : ℕ) → all ≡ bytes_of t
+      → all ≡ rest ++ encode_utf8 c → front ≡ rest → IsUtf8 front
+      → ((s.start + length front ≤ N) × ∥ IsUtf8 (take (length front) (drop s.start s.bytes)) ∥₁)
+      × (t ≡ chars (take (length front) (drop s.start s.bytes)) ++ c ∷ [])
+  window_popped all rest front c is steps e u =
+      let ws = drop s.start s.bytes in
+      let last = encode_utf8 c in
+      let whole : take s.len ws ≡ front ++ last =
+      bytes_are held ∙ sym is ∙ steps ∙ ap (λ x. x ++ last) (sym e) in
+      let sizes : s.len ≡ length front + length last =
+      sym held.long ∙ ap length whole ∙ length-append front last in
+      let same : take (length front) ws ≡ front =
+      sym (take-take (length front) s.len ws (omega (arith, sizes)))
+      ∙ ap (take (length front)) whole ∙ take_at front last (length front) refl in (
+        (omega (arith, sizes), ∣ rw same u ∣₁),
+        rw same (sym view ∙ popped-chars _ front c held.utf8 u whole),
+      )
 
--- the bytes of a text show it
-pub holds_chars : (bs : List ℕ) → IsUtf8 bs → Holds (chars bs) bs (length bs)
-holds_chars bs u = record { shown = refl; utf8 = u; long = refl }
-
--- a text put into the bytes is put into the characters
-pub spliced : (t bs s whole : List ℕ) (p : ℕ) → Holds t bs (length bs) → IsUtf8 s → IsPlace t p → whole ≡ insert_slice bs p s → IsSplice t p (chars s) (chars whole)
-spliced t bs s whole p h u at e = (inserted t bs whole s (length bs) p h u at e).1
-
--- a character put into the bytes is put into the characters
-pub spliced_char : (t bs whole : List ℕ) (p c : ℕ) → IsScalar c → Holds t bs (length bs) → IsPlace t p → whole ≡ insert_slice bs p (encode_utf8 c) → IsSplice t p (c ∷ []) (chars whole)
-spliced_char t bs whole p c scalar h at e =
-    let u : IsUtf8 (encode_utf8 c) = IsUtf8-encode c scalar in
-    subst (λ x. IsSplice t p x (chars whole)) (chars_one c (encode_utf8 c) u refl) (spliced t bs (encode_utf8 c) whole p h u at e)
+  -- bytes written over the window
+  pub window_replaced : (u new : List ℕ) {bytes : List ℕ} → u ≡ bytes → IsUtf8 bytes
+      → length bytes ≡ s.len → take (s.start + length u) new ≡ take s.start s.bytes ++ u
+      → ((s.start + s.len ≤ N) × ∥ IsUtf8 (take s.len (drop s.start new)) ∥₁)
+      × (bytes_of (chars (take s.len (drop s.start new))) ≡ bytes)
+  window_replaced u new {bytes} is utf8 count e =
+      let sizes : s.len ≡ 0 + length u = omega (arith, ap length is) in
+      let same : take s.len (drop s.start new) ≡ bytes =
+      ap (λ k. take k (drop s.start new)) sizes
+      ∙ extended s.bytes new u s.start 0 s.start (omega arith) (omega arith) e ∙ is in
+      ((inv.0, ∣ rw same utf8 ∣₁), rw same (encodes-chars bytes utf8))

@@ -5,7 +5,9 @@ use Rattle.inlinable_string.proofs.inlinable_string.InlinableStringNStringExt.in
 
 pub returns-in-Err-clause-text : goal.returns-in-Err-clause-text
 returns-in-Err-clause-text g c =
-    rw (c.in-Inline.is, ← chars_one c.args.ch c.encode_utf8.result.now c.encode_utf8.utf8 c.encode_utf8.ensures.value, ← c.in-Err.ensures.err) c.promote.ensures.text
+    let one = chars_one c.args.ch _ c.encode_utf8.utf8 c.encode_utf8.ensures.value in
+    rw (c.in-Inline.is, ← one, ← c.in-Err.ensures.err) c.promote.ensures.text
 
 pub returns-in-Err-clause-behind : goal.returns-in-Err-clause-behind
-returns-in-Err-clause-behind g c = on_ok_weaker c.promote.result (place_behind _ _ _ _) (returns-in-Err-clause-text g c)
+returns-in-Err-clause-behind g c =
+    on_ok_weaker c.promote.result place_behind (returns-in-Err-clause-text g c)

@@ -4,4 +4,4 @@ use Rattle.inlinable_string.proofs.inlinable_string.InlinableStringNStringExt.in
 
 pub returns-in-Err-clause-behind : goal.returns-in-Err-clause-behind
 returns-in-Err-clause-behind g c =
-    on_ok_weaker c.promote.result (place_behind_str _ _ _ _ c.utf8.string) c.promote.ensures.text
+    on_ok_weaker c.promote.result (place_behind_str c.utf8.string) c.promote.ensures.text

@@ -5,5 +5,7 @@ use Rattle.inlinable_string.proofs.inlinable_string.InlinableStringNStringExt.pu
 
 pub returns-in-Err-clause-text : goal.returns-in-Err-clause-text
 returns-in-Err-clause-text g c =
-    rw (c.in-Inline.is, ← chars_one c.args.ch c.encode_utf8.result.now c.encode_utf8.utf8 c.encode_utf8.ensures.value, ← c.in-Err.ensures.err)
-    (on_ok_weaker c.promote.result (splice_at_end _ _ _ _ c.len-end.ensures.value) c.promote.ensures.text)
+    let one = chars_one c.args.ch _ c.encode_utf8.utf8 c.encode_utf8.ensures.value in
+    rw (c.in-Inline.is, ← one, ← c.in-Err.ensures.err)
+    (on_ok_weaker c.promote.result (splice_at_end _ _ _ _ c.len-end.ensures.value)
+    c.promote.ensures.text)

@@ -4,4 +4,6 @@ use Rattle.inlinable_string.proofs.inlinable_string.InlinableStringNStringExt.pu
 
 pub returns-in-Err-clause-text : goal.returns-in-Err-clause-text
 returns-in-Err-clause-text g c =
-    rw (c.in-Inline.is, ← c.in-Err.ensures.err) (on_ok_weaker c.promote.result (splice_at_end _ _ _ _ c.len-end.ensures.value) c.promote.ensures.text)
+    rw (c.in-Inline.is, ← c.in-Err.ensures.err)
+    (on_ok_weaker c.promote.result (splice_at_end _ _ _ _ c.len-end.ensures.value)
+    c.promote.ensures.text)

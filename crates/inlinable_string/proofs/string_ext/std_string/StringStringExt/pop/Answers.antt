@@ -1,16 +1,17 @@
 use Rattle.std.proofs.lemmas.Str.{IsUtf8-string_bytes}
-use Rattle.inlinable_string.proofs.Text as text
+use Rattle.inlinable_string.proofs.Text.{popped-text, size-popped, size_bound}
 use Rattle.inlinable_string.proofs.string_ext.std_string.StringStringExt.pop.Goals as goal
 
 pub returns-clause-text : goal.returns-clause-text
 returns-clause-text c =
     let old = c.args.self.now in
     let new = c.pop.new.self in
-    text.popped-text _ _ _ (IsUtf8-string_bytes old) (IsUtf8-string_bytes new) c.pop.ensures.bytes (rw (← old.bytes.ok.0) c.pop.ensures.none)
-    (rw (← old.bytes.ok.0, ← new.bytes.ok.0) c.pop.ensures.bound)
+    let e = c.pop.ensures in
+    popped-text _ _ _ (IsUtf8-string_bytes old) (IsUtf8-string_bytes new) e.bytes
+    (rw (← old.bytes.ok.0) e.none) (rw (← old.bytes.ok.0, ← new.bytes.ok.0) e.bound)
 
 pub returns-clause-len : goal.returns-clause-len
-returns-clause-len c = text.size-popped _ _ _ (returns-clause-text c)
+returns-clause-len c = size-popped _ _ _ (returns-clause-text c)
 
 pub returns-clause-bound : goal.returns-clause-bound
-returns-clause-bound c = text.size_bound _ _ _ (returns-clause-text c)
+returns-clause-bound c = size_bound _ _ _ (returns-clause-text c)

@@ -1,7 +1,5 @@
+use Rattle.std.proofs.Common.{refl}
 use Rattle.std.proofs.lemmas.Result.{on_ok_weaker}
-use Rattle.std.proofs.Common.{◌≡◌, ◌++◌, refl, subst, OnOk}
-use Rattle.std.specs.Str.{chars}
-use Rattle.std.specs.String.{string_bytes}
 use Rattle.std.proofs.lemmas.Str.{IsUtf8-string_bytes, IsUtf8-encode}
 use Rattle.inlinable_string.proofs.Text.{pushed-chars, size-string, size-pushed}
 use Rattle.inlinable_string.proofs.Window.{chars_one, size_one}
@@ -9,11 +7,13 @@ use Rattle.inlinable_string.proofs.string_ext.std_string.StringStringExt.push.Go
 
 pub returns-clause-text : goal.returns-clause-text
 returns-clause-text c =
-    subst (λ x. OnOk c.push.result (chars (string_bytes c.push.new.self) ≡ chars (string_bytes c.args.self.now) ++ x)) (chars_one c.args.ch _ (IsUtf8-encode c.args.ch c.ranges.ch.0) refl)
-    (pushed-chars _ _ _ _ (IsUtf8-string_bytes c.args.self.now) c.push.ensures.bytes)
+    let one = chars_one c.args.ch _ (IsUtf8-encode c.args.ch c.ranges.ch.0) refl in
+    let u = IsUtf8-string_bytes c.args.self.now in
+    rw one at (pushed-chars _ _ _ _ u c.push.ensures.bytes)
 
 pub returns-clause-granted : goal.returns-clause-granted
 returns-clause-granted c h = c.push.ensures.succeeds (rw (size-string, ← size_one) at h)
 
 pub returns-clause-len : goal.returns-clause-len
-returns-clause-len c = on_ok_weaker c.push.result (size-pushed _ _ _) (returns-clause-text c)
+returns-clause-len c =
+    on_ok_weaker c.push.result (size-pushed _ _ _) (returns-clause-text c)
