@@ -17,10 +17,11 @@ pub cut_joined : (a b : List ℕ) → cut (a ++ b) (size a) ≡ Some (a, b)
 cut_joined [] [] = refl
 cut_joined [] (c ∷ t) = refl
 cut_joined (c ∷ a) b =
-    let n : size (c ∷ a) ≡ length (encode_utf8 c) + size a = length-append (encode_utf8 c) (bytes_of a) in
+    let first = encode_utf8 c in
+    let n : size (c ∷ a) ≡ length first + size a = length-append first (bytes_of a) in
     let some : nat_eq (size (c ∷ a)) 0 ≡ false = grind (arith, nat_tests, n, encode_positive c) in
-    let long : nat_lt (size (c ∷ a)) (length (encode_utf8 c)) ≡ false = grind (arith, nat_tests, n) in
-    let rest : size (c ∷ a) - length (encode_utf8 c) ≡ size a = omega (arith, n) in
+    let long : nat_lt (size (c ∷ a)) (length first) ≡ false = grind (arith, nat_tests, n) in
+    let rest : size (c ∷ a) - length first ≡ size a = omega (arith, n) in
     rw (some, long, rest, cut_joined a b)
 
 -- what `cut` answers is the one cut

@@ -141,7 +141,8 @@ size-pushed t u v e = ap size e ∙ size-append t u
 pub size-spliced : {t u v : List ℕ} {p : ℕ} → IsSplice t p u v → size v ≡ size t + size u
 size-spliced {t} {u} s =
     let before = ap size s.cut.joined ∙ size-append s.front s.back in
-    omega (arith, before, ap size s.joined, size-append (s.front ++ u) s.back, size-append s.front u)
+    let after = ap size s.joined ∙ size-append (s.front ++ u) s.back in
+    omega (arith, before, after, size-append s.front u)
 
 pub size-removed : {t v : List ℕ} {p c : ℕ} → IsRemoval t p c v → size v + size (c ∷ []) ≡ size t
 size-removed {c = c} r =
@@ -191,4 +192,5 @@ size_bound (Some c) old new h = omega (arith, size-popped (Some c) old new h)
 
 -- a character has at most four bytes
 pub char_size : (c : ℕ) → size (c ∷ []) ≤ 4
-char_size c = omega (arith, ap length (append-nil (encode_utf8 c)), length-encode c, len_utf8_bounds c)
+char_size c =
+    omega (arith, ap length (append-nil (encode_utf8 c)), length-encode c, len_utf8_bounds c)

@@ -15,7 +15,8 @@ use Rattle.inlinable_string.proofs.Text.{Holds, holds, bytes_are, size_of, bound
 pub size_one : (c : ℕ) → length (encode_utf8 c) ≡ size (c ∷ [])
 size_one c = ap length (sym (append-nil (encode_utf8 c)))
 
-pub char_held : {c : ℕ} {bs : List ℕ} → IsUtf8 bs → bs ≡ encode_utf8 c → Holds (c ∷ []) bs (length bs)
+pub char_held : {c : ℕ} {bs : List ℕ} → IsUtf8 bs → bs ≡ encode_utf8 c
+    → Holds (c ∷ []) bs (length bs)
 char_held {c} u e = holds u (e ∙ sym (append-nil (encode_utf8 c)))
 
 pub chars_one : (c : ℕ) (bs : List ℕ) → IsUtf8 bs → bs ≡ encode_utf8 c → chars bs ≡ c ∷ []
