@@ -1,15 +1,20 @@
 //! Laws over the definitions that the contract of `script` cites. No function here does anything:
 //! its contract is the law.
-ghost use Rattle.std.specs.Prelude.{◌≡◌, ℕ, ◌≤◌, List, length, map, nat_lt};
+ghost use Rattle.std.specs.Prelude.{◌≡◌, ◌↔◌, ℕ, ◌≤◌, List, Some, length, map, nat_lt};
 ghost use Rattle.std.specs.Str.{IsUtf8};
 ghost use Rattle.std.specs.List.{count_by};
 ghost use Rattle.inlinable_string.specs.Edit.{edit};
 ghost use Rattle.inlinable_string.specs.Run.{need_of};
 ghost use Rattle.inlinable_string.specs.Laws.{is_refusal};
 ghost use Rattle.inlinable_string.specs.declared.run.Command.{Command};
+ghost use Rattle.script_language.specs.Fault.{line_of};
 ghost use Rattle.script_language.specs.Line.{arguments_of, word_of};
 ghost use Rattle.script_language.specs.Script.{AskFor, IsFirstBad, IsScript, PrintsFrom};
 ghost use Rattle.script_language.specs.declared.start.Start.{Start};
+
+use crate::fault::ScriptFault;
+use std::alloc::{AllocError, AllocFailed};
+use std::fmt;
 
 /// Commands that have the same word and the same arguments do the same, and need the same room.
 pub fn words_and_arguments_tell_what_is_done()
@@ -61,4 +66,20 @@ pub fn refusals_determine_the_output(words: &[String])
     ensures start { (start : Start) (commands : List Command) (output other : List ℕ)
         (one : PrintsFrom start commands output) (two : PrintsFrom start commands other)
         → map is_refusal one.run.replies ≡ map is_refusal two.run.replies → output ≡ other }
+{}
+
+/// A fault prints its line.
+pub fn faults_print_their_line()
+    ensures { (fault : ScriptFault)
+        → ⟦<ScriptFault as fmt::Display>⟧.output fault ≡ Some (line_of fault) }
+{}
+
+/// Refused memory becomes the fault `NoMemory`, and no other.
+pub fn refused_memory_becomes_its_fault<T: Drop>()
+    ensures error { (error : AllocError) (fault : ScriptFault)
+        → ⟦<ScriptFault as From<AllocError>>⟧.from_gives error fault
+        ↔ (fault ≡ ScriptFault.NoMemory) }
+    ensures failed { (failed : AllocFailed T) (fault : ScriptFault)
+        → ⟦<ScriptFault as From<AllocFailed<T>>>⟧.from_gives failed fault
+        ↔ (fault ≡ ScriptFault.NoMemory) }
 {}
