@@ -1,5 +1,6 @@
 mod Pieces
 mod Cuts
+mod Words
 mod Decimals
 mod HexTexts
 mod Lines

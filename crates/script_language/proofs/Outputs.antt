@@ -1,5 +1,6 @@
 -- What is printed of a script is known, but for where memory is refused.
-use Rattle.std.proofs.Common.{◌≡◌, refl, sym, ap, subst, ◌∙◌, ℕ, ◌==◌, List, length, slice_index, map, if◌then◌else◌}
+use Rattle.std.proofs.Common.{◌≡◌, refl, sym, ap, subst, ◌∙◌, ℕ, List, codes, map, if◌then◌else◌}
+use Rattle.std.specs.Str.{bytes_eq}
 use Rattle.std.specs.declared.string.String.{String}
 use Rattle.inlinable_string.specs.State.{TextState, storage_when_made}
 use Rattle.inlinable_string.specs.Edit.{text_after}
@@ -15,19 +16,18 @@ use Rattle.script_language.specs.declared.start.Start.{Start}
 use Rattle.script_language.specs.declared.start.Start.TheVariants as start
 use Rattle.script_language.proofs.PlainCommands.{plain, plain_asked, plain_legal, plain_state}
 
--- the start of a word, which its length and two of its letters tell
+-- the start of a word
 abbrev start_of_word : List ℕ → Start
 start_of_word word =
-    if length word == 4 then start.Heap else
-    if length word == 6 then (if slice_index word 0 == 105 then start.Inline else start.String) else
-    if slice_index word 6 == 48 then start.Inline0 else start.Inline8
+    if bytes_eq word (codes "inline") then start.Inline else
+    if bytes_eq word (codes "string") then start.String else
+    if bytes_eq word (codes "heap") then start.Heap else
+    if bytes_eq word (codes "inline0") then start.Inline0 else
+    start.Inline8
 
 start_is : (start : Start) → start_of_word (word_of_start start) ≡ start
 start_is start.Inline = refl
-start_is start.String = refl
-start_is start.Heap = refl
-start_is start.Inline0 = refl
-start_is start.Inline8 = refl
+start_is other = refl
 
 -- no words name two starts
 pub one_start : {Z : Type 0} (words : List (String Z)) (one other : Start) → IsNamed words one

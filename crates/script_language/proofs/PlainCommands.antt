@@ -1,5 +1,5 @@
 -- Commands told by their words and their arguments, wherever what they borrow stands.
-use Rattle.std.proofs.Common.{◌≡◌, refl, sym, ap, subst, ◌∙◌, ℕ, ◌+◌, ◌==◌, List, [], ◌∷◌, ◌⊎◌, inl, inr, length, slice_index, get_or, map, if◌then◌else◌}
+use Rattle.std.proofs.Common.{◌≡◌, refl, sym, ap, subst, ◌∙◌, ℕ, ◌+◌, List, [], ◌∷◌, ◌⊎◌, inl, inr, codes, map, if◌then◌else◌}
 use Rattle.std.specs.Borrow.{Bor}
 use Rattle.inlinable_string.specs.State.{TextState}
 use Rattle.inlinable_string.specs.Text.{size}
@@ -10,38 +10,29 @@ use Rattle.inlinable_string.specs.declared.run.Command.{Command}
 use Rattle.inlinable_string.specs.declared.run.Command.TheVariants.{Push, PushStr, Insert, InsertStr, Truncate, Pop, Remove, Clear, ReplaceBytes, Reserve, ReserveExact, ShrinkToFit}
 use Rattle.inlinable_string.specs.declared.run.Reply.{Reply}
 use Rattle.inlinable_string.specs.declared.run.Reply.TheVariants.{Done, Char, NoChar, BadPlace, NotUtf8, WrongLength, NoMemory}
-use Rattle.script_language.specs.Line.{arguments_of, word_of}
+use Rattle.script_language.specs.Line.{Arguments, nothing, character, text, number, number_and_character, number_and_text, bytes, arguments_of, word_of}
+use Rattle.std.specs.Str.{bytes_eq}
 use Rattle.script_language.specs.Script.{AskFor}
 use Rattle.script_language.proofs.OneCommand.{one_command}
 
 -- bytes that are borrowed from nowhere
 abbrev pub borrowed : List ℕ → Bor (List ℕ)
-borrowed bytes = record { ref_ptr = (0, 0); now = bytes }
+borrowed bs = record { ref_ptr = (0, 0); now = bs }
 
--- the text, or the number, that is the argument at i
-abbrev text_in : List (List ℕ) → ℕ → Bor (List ℕ)
-text_in args i = borrowed (get_or args i [])
-
-abbrev number_in : List (List ℕ) → ℕ → ℕ
-number_in args i = slice_index (get_or args i []) 0
-
--- the command of the arguments and a word, which its length and its third letter tell
-abbrev plain_by : ℕ → ℕ → List (List ℕ) → Command
-plain_by size letter args =
-    if size == 4 then Push (number_in args 0) else
-    if size == 5 then Clear else
-    if size == 6 then (if letter == 115 then Insert (number_in args 0) (number_in args 1)
-    else Remove (number_in args 0)) else
-    if size == 7 then Reserve (number_in args 0) else
-    if size == 8 then (if letter == 115 then PushStr (text_in args 0) else Truncate
-    (number_in args 0)) else
-    if size == 10 then InsertStr (number_in args 0) (text_in args 1) else
-    if size == 13 then (if letter == 112 then ReplaceBytes (text_in args 0) else if letter == 115
-    then ReserveExact (number_in args 0) else ShrinkToFit) else
-    Pop
-
-abbrev pub plain_of : List ℕ → List (List ℕ) → Command
-plain_of word args = plain_by (length word) (slice_index word 2) args
+-- the command of a word and its arguments
+abbrev pub plain_of : List ℕ → Arguments → Command
+plain_of word nothing =
+    if bytes_eq word (codes "pop") then Pop else
+    if bytes_eq word (codes "clear") then Clear else ShrinkToFit
+plain_of word (character c) = Push c
+plain_of word (text t) = PushStr (borrowed t)
+plain_of word (number n) =
+    if bytes_eq word (codes "truncate") then Truncate n else
+    if bytes_eq word (codes "remove") then Remove n else
+    if bytes_eq word (codes "reserve") then Reserve n else ReserveExact n
+plain_of word (number_and_character n c) = Insert n c
+plain_of word (number_and_text n t) = InsertStr n (borrowed t)
+plain_of word (bytes bs) = ReplaceBytes (borrowed bs)
 
 abbrev pub plain : Command → Command
 plain command = plain_of (word_of command) (arguments_of command)
@@ -52,18 +43,8 @@ pub record DoTheSame (one other : Command) : Type 0 where
   pub need : need_of one ≡ need_of other
 
 pub plain_does : (command : Command) → DoTheSame command (plain command)
-plain_does (Push c) = record { edit = λ t. refl; need = refl }
-plain_does (PushStr string) = record { edit = λ t. refl; need = refl }
-plain_does (Insert place c) = record { edit = λ t. refl; need = refl }
-plain_does (InsertStr place string) = record { edit = λ t. refl; need = refl }
-plain_does (Truncate place) = record { edit = λ t. refl; need = refl }
 plain_does Pop = record { edit = λ t. refl; need = refl }
-plain_does (Remove place) = record { edit = λ t. refl; need = refl }
-plain_does Clear = record { edit = λ t. refl; need = refl }
-plain_does (ReplaceBytes bytes) = record { edit = λ t. refl; need = refl }
-plain_does (Reserve n) = record { edit = λ t. refl; need = refl }
-plain_does (ReserveExact n) = record { edit = λ t. refl; need = refl }
-plain_does ShrinkToFit = record { edit = λ t. refl; need = refl }
+plain_does command = record { edit = λ t. refl; need = refl }
 
 -- one word and one list of arguments make one plain command
 pub one_plain : (one other : Command) → word_of one ≡ word_of other
@@ -86,10 +67,10 @@ same_need one other words args =
 
 -- the state after a step that leaves this text, storage and credit
 abbrev left_with : TextState → List ℕ → Storage → ℕ → TextState
-left_with s text storage more = record {
-  text = text;
+left_with s t storage more = record {
+  text = t;
   storage = storage;
-  capacity = size text + more;
+  capacity = size t + more;
   policy = s.policy;
 }
 

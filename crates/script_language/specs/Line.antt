@@ -45,49 +45,49 @@ word_of (Truncate place) = codes "truncate"
 word_of Pop = codes "pop"
 word_of (Remove place) = codes "remove"
 word_of Clear = codes "clear"
-word_of (ReplaceBytes bytes) = codes "replace_bytes"
+word_of (ReplaceBytes replacement) = codes "replace_bytes"
 word_of (Reserve n) = codes "reserve"
 word_of (ReserveExact n) = codes "reserve_exact"
 word_of ShrinkToFit = codes "shrink_to_fit"
 
--- its arguments: each as its bytes, or as its one character or number
-abbrev pub arguments_of : Command → List (List ℕ)
-arguments_of (Push c) = (c ∷ []) ∷ []
-arguments_of (PushStr string) = string.now ∷ []
-arguments_of (Insert place c) = (place ∷ []) ∷ (c ∷ []) ∷ []
-arguments_of (InsertStr place string) = (place ∷ []) ∷ string.now ∷ []
-arguments_of (Truncate place) = (place ∷ []) ∷ []
-arguments_of Pop = []
-arguments_of (Remove place) = (place ∷ []) ∷ []
-arguments_of Clear = []
-arguments_of (ReplaceBytes bytes) = bytes.now ∷ []
-arguments_of (Reserve n) = (n ∷ []) ∷ []
-arguments_of (ReserveExact n) = (n ∷ []) ∷ []
-arguments_of ShrinkToFit = []
+-- what is written behind the word of a line, in one of seven forms
+pub data Arguments : Type 0 where
+  nothing : Arguments
+  character : ℕ → Arguments
+  text : List ℕ → Arguments
+  number : ℕ → Arguments
+  number_and_character : ℕ → ℕ → Arguments
+  number_and_text : ℕ → List ℕ → Arguments
+  bytes : List ℕ → Arguments
 
--- a space, and digits that are written for the number
-abbrev pub IsNumberTail : ℕ → List ℕ → Type 0
-IsNumberTail number tail =
-    (digits : List ℕ) × (tail ≡ space ∷ digits) × IsNumberText digits number
+-- the arguments of a command
+abbrev pub arguments_of : Command → Arguments
+arguments_of (Push c) = character c
+arguments_of (PushStr string) = text string.now
+arguments_of (Insert place c) = number_and_character place c
+arguments_of (InsertStr place string) = number_and_text place string.now
+arguments_of (Truncate place) = number place
+arguments_of Pop = nothing
+arguments_of (Remove place) = number place
+arguments_of Clear = nothing
+arguments_of (ReplaceBytes replacement) = bytes replacement.now
+arguments_of (Reserve n) = number n
+arguments_of (ReserveExact n) = number n
+arguments_of ShrinkToFit = nothing
 
--- what stands behind the word of a command's line
-abbrev pub IsTail : Command → List ℕ → Type 0
-IsTail (Push c) tail = (text : List ℕ) × (tail ≡ space ∷ text) × IsCharText text c
-IsTail (PushStr string) tail = tail ≡ space ∷ string.now
-IsTail (Insert place c) tail = (digits : List ℕ) × (text : List ℕ)
-    × (tail ≡ space ∷ digits ++ space ∷ text) × IsNumberText digits place × IsCharText text c
-IsTail (InsertStr place string) tail = (digits : List ℕ)
-    × (tail ≡ space ∷ digits ++ space ∷ string.now) × IsNumberText digits place
-IsTail (Truncate place) tail = IsNumberTail place tail
-IsTail Pop tail = tail ≡ []
-IsTail (Remove place) tail = IsNumberTail place tail
-IsTail Clear tail = tail ≡ []
-IsTail (ReplaceBytes bytes) tail =
-    (digits : List ℕ) × (tail ≡ space ∷ digits) × IsHexText digits bytes.now
-IsTail (Reserve n) tail = IsNumberTail n tail
-IsTail (ReserveExact n) tail = IsNumberTail n tail
-IsTail ShrinkToFit tail = tail ≡ []
+-- the tail of a line is written for the arguments: a space before each, and else nothing
+abbrev pub IsTail : Arguments → List ℕ → Type 0
+IsTail nothing tail = tail ≡ []
+IsTail (character c) tail = (behind : List ℕ) × (tail ≡ space ∷ behind) × IsCharText behind c
+IsTail (text t) tail = tail ≡ space ∷ t
+IsTail (number n) tail = (digits : List ℕ) × (tail ≡ space ∷ digits) × IsNumberText digits n
+IsTail (number_and_character n c) tail = (digits : List ℕ) × (behind : List ℕ)
+    × (tail ≡ space ∷ digits ++ space ∷ behind) × IsNumberText digits n × IsCharText behind c
+IsTail (number_and_text n t) tail = (digits : List ℕ)
+    × (tail ≡ space ∷ digits ++ space ∷ t) × IsNumberText digits n
+IsTail (bytes bs) tail = (digits : List ℕ) × (tail ≡ space ∷ digits) × IsHexText digits bs
 
 -- the line asks for the command
 abbrev pub IsLine : List ℕ → Command → Type 0
-IsLine line command = (tail : List ℕ) × (line ≡ word_of command ++ tail) × IsTail command tail
+IsLine line command =
+    (tail : List ℕ) × (line ≡ word_of command ++ tail) × IsTail (arguments_of command) tail

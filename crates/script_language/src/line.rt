@@ -43,8 +43,8 @@ pub fn a_line_asks_for_one_command()
 /// The command of a line that has no space.
 fn command_alone(word: &str) -> Option<Command<'static>>
     ensures some { IfSome result (λ command.
-        (word.now ≡ word_of command) × IsTail command []) }
-    ensures none { IfNone result ((command : Command) → IsTail command []
+        (word.now ≡ word_of command) × IsTail (arguments_of command) []) }
+    ensures none { IfNone result ((command : Command) → IsTail (arguments_of command) []
         → word.now ≢ word_of command) }
 {
     match word {
@@ -58,9 +58,9 @@ fn command_alone(word: &str) -> Option<Command<'static>>
 /// The command of a word, a space and the rest of the line, where it has no bytes of its own.
 fn command_with<'a>(word: &str, rest: &'a str) -> Option<Command<'a>>
     ensures some { IfSome result (λ command.
-        (word.now ≡ word_of command) × IsTail command (space ∷ rest.now)) }
+        (word.now ≡ word_of command) × IsTail (arguments_of command) (space ∷ rest.now)) }
     ensures none { IfNone result (word.now ≢ codes "replace_bytes"
-        → (command : Command) → IsTail command (space ∷ rest.now) → word.now ≢ word_of command) }
+        → (command : Command) → IsTail (arguments_of command) (space ∷ rest.now) → word.now ≢ word_of command) }
 {
     match word {
         "push" => Some(Command::Push(char_of(rest)?)),

@@ -1,7 +1,7 @@
 //! Lines, and the commands that they ask for.
 ghost use Rattle.std.specs.Prelude.{◌≡◌, ◌∷◌, ◌++◌, [], ℕ, List, codes};
 ghost use Rattle.inlinable_string.specs.declared.run.Command.{Command};
-ghost use Rattle.script_language.specs.Line.{arguments_of, space, word_of, IsFirstCut, IsLine};
+ghost use Rattle.script_language.specs.Line.{arguments_of, nothing, character, text, number, number_and_character, number_and_text, bytes, space, word_of, IsFirstCut, IsLine};
 ghost use Rattle.script_language.specs.Script.{AskFor};
 
 use inlinable_string::run::Command;
@@ -22,24 +22,23 @@ pub fn words_of_commands(string: &str, bytes: &[u8])
     ensures shrink_to_fit { word_of Command.ShrinkToFit ≡ codes "shrink_to_fit" }
 {}
 
-/// The arguments of each command, in order.
-pub fn arguments_of_commands(string: &str, bytes: &[u8])
+/// The arguments of each command.
+pub fn arguments_of_commands(string: &str, replacement: &[u8])
     requires string { string.now ≡ codes "hi" }
-    requires bytes { bytes.now ≡ 200 ∷ 7 ∷ [] }
-    ensures push { arguments_of (Command.Push 97) ≡ (97 ∷ []) ∷ [] }
-    ensures push_str { arguments_of (Command.PushStr string.entry) ≡ codes "hi" ∷ [] }
-    ensures insert { arguments_of (Command.Insert 3 97) ≡ (3 ∷ []) ∷ (97 ∷ []) ∷ [] }
+    requires replacement { replacement.now ≡ 200 ∷ 7 ∷ [] }
+    ensures push { arguments_of (Command.Push 97) ≡ character 97 }
+    ensures push_str { arguments_of (Command.PushStr string.entry) ≡ text (codes "hi") }
+    ensures insert { arguments_of (Command.Insert 3 97) ≡ number_and_character 3 97 }
     ensures insert_str { arguments_of (Command.InsertStr 3 string.entry)
-        ≡ (3 ∷ []) ∷ codes "hi" ∷ [] }
-    ensures truncate { arguments_of (Command.Truncate 3) ≡ (3 ∷ []) ∷ [] }
-    ensures pop { arguments_of Command.Pop ≡ [] }
-    ensures remove { arguments_of (Command.Remove 3) ≡ (3 ∷ []) ∷ [] }
-    ensures clear { arguments_of Command.Clear ≡ [] }
-    ensures replace_bytes { arguments_of (Command.ReplaceBytes bytes.entry)
-        ≡ (200 ∷ 7 ∷ []) ∷ [] }
-    ensures reserve { arguments_of (Command.Reserve 3) ≡ (3 ∷ []) ∷ [] }
-    ensures reserve_exact { arguments_of (Command.ReserveExact 3) ≡ (3 ∷ []) ∷ [] }
-    ensures shrink_to_fit { arguments_of Command.ShrinkToFit ≡ [] }
+        ≡ number_and_text 3 (codes "hi") }
+    ensures truncate { arguments_of (Command.Truncate 3) ≡ number 3 }
+    ensures pop { arguments_of Command.Pop ≡ nothing }
+    ensures remove { arguments_of (Command.Remove 3) ≡ number 3 }
+    ensures clear { arguments_of Command.Clear ≡ nothing }
+    ensures replace_bytes { arguments_of (Command.ReplaceBytes replacement.entry) ≡ bytes (200 ∷ 7 ∷ []) }
+    ensures reserve { arguments_of (Command.Reserve 3) ≡ number 3 }
+    ensures reserve_exact { arguments_of (Command.ReserveExact 3) ≡ number 3 }
+    ensures shrink_to_fit { arguments_of Command.ShrinkToFit ≡ nothing }
 {}
 
 /// A text is cut at its first space, which may be at its start or at its end.

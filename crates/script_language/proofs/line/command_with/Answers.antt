@@ -1,5 +1,7 @@
-use Rattle.std.proofs.Common.{sym, ◌∙◌}
-use Rattle.script_language.proofs.Lines.{insert_without_char}
+use Rattle.std.proofs.Common.{sym, ◌∙◌, codes}
+use Rattle.script_language.proofs.Lines.{no_character_behind}
+use Rattle.script_language.proofs.Words.{form_of_word}
+use Rattle.script_language.specs.Line.{arguments_of}
 use Rattle.script_language.proofs.line.command_with.Goals as goal
 
 pub returns-in_err-char_of-in-insert-clause-none :
@@ -7,5 +9,5 @@ pub returns-in_err-char_of-in-insert-clause-none :
 returns-in_err-char_of-in-insert-clause-none c =
     let (digits, parts, number) = c.in_ok-place-in-insert.ensures.some in
     rw c.from_residual-in_err-char_of-in-insert.ensures (λ not command tail same.
-    insert_without_char _ digits _ _ parts number c.in_err-char_of-in-insert.ensures.none command
-    tail (sym c.in-insert.is ∙ same))
+    no_character_behind _ digits _ _ parts number c.in_err-char_of-in-insert.ensures.none
+    (arguments_of command) (form_of_word (codes "insert") command (sym c.in-insert.is ∙ same)) tail)
