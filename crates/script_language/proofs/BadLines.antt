@@ -6,7 +6,7 @@ use Rattle.std.proofs.lemmas.List.Sums.{length-filter}
 use mathlib.Core.Bool.{cond}
 use Rattle.inlinable_string.specs.declared.run.Command.{Command}
 use Rattle.script_language.specs.Line.{IsLine}
-use Rattle.script_language.specs.Script.{AskFor}
+use Rattle.script_language.specs.Script.{LinesAskFor}
 
 -- whether a line has a byte
 abbrev has_byte : List ℕ → Bool
@@ -16,7 +16,7 @@ with_first_byte : (b : ℕ) (line : List ℕ) → has_byte (b ∷ line) ≡ true
 with_first_byte b line = lt-ltb 0 (length (b ∷ line)) (omega arith)
 
 -- each line that has a byte asks for one command
-as_many_kept : (lines : List (List ℕ)) (commands : List Command) → AskFor lines commands
+as_many_kept : (lines : List (List ℕ)) (commands : List Command) → LinesAskFor lines commands
     → length commands ≡ length (filter has_byte lines)
 as_many_kept [] [] asked = refl
 as_many_kept [] (command ∷ commands) asked = absurd asked
@@ -27,7 +27,7 @@ as_many_kept ((b ∷ line) ∷ lines) (command ∷ commands) asked =
     ∙ ap (λ t. length (cond t ((b ∷ line) ∷ filter has_byte lines) (filter has_byte lines)))
     (sym (with_first_byte b line))
 
-pub as_many_commands : (lines : List (List ℕ)) (commands : List Command) → AskFor lines commands
+pub as_many_commands : (lines : List (List ℕ)) (commands : List Command) → LinesAskFor lines commands
     → length commands ≡ count_by (λ line. nat_lt 0 (length line)) lines
 as_many_commands lines commands asked =
     as_many_kept lines commands asked ∙ length-filter has_byte lines
@@ -35,7 +35,7 @@ as_many_commands lines commands asked =
 -- lines of which one asks for nothing ask for nothing
 pub bad_among : (before behind : List (List ℕ)) (line : List ℕ) (commands : List Command)
     → ¬ (line ≡ []) → ((command : Command) → ¬ (IsLine line command))
-    → ¬ (AskFor (before ++ line ∷ behind) commands)
+    → ¬ (LinesAskFor (before ++ line ∷ behind) commands)
 bad_among [] behind [] commands bytes rejected asked = bytes refl
 bad_among [] behind (b ∷ line) [] bytes rejected asked = asked
 bad_among [] behind (b ∷ line) (command ∷ commands) bytes rejected asked = rejected command asked.0
@@ -48,13 +48,13 @@ bad_among ((b ∷ first) ∷ before) behind line (command ∷ commands) bytes re
 -- no bad line stands before a first bad one
 pub not_before : (before other : List (List ℕ)) (line last : List ℕ) (behind rest : List (List ℕ))
     (commands : List Command) → before ++ line ∷ behind ≡ other ++ last ∷ rest
-    → AskFor other commands → ¬ (line ≡ []) → ((command : Command) → ¬ (IsLine line command))
+    → LinesAskFor other commands → ¬ (line ≡ []) → ((command : Command) → ¬ (IsLine line command))
     → length other ≤ length before
 not_before before [] line last behind rest commands same asked bytes rejected = omega arith
 not_before [] (first ∷ other) line last behind rest commands same asked bytes rejected =
     let here : first ≡ line = search (sym same) in
     absurd (bad_among [] other line commands bytes rejected
-    (subst (λ l. AskFor (l ∷ other) commands) here asked))
+    (subst (λ l. LinesAskFor (l ∷ other) commands) here asked))
 not_before (x ∷ before) ([] ∷ other) line last behind rest commands same asked bytes rejected =
     let tails : before ++ line ∷ behind ≡ other ++ last ∷ rest = search same in
     omega (arith, not_before before other line last behind rest commands tails asked bytes rejected)

@@ -11,7 +11,7 @@ use Rattle.inlinable_string.specs.declared.run.Reply.{Reply}
 use Rattle.inlinable_string.proofs.Determined.{same_replies, same_storage}
 use Rattle.inlinable_string.proofs.Runs.{text_of}
 use Rattle.script_language.specs.Output.{printed}
-use Rattle.script_language.specs.Script.{AskFor, IsNamed, Prints, PrintsFrom, lines_of, policy_of, room_of, word_of_start}
+use Rattle.script_language.specs.Script.{LinesAskFor, IsNamed, Prints, PrintsFrom, lines_of, policy_of, room_of, word_of_start}
 use Rattle.script_language.specs.declared.start.Start.{Start}
 use Rattle.script_language.specs.declared.start.Start.TheVariants as start
 use Rattle.script_language.proofs.PlainCommands.{plain, plain_asked, plain_legal, plain_state}
@@ -96,7 +96,7 @@ from_same_start start begun one other output as_well is first second same refusa
 
 pub one_output : {Z : Type 0} (words : List (String Z)) (input output as_well : List ℕ)
     (start begun : Start) (one other : List Command) → IsNamed words start → IsNamed words begun
-    → AskFor (lines_of input) one → AskFor (lines_of input) other
+    → LinesAskFor (lines_of input) one → LinesAskFor (lines_of input) other
     → (first : PrintsFrom start one output) (second : PrintsFrom begun other as_well)
     → map is_refusal first.run.replies ≡ map is_refusal second.run.replies → output ≡ as_well
 one_output words input output as_well start begun one other named also asked too first second

@@ -12,7 +12,7 @@ use Rattle.inlinable_string.specs.declared.run.Reply.{Reply}
 use Rattle.inlinable_string.specs.declared.run.Reply.TheVariants.{Done, Char, NoChar, BadPlace, NotUtf8, WrongLength, NoMemory}
 use Rattle.script_language.specs.Line.{Arguments, nothing, character, text, number, number_and_character, number_and_text, bytes, arguments_of, word_of}
 use Rattle.std.specs.Str.{bytes_eq}
-use Rattle.script_language.specs.Script.{AskFor}
+use Rattle.script_language.specs.Script.{LinesAskFor}
 use Rattle.script_language.proofs.OneCommand.{one_command}
 
 -- bytes that are borrowed from nowhere
@@ -133,8 +133,8 @@ plain_state s (c ∷ commands) (r ∷ replies) =
     (same_step s c (plain c) r (plain_does c))
 
 -- lines ask for one list of plain commands
-pub asked_words : (lines : List (List ℕ)) (one other : List Command) → AskFor lines one
-    → AskFor lines other → map word_of one ≡ map word_of other
+pub asked_words : (lines : List (List ℕ)) (one other : List Command) → LinesAskFor lines one
+    → LinesAskFor lines other → map word_of one ≡ map word_of other
 asked_words [] [] [] a b = refl
 asked_words [] [] (d ∷ other) a b = absurd b
 asked_words [] (c ∷ one) other a b = absurd a
@@ -146,8 +146,8 @@ asked_words ((x ∷ line) ∷ lines) (c ∷ one) (d ∷ other) a b =
     ap (λ w. w ∷ map word_of one) same.0
     ∙ ap (λ ws. word_of d ∷ ws) (asked_words lines one other a.1 b.1)
 
-pub asked_arguments : (lines : List (List ℕ)) (one other : List Command) → AskFor lines one
-    → AskFor lines other → map arguments_of one ≡ map arguments_of other
+pub asked_arguments : (lines : List (List ℕ)) (one other : List Command) → LinesAskFor lines one
+    → LinesAskFor lines other → map arguments_of one ≡ map arguments_of other
 asked_arguments [] [] [] a b = refl
 asked_arguments [] [] (d ∷ other) a b = absurd b
 asked_arguments [] (c ∷ one) other a b = absurd a
@@ -159,8 +159,8 @@ asked_arguments ((x ∷ line) ∷ lines) (c ∷ one) (d ∷ other) a b =
     ap (λ w. w ∷ map arguments_of one) same.1
     ∙ ap (λ ws. arguments_of d ∷ ws) (asked_arguments lines one other a.1 b.1)
 
-pub plain_asked : (lines : List (List ℕ)) (one other : List Command) → AskFor lines one
-    → AskFor lines other → map plain one ≡ map plain other
+pub plain_asked : (lines : List (List ℕ)) (one other : List Command) → LinesAskFor lines one
+    → LinesAskFor lines other → map plain one ≡ map plain other
 plain_asked [] [] [] a b = refl
 plain_asked [] [] (d ∷ other) a b = absurd b
 plain_asked [] (c ∷ one) other a b = absurd a

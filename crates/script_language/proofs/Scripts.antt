@@ -8,7 +8,7 @@ use Rattle.std.proofs.lemmas.List.Splits.{slice_split_none, slice_split_at}
 use Rattle.inlinable_string.specs.declared.run.Command.{Command}
 use Rattle.script_language.specs.Line.{IsFirstCut, IsLine}
 use Rattle.script_language.specs.declared.input.TheConstants.{MOST_BYTES}
-use Rattle.script_language.specs.Script.{AskFor, IsFirstBad, bytes_left, lines_left, lines_of}
+use Rattle.script_language.specs.Script.{LinesAskFor, IsFirstBad, bytes_left, lines_left, lines_of}
 
 all-lack : (m : ℕ) (bytes : List ℕ) → LacksByte m bytes → All (λ b. (b == m) ≡ false) bytes
 all-lack m [] lacks = All-nil (λ b. (b == m) ≡ false)
@@ -24,8 +24,8 @@ pub one_line : (text : List ℕ) → LacksByte 10 text → lines_of text ≡ tex
 one_line text lacks = slice_split_none (λ b. b == 10) text (all-lack 10 text lacks)
 
 -- a line without a byte asks for nothing
-pub ask_no_more : (lines : List (List ℕ)) (commands : List Command) (line : List ℕ) → AskFor lines commands
-    → length line ≡ 0 → AskFor (lines ++ line ∷ []) commands
+pub ask_no_more : (lines : List (List ℕ)) (commands : List Command) (line : List ℕ) → LinesAskFor lines commands
+    → length line ≡ 0 → LinesAskFor (lines ++ line ∷ []) commands
 ask_no_more [] [] [] asked none = tt
 ask_no_more [] [] (b ∷ line) asked none = absurd (omega (arith, none))
 ask_no_more [] (command ∷ commands) line asked none = elim asked [ ]
@@ -34,8 +34,8 @@ ask_no_more ([] ∷ lines) commands line asked none = ask_no_more lines commands
 ask_no_more ((b ∷ first) ∷ lines) (command ∷ commands) line asked none = (asked.0, ask_no_more lines commands line asked.1 none)
 
 -- another line asks for its command
-pub ask_more : (lines : List (List ℕ)) (commands : List Command) (line : List ℕ) (command : Command) → AskFor lines commands
-    → ¬ (line ≡ []) → IsLine line command → AskFor (lines ++ line ∷ []) (commands ++ command ∷ [])
+pub ask_more : (lines : List (List ℕ)) (commands : List Command) (line : List ℕ) (command : Command) → LinesAskFor lines commands
+    → ¬ (line ≡ []) → IsLine line command → LinesAskFor (lines ++ line ∷ []) (commands ++ command ∷ [])
 ask_more [] [] [] command asked bytes is = absurd (bytes refl)
 ask_more [] [] (b ∷ line) command asked bytes is = (is, tt)
 ask_more [] (c ∷ commands) line command asked bytes is = elim asked [ ]
@@ -49,7 +49,7 @@ ask_more ((b ∷ first) ∷ lines) (c ∷ commands) line command asked bytes is 
 pub record IsReadTo (lines : List (List ℕ)) (rest : Option (Bor (List ℕ))) (commands : List Command) (number room : ℕ) : Type 0 where
   pub done : List (List ℕ)
   pub split : lines ≡ done ++ lines_left rest
-  pub asked : AskFor done commands
+  pub asked : LinesAskFor done commands
   pub counted : number ≡ length done + 1
   pub roomy : bytes_left rest ≤ 1 + room
   pub bounded : number + bytes_left rest ≤ MOST_BYTES + 2
@@ -70,7 +70,7 @@ size_on rest more line next = ap bytes_left next.is ∙ omega (arith, next.size)
 
 -- a line that asks for nothing, or for a command, is read
 pub read_line : (lines : List (List ℕ)) (rest more : Option (Bor (List ℕ))) (commands commands' : List Command) (number room room' : ℕ) (line : List ℕ)
-    → (before : IsReadTo lines rest commands number room) → IsNextLine rest more line → AskFor (before.done ++ line ∷ []) commands'
+    → (before : IsReadTo lines rest commands number room) → IsNextLine rest more line → LinesAskFor (before.done ++ line ∷ []) commands'
     → room ≤ room' + length line → IsReadTo lines more commands' (number + 1) room'
 read_line lines rest more commands commands' number room room' line before next asked fits =
     let size = size_on rest more line next in
@@ -100,5 +100,5 @@ first_bad lines rest more commands number room line before next bytes rejected =
 }
 
 -- once nothing is left, all lines are read
-pub all_read : (lines : List (List ℕ)) (commands : List Command) (number room : ℕ) → IsReadTo lines None commands number room → AskFor lines commands
-all_read lines commands number room before = subst (λ l. AskFor l commands) (sym (before.split ∙ append-nil before.done)) before.asked
+pub all_read : (lines : List (List ℕ)) (commands : List Command) (number room : ℕ) → IsReadTo lines None commands number room → LinesAskFor lines commands
+all_read lines commands number room before = subst (λ l. LinesAskFor l commands) (sym (before.split ∙ append-nil before.done)) before.asked

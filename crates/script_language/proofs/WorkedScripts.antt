@@ -9,7 +9,7 @@ use Rattle.inlinable_string.specs.declared.run.Command.{Command}
 use Rattle.inlinable_string.specs.declared.run.Reply.{Reply}
 use Rattle.inlinable_string.specs.declared.run.Reply.TheVariants.{NoMemory}
 use Rattle.script_language.specs.Output.{printed}
-use Rattle.script_language.specs.Script.{AskFor, IsMade, IsNamed, lines_of, policy_of, room_of, word_of_start}
+use Rattle.script_language.specs.Script.{LinesAskFor, IsMade, IsNamed, lines_of, policy_of, room_of, word_of_start}
 use Rattle.script_language.specs.declared.start.Start.{Start}
 use Rattle.script_language.proofs.PlainCommands.{plain, plain_asked, plain_legal}
 use Rattle.script_language.proofs.Outputs.{one_start, printed_plain}
@@ -43,9 +43,9 @@ Printing start commands P = (room : ℕ) (replies : List Reply) → room_of star
 script_prints : {Z : Type 0} (words : List (String Z)) (input output : List ℕ) (start : Start)
     (commands : List Command) (P : List ℕ → Type 0) {begun : Start} {asked : List Command}
     {old new : TextState} {replies : List Reply} → IsNamed words begun
-    → AskFor (lines_of input) asked → IsMade begun old → IsRun old asked replies new
+    → LinesAskFor (lines_of input) asked → IsMade begun old → IsRun old asked replies new
     → output ≡ printed replies new → map string_bytes words ≡ word_of_start start ∷ []
-    → AskFor (lines_of input) commands → Printing start (map plain commands) P → P output
+    → LinesAskFor (lines_of input) commands → Printing start (map plain commands) P → P output
 script_prints words input output start commands P {begun} {asked} {old} {new} {replies} named asks
     made_so ran shown known lines prints =
     let cs = map plain commands in
@@ -108,8 +108,8 @@ pub one_output_where_free : {Z : Type 0} (words : List (String Z)) (input output
     (start : Start) (commands : List Command) (expected : List ℕ) {begun : Start}
     {asked : List Command}
     {old new : TextState} {replies : List Reply} → IsNamed words begun
-    → AskFor (lines_of input) asked → IsMade begun old → IsRun old asked replies new
-    → output ≡ printed replies new → map string_bytes words ≡ word_of_start start ∷ [] → AskFor
+    → LinesAskFor (lines_of input) asked → IsMade begun old → IsRun old asked replies new
+    → output ≡ printed replies new → map string_bytes words ≡ word_of_start start ∷ [] → LinesAskFor
     (lines_of input) commands
     → ((room : ℕ) → room_of start ≤ room → AllFree (made start room) (map plain commands))
     → ((room : ℕ) → printed (answers (made start room) (map plain commands))
@@ -127,9 +127,9 @@ pub two_outputs_of_one : {Z : Type 0} (words : List (String Z)) (input output : 
     (start : Start) (command : Command) (done refused : List ℕ) {begun : Start}
     {asked : List Command}
     {old new : TextState} {replies : List Reply} → IsNamed words begun
-    → AskFor (lines_of input) asked → IsMade begun old → IsRun old asked replies new
+    → LinesAskFor (lines_of input) asked → IsMade begun old → IsRun old asked replies new
     → output ≡ printed replies new
-    → map string_bytes words ≡ word_of_start start ∷ [] → AskFor (lines_of input) (command ∷ [])
+    → map string_bytes words ≡ word_of_start start ∷ [] → LinesAskFor (lines_of input) (command ∷ [])
     → ((room : ℕ) → printed ((edit [] (plain command)).0 ∷ [])
     (state_after_step (made start room) (plain command) (edit [] (plain command)).0) ≡ done)
     → ((room : ℕ) → printed (NoMemory ∷ []) (state_after_step (made start room) (plain command)

@@ -54,13 +54,13 @@ abbrev pub lines_of : List ℕ → List (List ℕ)
 lines_of input = slice_split (λ b. b == 10) input
 
 -- each line that has a byte asks for a command, in order
-abbrev pub AskFor : List (List ℕ) → List Command → Type 0
-AskFor [] [] = Unit {0}
-AskFor [] (command ∷ commands) = ⊥
-AskFor ([] ∷ lines) commands = AskFor lines commands
-AskFor ((b ∷ line) ∷ lines) [] = ⊥
-AskFor ((b ∷ line) ∷ lines) (command ∷ commands) =
-    IsLine (b ∷ line) command × AskFor lines commands
+abbrev pub LinesAskFor : List (List ℕ) → List Command → Type 0
+LinesAskFor [] [] = Unit {0}
+LinesAskFor [] (command ∷ commands) = ⊥
+LinesAskFor ([] ∷ lines) commands = LinesAskFor lines commands
+LinesAskFor ((b ∷ line) ∷ lines) [] = ⊥
+LinesAskFor ((b ∷ line) ∷ lines) (command ∷ commands) =
+    IsLine (b ∷ line) command × LinesAskFor lines commands
 
 -- the line of this number, counted from 1, is the first that is not empty and asks for nothing
 pub record IsFirstBad (lines : List (List ℕ)) (number : ℕ) : Type 0 where
@@ -70,7 +70,7 @@ pub record IsFirstBad (lines : List (List ℕ)) (number : ℕ) : Type 0 where
   pub split : lines ≡ before ++ line ∷ behind
   pub counted : number ≡ length before + 1
   pub commands : List Command
-  pub accepted : AskFor before commands
+  pub accepted : LinesAskFor before commands
   pub has_bytes : ¬ (line ≡ [])
   pub rejected : (command : Command) → ¬ (IsLine line command)
 
@@ -94,7 +94,7 @@ pub record IsScript {Z : Type 0} (words : List (String Z)) (input output : List 
   pub short : length input ≤ MOST_BYTES
   pub well_formed : IsUtf8 input
   pub commands : List Command
-  pub asked : AskFor (lines_of input) commands
+  pub asked : LinesAskFor (lines_of input) commands
   pub run : PrintsFrom start commands output
 
 -- the lines of what is left of an input

@@ -9,7 +9,7 @@ ghost use Rattle.inlinable_string.specs.Laws.{is_refusal};
 ghost use Rattle.inlinable_string.specs.declared.run.Command.{Command};
 ghost use Rattle.script_language.specs.Fault.{line_of};
 ghost use Rattle.script_language.specs.Line.{arguments_of, word_of};
-ghost use Rattle.script_language.specs.Script.{AskFor, IsFirstBad, IsScript, PrintsFrom};
+ghost use Rattle.script_language.specs.Script.{LinesAskFor, IsFirstBad, IsScript, PrintsFrom};
 ghost use Rattle.script_language.specs.declared.start.Start.{Start};
 
 use crate::fault::ScriptFault;
@@ -27,11 +27,11 @@ pub fn words_and_arguments_tell_what_is_done()
 /// Lines ask for one list of commands, told by their words and arguments, with a command for each
 /// line that has a byte.
 pub fn lines_ask_for_one_list_of_commands()
-    ensures words { (lines : List (List ℕ)) (one other : List Command) → AskFor lines one
-        → AskFor lines other → map word_of one ≡ map word_of other }
-    ensures arguments { (lines : List (List ℕ)) (one other : List Command) → AskFor lines one
-        → AskFor lines other → map arguments_of one ≡ map arguments_of other }
-    ensures count { (lines : List (List ℕ)) (commands : List Command) → AskFor lines commands
+    ensures words { (lines : List (List ℕ)) (one other : List Command) → LinesAskFor lines one
+        → LinesAskFor lines other → map word_of one ≡ map word_of other }
+    ensures arguments { (lines : List (List ℕ)) (one other : List Command) → LinesAskFor lines one
+        → LinesAskFor lines other → map arguments_of one ≡ map arguments_of other }
+    ensures count { (lines : List (List ℕ)) (commands : List Command) → LinesAskFor lines commands
         → length commands ≡ count_by (λ line. nat_lt 0 (length line)) lines }
 {}
 
@@ -46,7 +46,7 @@ pub fn one_line_is_the_first_bad_one()
 /// Lines of which one is bad ask for no commands.
 pub fn lines_with_a_bad_one_ask_for_no_commands()
     ensures { (lines : List (List ℕ)) (number : ℕ) (commands : List Command)
-        → IsFirstBad lines number → ¬ (AskFor lines commands) }
+        → IsFirstBad lines number → ¬ (LinesAskFor lines commands) }
 {}
 
 /// A script has at most 65,536 bytes, and they are UTF-8.

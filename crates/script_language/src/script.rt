@@ -2,7 +2,7 @@
 ghost use Rattle.std.specs.Prelude.{◌≡◌, ◌≢◌, ◌+◌, ◌<◌, ◌≤◌, ◌↔◌, ◌⊎◌, ◌∷◌, ℕ, List, IfErr, IfOk, IfSome, IsOk, IsUtf8, Err, OnOk, length};
 ghost use Rattle.std.specs.Io.KnownBytes.{Appends, Consumes, IsAtEnd};
 ghost use Rattle.script_language.specs.Output.{WritesFront};
-ghost use Rattle.script_language.specs.Script.{AskFor, IsFirstBad, IsNamed, IsScript, Prints, PrintsFrom, bytes_left, lines_left, lines_of};
+ghost use Rattle.script_language.specs.Script.{LinesAskFor, IsFirstBad, IsNamed, IsScript, Prints, PrintsFrom, bytes_left, lines_left, lines_of};
 ghost use Rattle.script_language.specs.declared.input.TheConstants.{MOST_BYTES};
 ghost use Rattle.script_language.specs.declared.start.Start.{Start};
 
@@ -67,44 +67,44 @@ pub fn script<R: Read, W: Write>(
 {
     let start = start_of(words)?;
     let bytes = read_input(alloc, input)?;
-    let Ok(lines) = str::from_utf8(bytes.as_slice()) else {
+    let Ok(script) = str::from_utf8(bytes.as_slice()) else {
         return Err(ScriptFault::NotUtf8);
     };
     // No line is written for more bytes than it has.
-    let mut room = vec![in alloc; 0u8; lines.len()]?;
-    let commands = commands_of(alloc, lines, room.as_mut_slice())?;
+    let mut room = vec![in alloc; 0u8; script.len()]?;
+    let commands = commands_of(alloc, script, room.as_mut_slice())?;
     run_from(alloc, start, commands.as_slice(), out)
 }
 
 /// The commands of all lines. A line without a byte asks for nothing, but is counted.
 fn commands_of<'a>(
     alloc: Global,
-    lines: &'a str,
+    script: &'a str,
     room: &'a mut [u8],
 ) -> Result<Vec<Command<'a>>, ScriptFault>
-    requires room { length lines.now ≤ length room.old }
-    requires short { length lines.now ≤ MOST_BYTES }
-    ensures asked { IfOk result (λ commands. AskFor (lines_of lines.now) commands.items) }
+    requires room { length script.now ≤ length room.old }
+    requires short { length script.now ≤ MOST_BYTES }
+    ensures asked { IfOk result (λ commands. LinesAskFor (lines_of script.now) commands.items) }
     ensures bad_line { (number : ℕ) → result ≡ Err (ScriptFault.BadLine number)
-        → IsFirstBad (lines_of lines.now) number }
+        → IsFirstBad (lines_of script.now) number }
     ensures fault { IfErr result (λ fault. (fault ≡ ScriptFault.NoMemory)
         ⊎ ((number : ℕ) × (fault ≡ ScriptFault.BadLine number))) }
 {
     let mut commands = Vec::new(alloc);
     let mut number = 1;
-    let mut left = room;
-    let mut rest = Some(lines);
-    while let Some(text) = rest {
-        let (line, more) = first_line(text);
+    let mut room = room;
+    let mut unread = Some(script);
+    while let Some(rest) = unread {
+        let (line, behind) = first_line(rest);
         if !line.is_empty() {
-            let Some((command, unused)) = command_of(line, left) else {
+            let Some((command, room_left)) = command_of(line, room) else {
                 return Err(ScriptFault::BadLine(number));
             };
             commands.push(command)?;
-            left = unused;
+            room = room_left;
         }
         number += 1;
-        rest = more;
+        unread = behind;
     }
     Ok(commands)
 }
@@ -115,7 +115,7 @@ fn first_line(text: &str) -> (&str, Option<&str>)
     ensures size { length result.0.now + bytes_left result.1 ≡ length text.now }
 {
     match cut_at(text, '\n') {
-        Some((line, more)) => (line, Some(more)),
+        Some((line, behind)) => (line, Some(behind)),
         None => (text, None),
     }
 }

@@ -2,7 +2,7 @@
 ghost use Rattle.std.specs.Prelude.{◌≡◌, ◌∷◌, ◌++◌, [], ℕ, List, codes};
 ghost use Rattle.inlinable_string.specs.declared.run.Command.{Command};
 ghost use Rattle.script_language.specs.Line.{arguments_of, nothing, character, text, number, number_and_character, number_and_text, bytes, space, word_of, IsFirstCut, IsLine};
-ghost use Rattle.script_language.specs.Script.{AskFor};
+ghost use Rattle.script_language.specs.Script.{LinesAskFor};
 
 use inlinable_string::run::Command;
 
@@ -97,13 +97,13 @@ pub fn lines_of_bytes(bytes: &[u8], empty: &[u8])
 
 /// Commands in the order of their lines; lines without a byte are passed over.
 pub fn lines_that_ask()
-    ensures none { AskFor [] [] }
-    ensures empty { AskFor ([] ∷ [] ∷ []) [] }
-    ensures two { AskFor (codes "pop" ∷ [] ∷ codes "clear" ∷ [] ∷ [])
+    ensures none { LinesAskFor [] [] }
+    ensures empty { LinesAskFor ([] ∷ [] ∷ []) [] }
+    ensures two { LinesAskFor (codes "pop" ∷ [] ∷ codes "clear" ∷ [] ∷ [])
         (Command.Pop ∷ Command.Clear ∷ []) }
-    ensures more { ¬ AskFor ([] ∷ []) (Command.Pop ∷ []) }
-    ensures fewer { ¬ AskFor (codes "pop" ∷ []) [] }
-    ensures twice { ¬ AskFor (codes "pop" ∷ []) (Command.Pop ∷ Command.Pop ∷ []) }
-    ensures turned { ¬ AskFor (codes "pop" ∷ codes "clear" ∷ [])
+    ensures more { ¬ LinesAskFor ([] ∷ []) (Command.Pop ∷ []) }
+    ensures fewer { ¬ LinesAskFor (codes "pop" ∷ []) [] }
+    ensures twice { ¬ LinesAskFor (codes "pop" ∷ []) (Command.Pop ∷ Command.Pop ∷ []) }
+    ensures turned { ¬ LinesAskFor (codes "pop" ∷ codes "clear" ∷ [])
         (Command.Clear ∷ Command.Pop ∷ []) }
 {}

@@ -1,6 +1,6 @@
 use Rattle.std.proofs.Common.{refl, subst, arith, codes, [], ◌∷◌}
 use Rattle.inlinable_string.specs.declared.run.Command.TheVariants.{Pop, Clear}
-use Rattle.script_language.specs.Script.{AskFor}
+use Rattle.script_language.specs.Script.{LinesAskFor}
 use Rattle.script_language.proofs.BadLines.{bad_among, not_before}
 use Rattle.script_language.proofs.RefusedLines.{pop_with_a_capital, pop_with_a_space}
 use Rattle.script_language.proofs.worked.bad_lines.first_bad_lines.Goals as goal
@@ -47,7 +47,7 @@ returns-clause-last c = record {
 pub returns-clause-none : goal.returns-clause-none
 returns-clause-none c number bad =
     bad_among bad.before bad.behind bad.line (Pop ∷ []) bad.has_bytes bad.rejected
-    (subst (λ l. AskFor l (Pop ∷ [])) bad.split ((_, refl, refl), tt))
+    (subst (λ l. LinesAskFor l (Pop ∷ [])) bad.split ((_, refl, refl), tt))
 
 pub returns-clause-second : goal.returns-clause-second
 returns-clause-second c bad =
