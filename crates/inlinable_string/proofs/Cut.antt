@@ -7,7 +7,7 @@ use Rattle.std.specs.Char.{encode_utf8}
 use Rattle.std.specs.Str.{chars, IsUtf8, IsCharBoundary}
 use Rattle.std.proofs.lemmas.Str.{IsCharBoundary-from_take, length-encode, len_utf8_bounds}
 use Rattle.inlinable_string.specs.Text.{bytes_of, size, IsCut, IsPlace, cut, with_first}
-use Rattle.inlinable_string.specs.Edit.{last_off}
+use Rattle.inlinable_string.specs.Edit.{split_last}
 use Rattle.inlinable_string.proofs.Text.{holds, boundary, cut_at}
 
 encode_positive : (c : ℕ) → 0 < length (encode_utf8 c)
@@ -72,9 +72,9 @@ none_from (Some parts) h = absurd (h parts.0 parts.1 refl)
 pub no_cut : (t : List ℕ) (p : ℕ) → (IsPlace t p → ⊥) → cut t p ≡ None
 no_cut t p h = none_from (cut t p) (λ a b e. h (a, b, is_cut t p a b e))
 
-pub last_off-append : (v : List ℕ) (c : ℕ) → last_off (v ++ c ∷ []) ≡ Some (v, c)
-last_off-append [] c = refl
-last_off-append (d ∷ v) c = rw (last_off-append v c)
+pub split_last-append : (v : List ℕ) (c : ℕ) → split_last (v ++ c ∷ []) ≡ Some (v, c)
+split_last-append [] c = refl
+split_last-append (d ∷ v) c = rw (split_last-append v c)
 
 -- what a test that fails tells
 pub not_from_test : {P : Type 0} (b : Bool) → (IsTrue b ↔ P) → b ≡ false → ¬ P

@@ -1,7 +1,7 @@
 -- What the refusals of a run decide, and what they leave.
 use Rattle.std.proofs.Common.{◌≡◌, ◌≢◌, ℕ, inl, inr, true, List, [], ◌∷◌, map, refl, sym, ap, ◌∙◌}
 use Rattle.inlinable_string.specs.State.{TextState}
-use Rattle.inlinable_string.specs.Edit.{edit, text_after_step}
+use Rattle.inlinable_string.specs.Edit.{edit, reply_of, text_after_step}
 use Rattle.inlinable_string.specs.Run.{Need, pushes, inserts, reserves, shrinks, nothing, need_of, storage_when_met, storage_after_step, state_after_step, storage_after, IsLegal, LegalReplies}
 use Rattle.inlinable_string.specs.Laws.{is_refusal}
 use Rattle.inlinable_string.specs.declared.run.Command.{Command}
@@ -18,11 +18,11 @@ unmarked r h = λ marked. cc
 same_reply : (s t : TextState) (command : Command) (r o : Reply) → s.text ≡ t.text → IsLegal s command r → IsLegal t command o → is_refusal r ≡ is_refusal o → r ≡ o
 same_reply s t command r o text a b marks = elim a.answer [
   | inl x ↦ elim b.answer [
-    | inl y ↦ x ∙ ap (λ u. (edit u command).0) text ∙ sym y
-    | inr y ↦ absurd (unmarked (edit s.text command).0 (never_refused s.text command) (sym (ap is_refusal x) ∙ marks ∙ ap is_refusal y.0))
+    | inl y ↦ x ∙ ap (λ u. reply_of (edit u command)) text ∙ sym y
+    | inr y ↦ absurd (unmarked (reply_of (edit s.text command)) (never_refused (edit s.text command)) (sym (ap is_refusal x) ∙ marks ∙ ap is_refusal y.0))
   ]
   | inr x ↦ elim b.answer [
-    | inl y ↦ absurd (unmarked (edit t.text command).0 (never_refused t.text command) (sym (ap is_refusal y) ∙ sym marks ∙ ap is_refusal x.0))
+    | inl y ↦ absurd (unmarked (reply_of (edit t.text command)) (never_refused (edit t.text command)) (sym (ap is_refusal y) ∙ sym marks ∙ ap is_refusal x.0))
     | inr y ↦ x.0 ∙ sym y.0
   ]
 ]
@@ -67,12 +67,12 @@ same_storage s t (c ∷ commands) (r ∷ replies) text storage policy =
     (ap (λ u. text_after_step u c r) text) (same_storage_step s t c r text storage policy) policy
 
 -- what is answered in place of carrying out leaves the text
-kept_by_answer : (t : List ℕ) (command : Command) (reply : Reply) → (reply ≢ NoMemory → reply ≡ (edit t command).0) → reply ≢ Done → ((c : ℕ) → reply ≢ Char c)
+kept_by_answer : (t : List ℕ) (command : Command) (reply : Reply) → (reply ≢ NoMemory → reply ≡ reply_of (edit t command)) → reply ≢ Done → ((c : ℕ) → reply ≢ Char c)
     → text_after_step t command reply ≡ t
 kept_by_answer t command NoMemory answer done char = refl
 kept_by_answer t command reply answer done char =
-    let same : reply ≡ (edit t command).0 = answer (λ h. cc) in
-    kept_by_refusal t command (λ h. done (same ∙ h)) (λ c h. char c (same ∙ h))
+    let same : reply ≡ reply_of (edit t command) = answer (λ h. cc) in
+    kept_by_refusal t (edit t command) (λ h. done (same ∙ h)) (λ c h. char c (same ∙ h))
 
 -- a refusal leaves the text
 pub text_kept : (s : TextState) (command : Command) (reply : Reply) → IsLegal s command reply → reply ≢ Done → ((c : ℕ) → reply ≢ Char c)

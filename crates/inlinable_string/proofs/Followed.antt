@@ -1,7 +1,7 @@
 -- One run after another of one value. The value may have more credit than is certain.
 use Rattle.std.proofs.Common.{◌≡◌, ℕ, ◌≤◌, inl, inr, List, [], ◌∷◌, ◌++◌, length, sym, ap, ◌∙◌, arith}
 use Rattle.inlinable_string.specs.State.{TextState}
-use Rattle.inlinable_string.specs.Edit.{edit, text_after, text_after_step}
+use Rattle.inlinable_string.specs.Edit.{edit, reply_of, text_after, text_after_step}
 use Rattle.inlinable_string.specs.Run.{Need, pushes, inserts, reserves, shrinks, nothing, need_of, credit, credit_when_met, credit_after_step, credit_after, IsCounted, state_after, state_after_step, IsMet, IsLegal, LegalReplies, IsRun}
 use Rattle.inlinable_string.specs.declared.run.Command.{Command}
 use Rattle.inlinable_string.specs.declared.run.Reply.{Reply}
@@ -63,11 +63,11 @@ legal_poorer s v command reply h legal =
     let again : s.text ≡ v.text = h.text in
     record {
       answer = elim legal.answer [
-        | inl same ↦ inl (same ∙ ap (λ t. (edit t command).0) (sym again))
+        | inl same ↦ inl (same ∙ ap (λ t. reply_of (edit t command)) (sym again))
         | inr refused ↦ inr (
           refused.0,
           λ free. refused.1 (elim free [
-            | inl none ↦ inl (λ asks. none (asks.0, ap (λ t. (edit t command).0) again ∙ asks.1))
+            | inl none ↦ inl (λ asks. none (asks.0, ap (λ t. reply_of (edit t command)) again ∙ asks.1))
             | inr met ↦ inr (met_richer s v (need_of command) h met)
           ]),
         )

@@ -3,7 +3,7 @@ use Rattle.std.proofs.Common.{◌≡◌, ◌≢◌, ℕ, zero, suc, ◌+◌, ◌
 use Rattle.std.proofs.lemmas.Bool.Decides.{nat_tests}
 use Rattle.inlinable_string.specs.Text.{size}
 use Rattle.inlinable_string.specs.State.{TextState, IsLawful, storage_with_room, storage_when_shrunk}
-use Rattle.inlinable_string.specs.Edit.{edit, text_after_step}
+use Rattle.inlinable_string.specs.Edit.{edit, reply_of, text_left, text_after_step}
 use Rattle.inlinable_string.specs.Run.{Need, pushes, inserts, reserves, shrinks, nothing, need_of, storage_when_met, storage_after_step, credit, credit_when_met, credit_after_step, state_after_step, storage_after, IsMet, IsFree, IsLegal, LegalReplies}
 use Rattle.inlinable_string.specs.Laws.{ReservesWithin, StaysWithin, PushesWithin}
 use Rattle.inlinable_string.specs.declared.string_ext.Storage.TheVariants.{Inline}
@@ -18,12 +18,12 @@ use Rattle.inlinable_string.specs.Run.{state_after}
 use Rattle.std.proofs.Common.{◌++◌}
 
 -- a free command has the reply of `edit`
-granted : (s : TextState) (command : Command) (reply : Reply) → IsLegal s command reply → IsFree s command → reply ≡ (edit s.text command).0
+granted : (s : TextState) (command : Command) (reply : Reply) → IsLegal s command reply → IsFree s command → reply ≡ reply_of (edit s.text command)
 granted s command reply legal free = elim legal.answer [ inl same ↦ same | inr refused ↦ absurd (refused.1 free) ]
 
 -- which is no want of memory
-not_refused : (t : List ℕ) (command : Command) (reply : Reply) → reply ≡ (edit t command).0 → reply ≢ NoMemory
-not_refused t command reply same refusal = never_refused t command (sym same ∙ refusal)
+not_refused : (t : List ℕ) (command : Command) (reply : Reply) → reply ≡ reply_of (edit t command) → reply ≢ NoMemory
+not_refused t command reply same refusal = never_refused (edit t command) (sym same ∙ refusal)
 
 -- `NoMemory` is at no place of the replies, where it is not the first and not in the rest
 absent_at : (reply : Reply) (replies : List Reply) (k : ℕ) → reply ≢ NoMemory → ¬ Contains replies NoMemory → k < length (reply ∷ replies)
@@ -49,7 +49,7 @@ Grows t shrinks v = v ≡ t
 Grows t nothing v = Unit {0}
 
 -- a command that is carried out adds what it needs
-grows : (t : List ℕ) (command : Command) → (edit t command).0 ≡ Done → Grows t (need_of command) (edit t command).1
+grows : (t : List ℕ) (command : Command) → reply_of (edit t command) ≡ Done → Grows t (need_of command) (text_left t (edit t command))
 grows t (Push c) done = push_grows t c
 grows t (PushStr u) done = push_str_grows t u
 grows t (Insert p c) done = insert_grows t p c done
@@ -90,15 +90,15 @@ done_or_not r = inr (λ h. cc)
 
 -- a command that stays within the limit is free, and leaves the text inline
 pub short_step : (s : TextState) (command : Command) (reply : Reply) → s.policy.demotes ≡ true → s.storage ≡ Inline
-    → ReservesWithin s.policy.limit s.text (need_of command) → size (edit s.text command).1 ≤ s.policy.limit → IsLegal s command reply
-    → (reply ≡ (edit s.text command).0) × (storage_after_step s command reply ≡ Inline)
-short_step s command reply demotes inline reserved short legal = elim (done_or_not (edit s.text command).0) [
+    → ReservesWithin s.policy.limit s.text (need_of command) → size (text_left s.text (edit s.text command)) ≤ s.policy.limit → IsLegal s command reply
+    → (reply ≡ reply_of (edit s.text command)) × (storage_after_step s command reply ≡ Inline)
+short_step s command reply demotes inline reserved short legal = elim (done_or_not (reply_of (edit s.text command))) [
   | inl done ↦
-      let met = met_inline s (need_of command) (edit s.text command).1 (grows s.text command done) demotes inline reserved short in
-      let same : reply ≡ (edit s.text command).0 = granted s command reply legal (inr met.0) in
+      let met = met_inline s (need_of command) (text_left s.text (edit s.text command)) (grows s.text command done) demotes inline reserved short in
+      let same : reply ≡ reply_of (edit s.text command) = granted s command reply legal (inr met.0) in
       (same, ap (storage_after_step s command) (same ∙ done) ∙ met.1)
   | inr other ↦
-      let same : reply ≡ (edit s.text command).0 = granted s command reply legal (inl (λ asks. other asks.1)) in
+      let same : reply ≡ reply_of (edit s.text command) = granted s command reply legal (inl (λ asks. other asks.1)) in
       (same, storage_kept s command reply (λ h. other (sym same ∙ h)) ∙ inline)
 ]
 
@@ -109,10 +109,10 @@ short_run s [] [] demotes inline within legal = (absent_nil, inline)
 short_run s [] (r ∷ replies) demotes inline within legal = absurd legal
 short_run s (c ∷ commands) [] demotes inline within legal = absurd legal
 short_run s (c ∷ commands) (r ∷ replies) demotes inline within legal =
-    let step = short_step s c r demotes inline within.0 within.1 legal.0 in
+    let step = short_step s c r demotes inline within.0.0 within.0.1 legal.0 in
     let here : r ≢ NoMemory = not_refused s.text c r step.0 in
     let next : StaysWithin s.policy.limit (text_after_step s.text c r) commands =
-    subst (λ t. StaysWithin s.policy.limit t commands) (sym (text_granted s.text c r here)) within.2 in
+    subst (λ t. StaysWithin s.policy.limit t commands) (sym (text_granted s.text c r here)) within.1 in
     let rest = short_run (state_after_step s c r) commands replies demotes step.1 next legal.1 in
     (absent r replies here rest.0, rest.1)
 
@@ -128,7 +128,7 @@ short_run_stays_inline s commands replies laws inline within legal = (short_run 
 -- reserved pushes
 
 -- a push is carried out
-push_done : (t : List ℕ) (command : Command) (n : ℕ) → need_of command ≡ pushes n → (edit t command).0 ≡ Done
+push_done : (t : List ℕ) (command : Command) (n : ℕ) → need_of command ≡ pushes n → reply_of (edit t command) ≡ Done
 push_done t (Push c) n h = refl
 push_done t (PushStr u) n h = refl
 push_done t command n h = cc
@@ -142,7 +142,7 @@ pushes_within_credit s k (c ∷ commands) [] within enough legal = absurd legal
 pushes_within_credit s k (c ∷ commands) (r ∷ replies) within enough legal =
     let n = within.0 in
     let met : IsMet s (need_of c) = subst (IsMet s) (sym within.1) (inr (omega (arith, within.2, enough))) in
-    let same : r ≡ (edit s.text c).0 = granted s c r legal.0 (inr met) in
+    let same : r ≡ reply_of (edit s.text c) = granted s c r legal.0 (inr met) in
     let left : credit_after_step (credit s) c r ≡ credit s - n =
     ap (credit_after_step (credit s) c) (same ∙ push_done s.text c n within.1) ∙ ap (credit_when_met (credit s)) within.1 in
     absent r replies (not_refused s.text c r same)

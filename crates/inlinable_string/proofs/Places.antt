@@ -1,25 +1,23 @@
 -- Places and commands.
 use Rattle.std.proofs.Common.{◌≡◌, ◌↔◌, ℕ, List, refl, ap, ◌∙◌, Option, Some, None}
 use Rattle.inlinable_string.specs.Text.{cut, IsCut, IsPlace}
-use Rattle.inlinable_string.specs.Edit.{edit, spliced, truncated}
+use Rattle.inlinable_string.specs.Edit.{becomes, reply_of, text_left, edit, insertion, truncation}
 use Rattle.inlinable_string.specs.declared.run.Command.TheVariants.{Truncate}
 use Rattle.inlinable_string.specs.declared.run.Reply.{Reply}
 use Rattle.inlinable_string.specs.declared.run.Reply.TheVariants.{Done, BadPlace}
 use Rattle.inlinable_string.proofs.Cut.{cut_is, is_cut, no_cut}
-use Rattle.inlinable_string.proofs.Edits.{same_parts}
 
 -- `Truncate` keeps what stands before a place
-truncated_from : (t v : List ℕ) (p : ℕ) (o : Option (List ℕ × List ℕ)) → cut t p ≡ o
-    → truncated t o ≡ (Done, v) → (rest : List ℕ) × IsCut t p v rest
-truncated_from t v p None e h = cc (same_parts h).0
-truncated_from t v p (Some parts) e h =
-    let same = ap (λ x. Some (x, parts.1)) (same_parts h).1 in
-    (parts.1, is_cut t p v parts.1 (e ∙ same))
+truncation_from : (t v : List ℕ) (p : ℕ) (o : Option (List ℕ × List ℕ)) → cut t p ≡ o
+    → truncation o ≡ becomes v → (rest : List ℕ) × IsCut t p v rest
+truncation_from t v p None e h = cc
+truncation_from t v p (Some parts) e h =
+    (parts.1, is_cut t p v parts.1 (e ∙ ap (λ x. Some (x, parts.1)) (ap (text_left t) h)))
 
 pub truncations_cut : (t v : List ℕ) (p : ℕ)
-    → (edit t (Truncate p) ≡ (Done, v)) ↔ ((rest : List ℕ) × IsCut t p v rest)
+    → (edit t (Truncate p) ≡ becomes v) ↔ ((rest : List ℕ) × IsCut t p v rest)
 truncations_cut t v p =
-    (truncated_from t v p (cut t p) refl, λ h. ap (truncated t) (cut_is t p v h.0 h.1))
+    (truncation_from t v p (cut t p) refl, λ h. ap truncation (cut_is t p v h.0 h.1))
 
 -- a command that goes by the parts of the text is carried out exactly where there are any, and
 -- answered as a bad place elsewhere
@@ -39,16 +37,19 @@ module _ (t : List ℕ) (p : ℕ) (answer : Option (List ℕ × List ℕ) → Re
   done_by_parts : (answer (cut t p) ≡ Done) ↔ IsPlace t p
   done_by_parts = (place_from (cut t p) refl, done_at)
 
-pub placed_splice : (t u : List ℕ) (p : ℕ) → ((spliced t u (cut t p)).0 ≡ Done) ↔ IsPlace t p
-placed_splice t u p = done_by_parts t p (λ o. (spliced t u o).0) refl (λ parts. refl)
+pub placed_insertion : (t u : List ℕ) (p : ℕ)
+    → (reply_of (insertion u (cut t p)) ≡ Done) ↔ IsPlace t p
+placed_insertion t u p =
+    done_by_parts t p (λ o. reply_of (insertion u o)) refl (λ parts. refl)
 
-pub placed_truncation : (t : List ℕ) (p : ℕ) → ((truncated t (cut t p)).0 ≡ Done) ↔ IsPlace t p
-placed_truncation t p = done_by_parts t p (λ o. (truncated t o).0) refl (λ parts. refl)
+pub placed_truncation : (t : List ℕ) (p : ℕ) → (reply_of (truncation (cut t p)) ≡ Done) ↔ IsPlace t p
+placed_truncation t p = done_by_parts t p (λ o. reply_of (truncation o)) refl (λ parts. refl)
 
-pub misplaced_splice : (t u : List ℕ) (p : ℕ)
-    → ((spliced t u (cut t p)).0 ≡ BadPlace) ↔ (¬ (IsPlace t p))
-misplaced_splice t u p = bad_elsewhere t p (λ o. (spliced t u o).0) refl (λ parts. refl)
+-- an insertion is answered as a bad place exactly where there is none
+pub misplaced_insertion : (t u : List ℕ) (p : ℕ)
+    → (reply_of (insertion u (cut t p)) ≡ BadPlace) ↔ (¬ (IsPlace t p))
+misplaced_insertion t u p = bad_elsewhere t p (λ o. reply_of (insertion u o)) refl (λ parts. refl)
 
 pub misplaced_truncation : (t : List ℕ) (p : ℕ)
-    → ((truncated t (cut t p)).0 ≡ BadPlace) ↔ (¬ (IsPlace t p))
-misplaced_truncation t p = bad_elsewhere t p (λ o. (truncated t o).0) refl (λ parts. refl)
+    → (reply_of (truncation (cut t p)) ≡ BadPlace) ↔ (¬ (IsPlace t p))
+misplaced_truncation t p = bad_elsewhere t p (λ o. reply_of (truncation o)) refl (λ parts. refl)

@@ -5,7 +5,7 @@ use Rattle.std.specs.Str.{chars, IsUtf8}
 use Rattle.std.proofs.Common.{subst}
 use Rattle.inlinable_string.specs.Text.{bytes_of, size, IsCut, IsPlace, IsSplice, IsRemoval, cut}
 use Rattle.inlinable_string.specs.State.{TextState, IsLawful, IsSameText, HasRoom, HasInlineRoom, storage_with_room}
-use Rattle.inlinable_string.specs.Edit.{edit, text_after_step, spliced, truncated, removed}
+use Rattle.inlinable_string.specs.Edit.{becomes, has_no_place, reply_of, text_left, edit, insertion, truncation, removal, text_after_step}
 use Rattle.inlinable_string.specs.Run.{need_of, storage_after_step, credit_after_step, AsksMemory, IsMet, IsCounted}
 use Rattle.inlinable_string.specs.Step.{IsStep}
 use Rattle.inlinable_string.specs.declared.run.Command.{Command}
@@ -14,14 +14,14 @@ use Rattle.inlinable_string.specs.declared.run.Reply.{Reply}
 use Rattle.inlinable_string.specs.declared.run.Reply.TheVariants.{Done, Char, BadPlace, NotUtf8, NoMemory}
 use Rattle.inlinable_string.proofs.Text.{size-append, size-chars, nil_from_size}
 use Rattle.inlinable_string.proofs.Cut.{cut_is, no_cut}
-use Rattle.inlinable_string.proofs.Edits.{spliced_is, popped_is, removed_is, replaced_is, not_utf8}
+use Rattle.inlinable_string.proofs.Edits.{insertion_is, pop_is, removal_is, replacement_is, not_utf8}
 
 clash : false ≡ true → ⊥
 clash e = cc
 
 -- a command that was answered as `edit` says, after which no credit is certain
 answered : (old new : TextState) (command : Command) (reply : Reply) → IsLawful new
-    → reply ≡ (edit old.text command).0 → new.text ≡ text_after_step old.text command reply
+    → reply ≡ reply_of (edit old.text command) → new.text ≡ text_after_step old.text command reply
     → ((n : ℕ) → new.storage ≡ storage_after_step (record old { capacity = n }) command reply)
     → ((n : ℕ) → IsCounted (record old { capacity = n }) (need_of command) reply)
     → ((k : ℕ) → credit_after_step k command reply ≡ 0) → new.policy ≡ old.policy → IsStep old command reply new
@@ -54,11 +54,11 @@ refused old new command laws same asks unmet counted policy = record {
 }
 
 -- a command at a bad place
-misplaced : (old : TextState) (command : Command) → edit old.text command ≡ (BadPlace, old.text)
+misplaced : (old : TextState) (command : Command) → edit old.text command ≡ has_no_place
     → ((n : ℕ) → IsCounted (record old { capacity = n }) (need_of command) BadPlace) → IsStep old command BadPlace old
 misplaced old command is counted =
-    let kept : (edit old.text command).1 ≡ old.text = ap (λ e. e.1) is in record {
-      legal = λ n fits most. record { answer = inl (sym (ap (λ e. e.0) is)); counted = counted n };
+    let kept : text_left old.text (edit old.text command) ≡ old.text = ap (text_left old.text) is in record {
+      legal = λ n fits most. record { answer = inl (sym (ap reply_of is)); counted = counted n };
       next = λ n fits most. record {
         text = sym kept;
         storage = refl;
@@ -71,15 +71,15 @@ misplaced old command is counted =
 left : (t u : List ℕ) (a n old new : ℕ) → size u ≡ a → size (t ++ u) ≤ new → n ≤ old → old ≤ new → size (t ++ u) + (n - size t - a) ≤ new
 left t u a n old new width within most more = omega (arith, size-append t u, width, within, most, more)
 
-pushed : (old new : TextState) (command : Command) (u : List ℕ) (a : ℕ) → IsLawful new → size u ≡ a → edit old.text command ≡ (Done, old.text ++ u)
+pushed : (old new : TextState) (command : Command) (u : List ℕ) (a : ℕ) → IsLawful new → size u ≡ a → edit old.text command ≡ becomes (old.text ++ u)
     → ((k : ℕ) → credit_after_step k command Done ≡ k - a)
     → ((n : ℕ) → IsCounted (record old { capacity = n }) (need_of command) Done)
     → new.text ≡ old.text ++ u → ((n : ℕ) → new.storage ≡ storage_after_step (record old { capacity = n }) command Done)
     → old.capacity ≤ new.capacity → new.policy ≡ old.policy → IsStep old command Done new
 pushed old new command u a laws width is credit counted text storage more policy =
-    let kept : (edit old.text command).1 ≡ old.text ++ u = ap (λ e. e.1) is in
+    let kept : text_left old.text (edit old.text command) ≡ old.text ++ u = ap (text_left old.text) is in
     let within : size (old.text ++ u) ≤ new.capacity = rw text at laws.within in record {
-      legal = λ n fits most. record { answer = inl (sym (ap (λ e. e.0) is)); counted = counted n };
+      legal = λ n fits most. record { answer = inl (sym (ap reply_of is)); counted = counted n };
       next = λ n fits most. record {
         text = text ∙ sym kept;
         storage = storage n;
@@ -111,84 +111,84 @@ push_str_refused old new string u laws same out inline_out policy =
 -- insertions
 
 -- a place has its parts, so an insertion there is carried out
-spliced_done : (t u : List ℕ) (p : ℕ) → IsPlace t p → (spliced t u (cut t p)).0 ≡ Done
-spliced_done t u p at = ap (λ o. (spliced t u o).0) (cut_is t p at.0 at.1 at.2)
+insertion_done : (t u : List ℕ) (p : ℕ) → IsPlace t p → reply_of (insertion u (cut t p)) ≡ Done
+insertion_done t u p at = ap (λ o. reply_of (insertion u o)) (cut_is t p at.0 at.1 at.2)
 
-no_splice : (t u : List ℕ) (p : ℕ) → (IsPlace t p → ⊥) → spliced t u (cut t p) ≡ (BadPlace, t)
-no_splice t u p none = ap (spliced t u) (no_cut t p none)
+no_insertion : (t u : List ℕ) (p : ℕ) → (IsPlace t p → ⊥) → insertion u (cut t p) ≡ has_no_place
+no_insertion t u p none = ap (insertion u) (no_cut t p none)
 
 pub insert_done : (old new : TextState) (p c : ℕ) → IsLawful new → IsSplice old.text p (c ∷ []) new.text
     → new.storage ≡ storage_with_room old (size (c ∷ [])) → new.policy ≡ old.policy → IsStep old (Insert p c) Done new
 insert_done old new p c laws s storage policy =
-    let is = spliced_is old.text (c ∷ []) new.text p s in
-    answered old new (Insert p c) Done laws (sym (ap (λ e. e.0) is)) (sym (ap (λ e. e.1) is)) (λ n. storage) (λ n. tt) (λ k. refl) policy
+    let is = insertion_is old.text (c ∷ []) new.text p s in
+    answered old new (Insert p c) Done laws (sym (ap reply_of is)) (sym (ap (text_left old.text) is)) (λ n. storage) (λ n. tt) (λ k. refl) policy
 
 pub insert_refused : (old new : TextState) (p c : ℕ) → IsLawful new → IsPlace old.text p → IsSameText old new
     → (HasInlineRoom old (size (c ∷ [])) → false ≡ true) → new.policy ≡ old.policy → IsStep old (Insert p c) NoMemory new
 insert_refused old new p c laws at same out policy =
-    refused old new (Insert p c) laws same ((λ e. cc), spliced_done old.text (c ∷ []) p at) (λ n fits most met. clash (out met)) (λ n. tt) policy
+    refused old new (Insert p c) laws same ((λ e. cc), insertion_done old.text (c ∷ []) p at) (λ n fits most met. clash (out met)) (λ n. tt) policy
 
 pub insert_misplaced : (old : TextState) (p c : ℕ) → (IsPlace old.text p → ⊥) → IsStep old (Insert p c) BadPlace old
-insert_misplaced old p c none = misplaced old (Insert p c) (no_splice old.text (c ∷ []) p none) (λ n. tt)
+insert_misplaced old p c none = misplaced old (Insert p c) (no_insertion old.text (c ∷ []) p none) (λ n. tt)
 
 pub insert_str_done : (old new : TextState) (p : ℕ) (string : Bor (List ℕ)) → IsUtf8 string.now → IsLawful new → IsSplice old.text p (chars string.now) new.text
     → new.storage ≡ storage_with_room old (length string.now) → new.policy ≡ old.policy → IsStep old (InsertStr p string) Done new
 insert_str_done old new p string u laws s storage policy =
-    let is = spliced_is old.text (chars string.now) new.text p s in
-    answered old new (InsertStr p string) Done laws (sym (ap (λ e. e.0) is)) (sym (ap (λ e. e.1) is)) (λ n. storage ∙ ap (storage_with_room old) (sym (size-chars string.now u))) (λ n. tt) (λ k. refl) policy
+    let is = insertion_is old.text (chars string.now) new.text p s in
+    answered old new (InsertStr p string) Done laws (sym (ap reply_of is)) (sym (ap (text_left old.text) is)) (λ n. storage ∙ ap (storage_with_room old) (sym (size-chars string.now u))) (λ n. tt) (λ k. refl) policy
 
 pub insert_str_refused : (old new : TextState) (p : ℕ) (string : Bor (List ℕ)) → IsUtf8 string.now → IsLawful new → IsPlace old.text p → IsSameText old new
     → (HasInlineRoom old (length string.now) → false ≡ true) → new.policy ≡ old.policy → IsStep old (InsertStr p string) NoMemory new
 insert_str_refused old new p string u laws at same out policy =
-    refused old new (InsertStr p string) laws same ((λ e. cc), spliced_done old.text (chars string.now) p at) (λ n fits most met. clash (out (subst (HasInlineRoom old) (size-chars string.now u) met))) (λ n. tt) policy
+    refused old new (InsertStr p string) laws same ((λ e. cc), insertion_done old.text (chars string.now) p at) (λ n fits most met. clash (out (subst (HasInlineRoom old) (size-chars string.now u) met))) (λ n. tt) policy
 
 pub insert_str_misplaced : (old : TextState) (p : ℕ) (string : Bor (List ℕ)) → (IsPlace old.text p → ⊥) → IsStep old (InsertStr p string) BadPlace old
-insert_str_misplaced old p string none = misplaced old (InsertStr p string) (no_splice old.text (chars string.now) p none) (λ n. tt)
+insert_str_misplaced old p string none = misplaced old (InsertStr p string) (no_insertion old.text (chars string.now) p none) (λ n. tt)
 
 -- cuts
 
 pub truncate_done : (old new : TextState) (rest : List ℕ) (p : ℕ) → IsLawful new → IsCut old.text p new.text rest
     → new.storage ≡ old.storage → new.policy ≡ old.policy → IsStep old (Truncate p) Done new
 truncate_done old new rest p laws at storage policy =
-    let is : truncated old.text (cut old.text p) ≡ (Done, new.text) = ap (truncated old.text) (cut_is old.text p new.text rest at) in
-    answered old new (Truncate p) Done laws (sym (ap (λ e. e.0) is)) (sym (ap (λ e. e.1) is)) (λ n. storage) (λ n. tt) (λ k. refl) policy
+    let is : truncation (cut old.text p) ≡ becomes new.text = ap truncation (cut_is old.text p new.text rest at) in
+    answered old new (Truncate p) Done laws (sym (ap reply_of is)) (sym (ap (text_left old.text) is)) (λ n. storage) (λ n. tt) (λ k. refl) policy
 
 pub truncate_misplaced : (old : TextState) (p : ℕ) → (IsPlace old.text p → ⊥) → IsStep old (Truncate p) BadPlace old
-truncate_misplaced old p none = misplaced old (Truncate p) (ap (truncated old.text) (no_cut old.text p none)) (λ n. tt)
+truncate_misplaced old p none = misplaced old (Truncate p) (ap truncation (no_cut old.text p none)) (λ n. tt)
 
 pub pop_char : (old new : TextState) (c : ℕ) → IsLawful new → old.text ≡ new.text ++ c ∷ []
     → new.storage ≡ old.storage → new.policy ≡ old.policy → IsStep old Pop (Char c) new
 pop_char old new c laws text storage policy =
-    let is = popped_is old.text new.text c text in
-    answered old new Pop (Char c) laws (sym (ap (λ e. e.0) is)) (sym (ap (λ e. e.1) is)) (λ n. storage) (λ n. tt) (λ k. refl) policy
+    let is = pop_is old.text new.text c text in
+    answered old new Pop (Char c) laws (sym (ap reply_of is)) (sym (ap (text_left old.text) is)) (λ n. storage) (λ n. tt) (λ k. refl) policy
 
 pub remove_char : (old new : TextState) (p c : ℕ) → IsLawful new → IsRemoval old.text p c new.text
     → new.storage ≡ old.storage → new.policy ≡ old.policy → IsStep old (Remove p) (Char c) new
 remove_char old new p c laws r storage policy =
-    let is = removed_is old.text new.text p c r in
-    answered old new (Remove p) (Char c) laws (sym (ap (λ e. e.0) is)) (sym (ap (λ e. e.1) is)) (λ n. storage) (λ n. tt) (λ k. refl) policy
+    let is = removal_is old.text new.text p c r in
+    answered old new (Remove p) (Char c) laws (sym (ap reply_of is)) (sym (ap (text_left old.text) is)) (λ n. storage) (λ n. tt) (λ k. refl) policy
 
 pub remove_misplaced : (old : TextState) (p : ℕ) → (IsPlace old.text p → ⊥) → IsStep old (Remove p) BadPlace old
-remove_misplaced old p none = misplaced old (Remove p) (ap (removed old.text) (no_cut old.text p none)) (λ n. tt)
+remove_misplaced old p none = misplaced old (Remove p) (ap removal (no_cut old.text p none)) (λ n. tt)
 
 -- no character begins at the end
 pub remove_at_end : (old : TextState) (p : ℕ) → IsPlace old.text p → size old.text ≤ p → IsStep old (Remove p) BadPlace old
 remove_at_end old p at past =
     let none : at.1 ≡ [] = nil_from_size at.1 (omega (arith, ap size at.2.joined, size-append at.0 at.1, at.2.before, past)) in
     let is : cut old.text p ≡ Some (at.0, []) = cut_is old.text p at.0 at.1 at.2 ∙ ap (λ b. Some (at.0, b)) none in
-    misplaced old (Remove p) (ap (removed old.text) is) (λ n. tt)
+    misplaced old (Remove p) (ap removal is) (λ n. tt)
 
 -- replacements
 
 pub replace_done : (old new : TextState) (bytes : Bor (List ℕ)) → IsLawful new → bytes_of new.text ≡ bytes.now → length bytes.now ≡ size old.text → IsUtf8 bytes.now
     → new.storage ≡ old.storage → new.policy ≡ old.policy → IsStep old (ReplaceBytes bytes) Done new
 replace_done old new bytes laws text same u storage policy =
-    let is = replaced_is old.text bytes.now same u in
+    let is = replacement_is old.text bytes.now same u in
     let now : new.text ≡ chars bytes.now = chars_from_encodes new.text bytes.now u text in
-    answered old new (ReplaceBytes bytes) Done laws (sym (ap (λ e. e.0) is)) (now ∙ sym (ap (λ e. e.1) is)) (λ n. storage) (λ n. tt) (λ k. refl) policy
+    answered old new (ReplaceBytes bytes) Done laws (sym (ap reply_of is)) (now ∙ sym (ap (text_left old.text) is)) (λ n. storage) (λ n. tt) (λ k. refl) policy
 
 pub replace_not_utf8 : (old new : TextState) (bytes : Bor (List ℕ)) → IsLawful new → IsSameText old new → length bytes.now ≡ size old.text → ¬ (IsUtf8 bytes.now)
     → new.policy ≡ old.policy → IsStep old (ReplaceBytes bytes) NotUtf8 new
 replace_not_utf8 old new bytes laws same as_many not policy =
     let is = not_utf8 old.text bytes.now as_many not in
-    answered old new (ReplaceBytes bytes) NotUtf8 laws (sym (ap (λ e. e.0) is)) (same.text ∙ sym (ap (λ e. e.1) is)) (λ n. same.storage) (λ n. tt) (λ k. refl) policy
+    answered old new (ReplaceBytes bytes) NotUtf8 laws (sym (ap reply_of is)) (same.text ∙ sym (ap (text_left old.text) is)) (λ n. same.storage) (λ n. tt) (λ k. refl) policy

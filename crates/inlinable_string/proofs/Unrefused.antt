@@ -1,10 +1,9 @@
 -- Runs in which no memory is refused: their replies and their text are those of plain edits.
-use Rattle.std.proofs.Common.{◌≡◌, ◌≢◌, ◌↔◌, ℕ, zero, suc, ◌<◌, ◌≤◌, ◌^◌, inl, inr, true, List, [], ◌∷◌, take, refl, sym, ap, ◌∙◌, arith, subst, Contains, Some, slice_get}
-use Rattle.inlinable_string.specs.Text.{size}
+use Rattle.std.proofs.Common.{◌≡◌, ◌≢◌, ◌↔◌, ℕ, zero, suc, ◌<◌, ◌^◌, inl, inr, true, List, [], ◌∷◌, take, refl, sym, ap, ◌∙◌, arith, subst, Contains, Some, slice_get}
 use Rattle.inlinable_string.specs.State.{TextState, IsLawful}
-use Rattle.inlinable_string.specs.Edit.{edit, text_after_step, text_after}
+use Rattle.inlinable_string.specs.Edit.{edit, reply_of, text_left, text_after_step, text_after}
 use Rattle.inlinable_string.specs.Run.{Need, reserves, need_of, state_after_step, IsCounted, IsLegal, LegalReplies}
-use Rattle.inlinable_string.specs.Laws.{replies_of, text_after_edits, ReservesWithin, StaysWithin}
+use Rattle.inlinable_string.specs.Laws.{replies_of, text_after_edits, ReservesWithin, LeavesWithin, StaysWithin}
 use Rattle.inlinable_string.specs.declared.string_ext.Storage.TheVariants.{Inline}
 use Rattle.inlinable_string.specs.declared.run.Command.{Command}
 use Rattle.inlinable_string.specs.declared.run.Reply.{Reply}
@@ -23,7 +22,7 @@ refused_later reply replies has = (suc has.0, omega (arith, has.1), has.2)
 
 -- a legal reply that refuses nothing is that of `edit`
 answered : (s : TextState) (command : Command) (reply : Reply) → IsLegal s command reply
-    → reply ≢ NoMemory → reply ≡ (edit s.text command).0
+    → reply ≢ NoMemory → reply ≡ reply_of (edit s.text command)
 answered s command reply legal given =
     elim legal.answer [ inl same ↦ same | inr refused ↦ absurd (given refused.0) ]
 
@@ -36,12 +35,12 @@ unrefused_replies s [] (r ∷ replies) legal given = absurd legal
 unrefused_replies s (c ∷ commands) [] legal given = absurd legal
 unrefused_replies s (c ∷ commands) (r ∷ replies) legal given =
     let here : r ≢ NoMemory = λ is. given (refused_first r replies is) in
-    let same : r ≡ (edit s.text c).0 = answered s c r legal.0 here in
+    let same : r ≡ reply_of (edit s.text c) = answered s c r legal.0 here in
     let rest = unrefused_replies (state_after_step s c r) commands replies legal.1
     (λ has. given (refused_later r replies has)) in
-    let text : text_after_step s.text c r ≡ (edit s.text c).1 = text_granted s.text c r here in
+    let text : text_after_step s.text c r ≡ text_left s.text (edit s.text c) = text_granted s.text c r here in
     ap (λ x. x ∷ replies) same
-    ∙ ap (λ l. (edit s.text c).0 ∷ l) (rest ∙ ap (λ t. replies_of t commands) text)
+    ∙ ap (λ l. reply_of (edit s.text c) ∷ l) (rest ∙ ap (λ t. replies_of t commands) text)
 
 -- and the text is that of the edits
 pub unrefused_text : (s : TextState) (commands : List Command) (replies : List Reply)
@@ -51,7 +50,7 @@ unrefused_text s [] [] legal given = refl
 unrefused_text s [] (r ∷ replies) legal given = absurd legal
 unrefused_text s (c ∷ commands) [] legal given = absurd legal
 unrefused_text s (c ∷ commands) (r ∷ replies) legal given =
-    let text : text_after_step s.text c r ≡ (edit s.text c).1 =
+    let text : text_after_step s.text c r ≡ text_left s.text (edit s.text c) =
     text_granted s.text c r (λ is. given (refused_first r replies is)) in
     unrefused_text (state_after_step s c r) commands replies legal.1
     (λ has. given (refused_later r replies has)) ∙ ap (λ t. text_after_edits t commands) text
@@ -70,14 +69,14 @@ short_replies_are_legal : (s : TextState) (commands : List Command) → s.policy
     → LegalReplies s commands (replies_of s.text commands)
 short_replies_are_legal s [] demotes inline small within = tt
 short_replies_are_legal s (c ∷ commands) demotes inline small within =
-    let r = (edit s.text c).0 in
+    let r = reply_of (edit s.text c) in
     let legal : IsLegal s c r =
-    record { answer = inl refl; counted = counted_within s (need_of c) r small within.0 } in
-    let step = short_step s c r demotes inline within.0 within.1 legal in
-    let text : text_after_step s.text c r ≡ (edit s.text c).1 =
-    text_granted s.text c r (never_refused s.text c) in
+    record { answer = inl refl; counted = counted_within s (need_of c) r small within.0.0 } in
+    let step = short_step s c r demotes inline within.0.0 within.0.1 legal in
+    let text : text_after_step s.text c r ≡ text_left s.text (edit s.text c) =
+    text_granted s.text c r (never_refused (edit s.text c)) in
     let next : StaysWithin s.policy.limit (text_after_step s.text c r) commands =
-    subst (λ t. StaysWithin s.policy.limit t commands) (sym text) within.2 in
+    subst (λ t. StaysWithin s.policy.limit t commands) (sym text) within.1 in
     let rest = short_replies_are_legal (state_after_step s c r) commands demotes step.1 small next in (
       legal,
       subst (λ t. LegalReplies (state_after_step s c r) commands (replies_of t commands)) text rest,
@@ -105,24 +104,19 @@ short_text s commands replies laws inline within legal =
 -- each command in its turn
 pub stays_at : (n : ℕ) (t : List ℕ) (commands : List Command) (i : ℕ) (command : Command)
     → StaysWithin n t commands → slice_get commands i ≡ Some command
-    → ReservesWithin n (text_after_edits t (take i commands)) (need_of command)
-    × (size (edit (text_after_edits t (take i commands)) command).1 ≤ n)
+    → LeavesWithin n (text_after_edits t (take i commands)) command
 stays_at n t [] i command within is = cc
 stays_at n t (c ∷ commands) zero command within is =
-    let same : c ≡ command = cc in
-    subst (λ x. ReservesWithin n t (need_of x) × (size (edit t x).1 ≤ n)) same (within.0, within.1)
+    let same : c ≡ command = cc in subst (LeavesWithin n t) same within.0
 stays_at n t (c ∷ commands) (suc i) command within is =
-    stays_at n (edit t c).1 commands i command within.2 is
+    stays_at n (text_left t (edit t c)) commands i command within.1 is
 
 pub stays_if : (n : ℕ) (t : List ℕ) (commands : List Command)
     → ((i : ℕ) (command : Command) → slice_get commands i ≡ Some command
-    → ReservesWithin n (text_after_edits t (take i commands)) (need_of command)
-    × (size (edit (text_after_edits t (take i commands)) command).1 ≤ n))
+    → LeavesWithin n (text_after_edits t (take i commands)) command)
     → StaysWithin n t commands
 stays_if n t [] each = tt
-stays_if n t (c ∷ commands) each =
-    let first = each 0 c refl in (
-      first.0,
-      first.1,
-      stays_if n (edit t c).1 commands (λ i command is. each (suc i) command is),
-    )
+stays_if n t (c ∷ commands) each = (
+  each 0 c refl,
+  stays_if n (text_left t (edit t c)) commands (λ i command is. each (suc i) command is),
+)

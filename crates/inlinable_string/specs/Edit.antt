@@ -7,67 +7,95 @@ use Rattle.inlinable_string.specs.declared.run.Command.TheVariants.{Push, PushSt
 use Rattle.inlinable_string.specs.declared.run.Reply.{Reply}
 use Rattle.inlinable_string.specs.declared.run.Reply.TheVariants.{Done, Char, NoChar, BadPlace, NotUtf8, WrongLength, NoMemory}
 
--- a text and its last character, with the character c before the text
-abbrev pub before_last : ℕ → Option (List ℕ × ℕ) → List ℕ × ℕ
-before_last c None = ([], c)
-before_last c (Some end) = (c ∷ end.0, end.1)
+-- what a command leads to
+pub data Outcome : Type 0 where
+  -- it is carried out, and this is the text after it
+  becomes : List ℕ → Outcome
+  -- it removes this character, and this is the text after it
+  yields : ℕ → List ℕ → Outcome
+  -- it is refused, and the text is as it was: there is no character to remove
+  has_no_char : Outcome
+  -- there is no such place, or no character begins there
+  has_no_place : Outcome
+  -- the bytes are not UTF-8
+  is_not_utf8 : Outcome
+  -- the bytes are not as many as the text has
+  has_wrong_length : Outcome
+
+abbrev pub reply_of : Outcome → Reply
+reply_of (becomes v) = Done
+reply_of (yields c v) = Char c
+reply_of has_no_char = NoChar
+reply_of has_no_place = BadPlace
+reply_of is_not_utf8 = NotUtf8
+reply_of has_wrong_length = WrongLength
+
+-- the text after a command on the text t
+abbrev pub text_left : List ℕ → Outcome → List ℕ
+text_left t (becomes v) = v
+text_left t (yields c v) = v
+text_left t refusal = t
+
+-- a text and its last character, with the character c in front of the text
+abbrev pub with_char_in_front : ℕ → Option (List ℕ × ℕ) → List ℕ × ℕ
+with_char_in_front c None = ([], c)
+with_char_in_front c (Some end) = (c ∷ end.0, end.1)
 
 -- the text without its last character, and that character
-abbrev pub last_off : List ℕ → Option (List ℕ × ℕ)
-last_off [] = None
-last_off (c ∷ t) = Some (before_last c (last_off t))
+abbrev pub split_last : List ℕ → Option (List ℕ × ℕ)
+split_last [] = None
+split_last (c ∷ t) = Some (with_char_in_front c (split_last t))
 
--- the text u put in between the two parts of t
-abbrev pub spliced : List ℕ → List ℕ → Option (List ℕ × List ℕ) → Reply × List ℕ
-spliced t u None = (BadPlace, t)
-spliced t u (Some parts) = (Done, parts.0 ++ u ++ parts.1)
+-- the text u is put between the two parts of a text
+abbrev pub insertion : List ℕ → Option (List ℕ × List ℕ) → Outcome
+insertion u None = has_no_place
+insertion u (Some parts) = becomes (parts.0 ++ u ++ parts.1)
 
--- the first of the two parts of t
-abbrev pub truncated : List ℕ → Option (List ℕ × List ℕ) → Reply × List ℕ
-truncated t None = (BadPlace, t)
-truncated t (Some parts) = (Done, parts.0)
+-- the first of two parts is kept
+abbrev pub truncation : Option (List ℕ × List ℕ) → Outcome
+truncation None = has_no_place
+truncation (Some parts) = becomes parts.0
 
--- the last character of t taken off, from the text before it and that character
-abbrev pub popped : List ℕ → Option (List ℕ × ℕ) → Reply × List ℕ
-popped t None = (NoChar, t)
-popped t (Some end) = (Char end.1, end.0)
+-- the last character is removed from the text before it
+abbrev pub pop_result : Option (List ℕ × ℕ) → Outcome
+pop_result None = has_no_char
+pop_result (Some end) = yields end.1 end.0
 
--- the two parts of t, a and another, without the first character of the other
-abbrev pub joined_past_first : List ℕ → List ℕ → List ℕ → Reply × List ℕ
-joined_past_first t a [] = (BadPlace, t)
-joined_past_first t a (c ∷ b) = (Char c, a ++ b)
+-- the first character of what stands behind a is removed
+abbrev pub removal_behind : List ℕ → List ℕ → Outcome
+removal_behind a [] = has_no_place
+removal_behind a (c ∷ b) = yields c (a ++ b)
 
--- the character between the two parts of t, which the second begins with, taken out
-abbrev pub removed : List ℕ → Option (List ℕ × List ℕ) → Reply × List ℕ
-removed t None = (BadPlace, t)
-removed t (Some parts) = joined_past_first t parts.0 parts.1
+-- the character that the second of two parts begins with is removed
+abbrev pub removal : Option (List ℕ × List ℕ) → Outcome
+removal None = has_no_place
+removal (Some parts) = removal_behind parts.0 parts.1
 
--- the text of the bytes bs in the place of t
-abbrev pub replaced : List ℕ → List ℕ → Reply × List ℕ
-replaced t bs =
-    if nat_eq (length bs) (size t) then (if is_utf8 bs then (Done, chars bs) else (NotUtf8, t))
-    else (WrongLength, t)
+-- the bytes bs are put in the place of those of the text t
+abbrev pub replacement : List ℕ → List ℕ → Outcome
+replacement t bs =
+    if nat_eq (length bs) (size t) then (if is_utf8 bs then becomes (chars bs) else is_not_utf8)
+    else has_wrong_length
 
--- the reply to a command on the text t, and the text after it; a `&str` has the characters of its
--- bytes
-abbrev pub edit : List ℕ → Command → Reply × List ℕ
-edit t (Push c) = (Done, t ++ c ∷ [])
-edit t (PushStr u) = (Done, t ++ chars u.now)
-edit t (Insert p c) = spliced t (c ∷ []) (cut t p)
-edit t (InsertStr p u) = spliced t (chars u.now) (cut t p)
-edit t (Truncate p) = truncated t (cut t p)
-edit t Pop = popped t (last_off t)
-edit t (Remove p) = removed t (cut t p)
-edit t Clear = (Done, [])
-edit t (ReplaceBytes b) = replaced t b.now
-edit t (Reserve n) = (Done, t)
-edit t (ReserveExact n) = (Done, t)
-edit t ShrinkToFit = (Done, t)
+-- what a command on the text t leads to; a `&str` has the characters of its bytes
+abbrev pub edit : List ℕ → Command → Outcome
+edit t (Push c) = becomes (t ++ c ∷ [])
+edit t (PushStr u) = becomes (t ++ chars u.now)
+edit t (Insert p c) = insertion (c ∷ []) (cut t p)
+edit t (InsertStr p u) = insertion (chars u.now) (cut t p)
+edit t (Truncate p) = truncation (cut t p)
+edit t Pop = pop_result (split_last t)
+edit t (Remove p) = removal (cut t p)
+edit t Clear = becomes []
+edit t (ReplaceBytes b) = replacement t b.now
+edit t (Reserve n) = becomes t
+edit t (ReserveExact n) = becomes t
+edit t ShrinkToFit = becomes t
 
 -- the text after a command with its reply: want of memory leaves it
 abbrev pub text_after_step : List ℕ → Command → Reply → List ℕ
 text_after_step t command NoMemory = t
-text_after_step t command reply = (edit t command).1
+text_after_step t command reply = text_left t (edit t command)
 
 -- the text after commands with their replies, one after the other
 abbrev pub text_after : List ℕ → List Command → List Reply → List ℕ

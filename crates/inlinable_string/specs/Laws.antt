@@ -1,7 +1,7 @@
 -- Words for laws over whole runs.
 use Rattle.std.specs.Prelude.{◌≡◌, ℕ, ◌+◌, ◌-◌, ◌≤◌, List, [], ◌∷◌, Bool, true, false}
 use Rattle.inlinable_string.specs.Text.{size}
-use Rattle.inlinable_string.specs.Edit.{edit}
+use Rattle.inlinable_string.specs.Edit.{edit, reply_of, text_left}
 use Rattle.inlinable_string.specs.Run.{Need, pushes, reserves, need_of}
 use Rattle.inlinable_string.specs.declared.run.Command.{Command}
 use Rattle.inlinable_string.specs.declared.run.Reply.{Reply}
@@ -11,25 +11,29 @@ use Rattle.inlinable_string.specs.declared.run.Reply.TheVariants.{NoMemory}
 abbrev pub replies_of : List ℕ → List Command → List Reply
 replies_of t [] = []
 replies_of t (command ∷ commands) =
-    (edit t command).0 ∷ replies_of (edit t command).1 commands
+    reply_of (edit t command) ∷ replies_of (text_left t (edit t command)) commands
 
 -- the text after them
 abbrev pub text_after_edits : List ℕ → List Command → List ℕ
 text_after_edits t [] = t
-text_after_edits t (command ∷ commands) = text_after_edits (edit t command).1 commands
+text_after_edits t (command ∷ commands) =
+    text_after_edits (text_left t (edit t command)) commands
 
 -- what is reserved, if it is, has room within n bytes beside the text t
 abbrev pub ReservesWithin : ℕ → List ℕ → Need → Type 0
 ReservesWithin n t (reserves m) = size t + m ≤ n
 ReservesWithin n t need = Unit {0}
 
--- the texts of a run from t in which no memory is refused have at most n bytes each, and so has
--- each with what is reserved beside it
+-- a command on the text t leaves at most n bytes, and so has t with what is reserved beside it
+abbrev pub LeavesWithin : ℕ → List ℕ → Command → Type 0
+LeavesWithin n t command =
+    ReservesWithin n t (need_of command) × (size (text_left t (edit t command)) ≤ n)
+
+-- each command of a run from t in which no memory is refused does
 abbrev pub StaysWithin : ℕ → List ℕ → List Command → Type 0
 StaysWithin n t [] = Unit {0}
 StaysWithin n t (command ∷ commands) =
-    ReservesWithin n t (need_of command) × (size (edit t command).1 ≤ n)
-    × StaysWithin n (edit t command).1 commands
+    LeavesWithin n t command × StaysWithin n (text_left t (edit t command)) commands
 
 -- the commands are pushes, and add at most k bytes together
 abbrev pub PushesWithin : ℕ → List Command → Type 0

@@ -3,7 +3,7 @@ use Rattle.std.specs.Prelude.{◌≡◌, ℕ, ◌+◌, ◌-◌, ◌≤◌, ◌<�
 use Rattle.std.specs.Str.{chars}
 use Rattle.inlinable_string.specs.Text.{size}
 use Rattle.inlinable_string.specs.State.{TextState, HasInlineRoom, storage_with_room, storage_when_shrunk}
-use Rattle.inlinable_string.specs.Edit.{edit, text_after_step, text_after}
+use Rattle.inlinable_string.specs.Edit.{edit, reply_of, text_after_step, text_after}
 use Rattle.inlinable_string.specs.declared.string_ext.Storage.{Storage}
 use Rattle.inlinable_string.specs.declared.run.Command.{Command}
 use Rattle.inlinable_string.specs.declared.run.Command.TheVariants.{Push, PushStr, Insert, InsertStr, Truncate, Pop, Remove, Clear, ReplaceBytes, Reserve, ReserveExact, ShrinkToFit}
@@ -90,7 +90,7 @@ credit_after s commands replies = credit (state_after s commands replies)
 
 -- the command may ask for memory on the text t: it needs room, and no other refusal comes first
 abbrev pub AsksMemory : List ℕ → Command → Type 0
-AsksMemory t command = ¬ (need_of command ≡ nothing) × ((edit t command).0 ≡ Done)
+AsksMemory t command = ¬ (need_of command ≡ nothing) × (reply_of (edit t command) ≡ Done)
 
 -- what is needed is there without any memory
 abbrev pub IsMet : TextState → Need → Type 0
@@ -111,7 +111,8 @@ IsCounted s need reply = Unit {0}
 
 -- the reply is that of `edit`, or want of memory to a command that is not free of it
 pub record IsLegal (s : TextState) (command : Command) (reply : Reply) : Type 0 where
-  pub answer : (reply ≡ (edit s.text command).0) ⊎ ((reply ≡ NoMemory) × ¬ (IsFree s command))
+  pub answer : (reply ≡ reply_of (edit s.text command))
+      ⊎ ((reply ≡ NoMemory) × ¬ (IsFree s command))
   pub counted : IsCounted s (need_of command) reply
 
 -- there are as many replies as commands, and each is legal in its turn

@@ -20,9 +20,10 @@ pub use each::run_each;
 pub use laws::{
     a_second_run_goes_on, bad_places_are_no_places, cut_decides_places,
     each_reply_is_legal_in_its_turn, each_text_has_its_own_run, edits_are_done_at_places,
-    growths_add_their_bytes, insertions_are_splices, pop_takes_off_the_last_character,
-    refusals_change_nothing, refusals_determine_the_run, remove_is_a_removal, remove_undoes_insert,
-    replacement_has_the_bytes, reserved_pushes_never_fail, runs_join, short_runs_are_edits,
+    growths_add_their_bytes, insertions_are_splices, outcomes_are_told_by_reply_and_text,
+    pop_takes_off_the_last_character, refusals_change_nothing, refusals_determine_the_run,
+    remove_is_a_removal, remove_undoes_insert, replacement_has_the_bytes,
+    reserved_pushes_never_fail, runs_join, short_runs_are_edits,
     short_runs_are_short_at_each_command, short_runs_never_ask, texts_are_told_by_their_bytes,
     truncations_are_cuts, unrefused_runs_are_edits,
 };

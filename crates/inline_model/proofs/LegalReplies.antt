@@ -4,7 +4,7 @@ use Rattle.std.specs.Borrow.{Bor}
 use Rattle.std.specs.Str.{chars}
 use Rattle.inlinable_string.specs.Text.{size}
 use Rattle.inlinable_string.specs.State.{TextState, HasInlineRoom}
-use Rattle.inlinable_string.specs.Edit.{edit, spliced}
+use Rattle.inlinable_string.specs.Edit.{reply_of, edit, insertion}
 use Rattle.inlinable_string.specs.Run.{IsFree, IsLegal, IsCounted, need_of, credit}
 use Rattle.inlinable_string.specs.declared.run.Command.{Command}
 use Rattle.inlinable_string.specs.declared.run.Command.TheVariants.{PushStr, Insert, Reserve}
@@ -12,7 +12,7 @@ use Rattle.inlinable_string.specs.declared.run.Reply.{Reply}
 use Rattle.inlinable_string.specs.declared.run.Reply.TheVariants.{NoMemory}
 use Rattle.inlinable_string.proofs.Cut.{cut_joined}
 
-pub answered : (s : TextState) (c : Command) (r : Reply) → r ≡ (edit s.text c).0
+pub answered : (s : TextState) (c : Command) (r : Reply) → r ≡ reply_of (edit s.text c)
     → IsCounted s (need_of c) r → IsLegal s c r
 answered s c r h k = record { answer = inl h; counted = k }
 
@@ -45,7 +45,7 @@ reserve_refused s n inline = record {
 pub inserted_at_start : (s : TextState) (c : ℕ) → (HasInlineRoom s (size (c ∷ [])) → ⊥)
     → ¬ (IsFree s (Insert 0 c)) × IsLegal s (Insert 0 c) NoMemory
 inserted_at_start s c inline =
-    let place = ap (λ o. (spliced s.text (c ∷ []) o).0) (cut_joined [] s.text) in
+    let place = ap (λ o. reply_of (insertion (c ∷ []) o)) (cut_joined [] s.text) in
     let not_free : ¬ (IsFree s (Insert 0 c)) =
     λ free. elim free [ inl asks ↦ asks ((λ n. cc), place) | inr room ↦ inline room ] in
     (not_free, record { answer = inr (refl, not_free); counted = tt })

@@ -3,7 +3,7 @@ use Rattle.std.proofs.Common.{◌≡◌, refl, sym, ap, subst, ◌∙◌, ℕ, �
 use Rattle.std.specs.Borrow.{Bor}
 use Rattle.inlinable_string.specs.State.{TextState}
 use Rattle.inlinable_string.specs.Text.{size}
-use Rattle.inlinable_string.specs.Edit.{edit}
+use Rattle.inlinable_string.specs.Edit.{reply_of, text_left, edit}
 use Rattle.inlinable_string.specs.Run.{Need, nothing, need_of, storage_when_met, credit, credit_when_met, state_after_step, state_after, IsFree, IsLegal, IsMet, IsCounted, LegalReplies}
 use Rattle.inlinable_string.specs.declared.string_ext.Storage.{Storage}
 use Rattle.inlinable_string.specs.declared.run.Command.{Command}
@@ -74,19 +74,25 @@ left_with s t storage more = record {
   policy = s.policy;
 }
 
+-- both leave one text
+same_left : (s : TextState) (one other : Command) → DoTheSame one other
+    → text_left s.text (edit s.text one) ≡ text_left s.text (edit s.text other)
+same_left s one other h = ap (text_left s.text) (h.edit s.text)
+
 -- the step of one is that of the other
 same_step : (s : TextState) (one other : Command) (reply : Reply) → DoTheSame one other
     → state_after_step s one reply ≡ state_after_step s other reply
 same_step s one other Done h =
-    ap (λ e. left_with s e.1 (storage_when_met s (need_of one))
-    (credit_when_met (credit s) (need_of one))) (h.edit s.text)
-    ∙ ap (λ n. left_with s (edit s.text other).1 (storage_when_met s n)
+    ap (λ t. left_with s t (storage_when_met s (need_of one))
+    (credit_when_met (credit s) (need_of one))) (same_left s one other h)
+    ∙ ap (λ n. left_with s (text_left s.text (edit s.text other)) (storage_when_met s n)
     (credit_when_met (credit s) n)) h.need
-same_step s one other (Char c) h = ap (λ e. left_with s e.1 s.storage 0) (h.edit s.text)
-same_step s one other NoChar h = ap (λ e. left_with s e.1 s.storage 0) (h.edit s.text)
-same_step s one other BadPlace h = ap (λ e. left_with s e.1 s.storage (credit s)) (h.edit s.text)
-same_step s one other NotUtf8 h = ap (λ e. left_with s e.1 s.storage 0) (h.edit s.text)
-same_step s one other WrongLength h = ap (λ e. left_with s e.1 s.storage 0) (h.edit s.text)
+same_step s one other BadPlace h =
+    ap (λ t. left_with s t s.storage (credit s)) (same_left s one other h)
+same_step s one other (Char c) h = ap (λ t. left_with s t s.storage 0) (same_left s one other h)
+same_step s one other NoChar h = ap (λ t. left_with s t s.storage 0) (same_left s one other h)
+same_step s one other NotUtf8 h = ap (λ t. left_with s t s.storage 0) (same_left s one other h)
+same_step s one other WrongLength h = ap (λ t. left_with s t s.storage 0) (same_left s one other h)
 same_step s one other NoMemory h = refl
 
 -- what is free of memory, by what the command does and needs
@@ -96,14 +102,14 @@ FreeBy s answer need = ¬ (¬ (need ≡ nothing) × (answer ≡ Done)) ⊎ IsMet
 same_free : (s : TextState) (one other : Command) → DoTheSame one other → IsFree s other
     → IsFree s one
 same_free s one other h free =
-    subst (λ n. FreeBy s (edit s.text one).0 n) (sym h.need)
-    (subst (λ e. FreeBy s e.0 (need_of other)) (sym (h.edit s.text)) free)
+    subst (λ n. FreeBy s (reply_of (edit s.text one)) n) (sym h.need)
+    (subst (λ e. FreeBy s (reply_of e) (need_of other)) (sym (h.edit s.text)) free)
 
 same_legal : (s : TextState) (one other : Command) (reply : Reply) → DoTheSame one other
     → IsLegal s one reply → IsLegal s other reply
 same_legal s one other reply h legal = record {
   answer = elim legal.answer [
-    | inl same ↦ inl (same ∙ ap (λ e. e.0) (h.edit s.text))
+    | inl same ↦ inl (same ∙ ap reply_of (h.edit s.text))
     | inr refused ↦ inr (refused.0, λ free. refused.1 (same_free s one other h free))
   ];
   counted = subst (λ n. IsCounted s n reply) h.need legal.counted;

@@ -3,7 +3,7 @@ use Rattle.std.proofs.Common.{◌≡◌, refl, sym, ap, subst, ◌∙◌, ℕ, �
 use Rattle.std.specs.String.{string_bytes}
 use Rattle.std.specs.declared.string.String.{String}
 use Rattle.inlinable_string.specs.State.{TextState, storage_when_made}
-use Rattle.inlinable_string.specs.Edit.{edit}
+use Rattle.inlinable_string.specs.Edit.{reply_of, edit}
 use Rattle.inlinable_string.specs.Run.{IsFree, IsLegal, IsRun, LegalReplies, state_after_step, state_after}
 use Rattle.inlinable_string.specs.declared.run.Command.{Command}
 use Rattle.inlinable_string.specs.declared.run.Reply.{Reply}
@@ -64,7 +64,7 @@ script_prints words input output start commands P {begun} {asked} {old} {new} {r
 
 -- the reply to a command that is free of memory is that of `edit`
 pub answered_free : (s : TextState) (command : Command) (reply : Reply) → IsLegal s command reply
-    → IsFree s command → reply ≡ (edit s.text command).0
+    → IsFree s command → reply ≡ reply_of (edit s.text command)
 answered_free s command reply legal free =
     elim legal.answer [ inl same ↦ same | inr refused ↦ absurd (refused.1 free) ]
 
@@ -72,13 +72,15 @@ answered_free s command reply legal free =
 abbrev pub answers : TextState → List Command → List Reply
 answers s [] = []
 answers s (command ∷ commands) =
-    (edit s.text command).0 ∷ answers (state_after_step s command (edit s.text command).0) commands
+    reply_of (edit s.text command)
+    ∷ answers (state_after_step s command (reply_of (edit s.text command))) commands
 
 -- each command is free of memory in its turn
 abbrev pub AllFree : TextState → List Command → Type 0
 AllFree s [] = Unit {0}
 AllFree s (command ∷ commands) =
-    IsFree s command × AllFree (state_after_step s command (edit s.text command).0) commands
+    IsFree s command
+    × AllFree (state_after_step s command (reply_of (edit s.text command))) commands
 
 pub answered : (s : TextState) (commands : List Command) (replies : List Reply)
     → LegalReplies s commands replies → AllFree s commands → replies ≡ answers s commands
@@ -89,8 +91,8 @@ answered s (c ∷ commands) (r ∷ replies) legal free =
     let reply = answered_free s c r legal.0 free.0 in
     let rest = subst (λ x. LegalReplies (state_after_step s c x) commands replies) reply legal.1 in
     ap (λ x. x ∷ replies) reply
-    ∙ ap (λ rs. (edit s.text c).0 ∷ rs)
-    (answered (state_after_step s c (edit s.text c).0) commands replies rest free.1)
+    ∙ ap (λ rs. reply_of (edit s.text c) ∷ rs)
+    (answered (state_after_step s c (reply_of (edit s.text c))) commands replies rest free.1)
 
 -- where no memory can be refused, one output is printed
 pub free_prints : (start : Start) (commands : List Command) (output : List ℕ)
@@ -130,8 +132,8 @@ pub two_outputs_of_one : {Z : Type 0} (words : List (String Z)) (input output : 
     → LinesAskFor (lines_of input) asked → IsMade begun old → IsRun old asked replies new
     → output ≡ printed replies new
     → map string_bytes words ≡ word_of_start start ∷ [] → LinesAskFor (lines_of input) (command ∷ [])
-    → ((room : ℕ) → printed ((edit [] (plain command)).0 ∷ [])
-    (state_after_step (made start room) (plain command) (edit [] (plain command)).0) ≡ done)
+    → ((room : ℕ) → printed (reply_of (edit [] (plain command)) ∷ [])
+    (state_after_step (made start room) (plain command) (reply_of (edit [] (plain command)))) ≡ done)
     → ((room : ℕ) → printed (NoMemory ∷ []) (state_after_step (made start room) (plain command)
     NoMemory) ≡ refused)
     → (output ≡ done) ⊎ (output ≡ refused)

@@ -5,9 +5,9 @@ ghost use Rattle.std.specs.Borrow.{Bor};
 ghost use Rattle.std.specs.Str.{all_scalars, chars, IsUtf8};
 ghost use Rattle.inlinable_string.specs.Text.{bytes_of, size, cut, IsCut, IsPlace, IsSplice, IsRemoval};
 ghost use Rattle.inlinable_string.specs.State.{TextState, IsLawful};
-ghost use Rattle.inlinable_string.specs.Edit.{edit, text_after};
+ghost use Rattle.inlinable_string.specs.Edit.{Outcome, becomes, yields, reply_of, text_left, edit, text_after};
 ghost use Rattle.inlinable_string.specs.Run.{need_of, IsLegal, LegalReplies, IsRun, EachRun, state_after_step, state_after, storage_after, credit, credit_after};
-ghost use Rattle.inlinable_string.specs.Laws.{replies_of, text_after_edits, ReservesWithin, StaysWithin, PushesWithin, is_refusal};
+ghost use Rattle.inlinable_string.specs.Laws.{replies_of, text_after_edits, LeavesWithin, StaysWithin, PushesWithin, is_refusal};
 
 use super::{Command, Reply};
 use crate::string_ext::Storage;
@@ -24,85 +24,95 @@ pub fn cut_decides_places()
     ensures none { (t : List ℕ) (p : ℕ) → (cut t p ≡ None) ↔ (¬ IsPlace t p) }
 {}
 
+/// An outcome is told by its reply and by the text that it leaves.
+pub fn outcomes_are_told_by_reply_and_text()
+    ensures done { (t v : List ℕ) (o : Outcome)
+        → (o ≡ becomes v) ↔ ((reply_of o ≡ Reply.Done) × (text_left t o ≡ v)) }
+    ensures char { (t v : List ℕ) (c : ℕ) (o : Outcome)
+        → (o ≡ yields c v) ↔ ((reply_of o ≡ Reply.Char c) × (text_left t o ≡ v)) }
+    ensures other { (t : List ℕ) (o : Outcome) → reply_of o ≢ Reply.Done
+        → ((c : ℕ) → reply_of o ≢ Reply.Char c) → text_left t o ≡ t }
+{}
+
 /// An insertion is carried out exactly where what it leaves is a splice.
 pub fn insertions_are_splices()
     ensures character { (t v : List ℕ) (p c : ℕ)
-        → (edit t (Command.Insert p c) ≡ (Reply.Done, v)) ↔ IsSplice t p (c ∷ []) v }
+        → (edit t (Command.Insert p c) ≡ becomes v) ↔ IsSplice t p (c ∷ []) v }
     ensures string { (t v : List ℕ) (p : ℕ) (u : Bor (List ℕ))
-        → (edit t (Command.InsertStr p u) ≡ (Reply.Done, v)) ↔ IsSplice t p (chars u.now) v }
+        → (edit t (Command.InsertStr p u) ≡ becomes v) ↔ IsSplice t p (chars u.now) v }
 {}
 
 /// `Truncate` keeps the text before a place.
 pub fn truncations_are_cuts()
     ensures { (t v : List ℕ) (p : ℕ)
-        → (edit t (Command.Truncate p) ≡ (Reply.Done, v))
+        → (edit t (Command.Truncate p) ≡ becomes v)
         ↔ ((rest : List ℕ) × IsCut t p v rest) }
 {}
 
 /// `BadPlace` is answered exactly where there is no place.
 pub fn bad_places_are_no_places()
     ensures insert { (t : List ℕ) (p c : ℕ)
-        → ((edit t (Command.Insert p c)).0 ≡ Reply.BadPlace) ↔ (¬ IsPlace t p) }
+        → (reply_of (edit t (Command.Insert p c)) ≡ Reply.BadPlace) ↔ (¬ IsPlace t p) }
     ensures insert_str { (t : List ℕ) (p : ℕ) (u : Bor (List ℕ))
-        → ((edit t (Command.InsertStr p u)).0 ≡ Reply.BadPlace) ↔ (¬ IsPlace t p) }
+        → (reply_of (edit t (Command.InsertStr p u)) ≡ Reply.BadPlace) ↔ (¬ IsPlace t p) }
     ensures truncate { (t : List ℕ) (p : ℕ)
-        → ((edit t (Command.Truncate p)).0 ≡ Reply.BadPlace) ↔ (¬ IsPlace t p) }
+        → (reply_of (edit t (Command.Truncate p)) ≡ Reply.BadPlace) ↔ (¬ IsPlace t p) }
 {}
 
 /// `Done` is answered exactly where there is one.
 pub fn edits_are_done_at_places()
     ensures insert { (t : List ℕ) (p c : ℕ)
-        → ((edit t (Command.Insert p c)).0 ≡ Reply.Done) ↔ IsPlace t p }
+        → (reply_of (edit t (Command.Insert p c)) ≡ Reply.Done) ↔ IsPlace t p }
     ensures insert_str { (t : List ℕ) (p : ℕ) (u : Bor (List ℕ))
-        → ((edit t (Command.InsertStr p u)).0 ≡ Reply.Done) ↔ IsPlace t p }
+        → (reply_of (edit t (Command.InsertStr p u)) ≡ Reply.Done) ↔ IsPlace t p }
     ensures truncate { (t : List ℕ) (p : ℕ)
-        → ((edit t (Command.Truncate p)).0 ≡ Reply.Done) ↔ IsPlace t p }
+        → (reply_of (edit t (Command.Truncate p)) ≡ Reply.Done) ↔ IsPlace t p }
 {}
 
 /// `Pop` takes off the character that a text ends with, and finds none in the empty text alone.
 pub fn pop_takes_off_the_last_character()
     ensures last { (t v : List ℕ) (c : ℕ)
-        → (edit t Command.Pop ≡ (Reply.Char c, v)) ↔ (t ≡ v ++ c ∷ []) }
-    ensures none { (t : List ℕ) → ((edit t Command.Pop).0 ≡ Reply.NoChar) ↔ (t ≡ []) }
+        → (edit t Command.Pop ≡ yields c v) ↔ (t ≡ v ++ c ∷ []) }
+    ensures none { (t : List ℕ) → (reply_of (edit t Command.Pop) ≡ Reply.NoChar) ↔ (t ≡ []) }
 {}
 
 /// `Remove` takes out the character that begins at a place, and nothing else.
 pub fn remove_is_a_removal()
     ensures { (t v : List ℕ) (p c : ℕ)
-        → (edit t (Command.Remove p) ≡ (Reply.Char c, v)) ↔ IsRemoval t p c v }
+        → (edit t (Command.Remove p) ≡ yields c v) ↔ IsRemoval t p c v }
 {}
 
 /// `ReplaceBytes` is carried out exactly with as many bytes as the text has, of another text; the
 /// number of bytes is tested first.
 pub fn replacement_has_the_bytes()
     ensures done { (t v : List ℕ) (b : Bor (List ℕ))
-        → (edit t (Command.ReplaceBytes b) ≡ (Reply.Done, v))
+        → (edit t (Command.ReplaceBytes b) ≡ becomes v)
         ↔ ((length b.now ≡ size t) × IsUtf8 b.now × (bytes_of v ≡ b.now)) }
     ensures wrong_length { (t : List ℕ) (b : Bor (List ℕ))
-        → ((edit t (Command.ReplaceBytes b)).0 ≡ Reply.WrongLength)
+        → (reply_of (edit t (Command.ReplaceBytes b)) ≡ Reply.WrongLength)
         ↔ (length b.now ≢ size t) }
     ensures not_utf8 { (t : List ℕ) (b : Bor (List ℕ))
-        → ((edit t (Command.ReplaceBytes b)).0 ≡ Reply.NotUtf8)
+        → (reply_of (edit t (Command.ReplaceBytes b)) ≡ Reply.NotUtf8)
         ↔ ((length b.now ≡ size t) × ¬ (IsUtf8 b.now)) }
 {}
 
 /// A growth that is carried out adds its bytes to those of the text.
 pub fn growths_add_their_bytes()
     ensures push { (t : List ℕ) (c : ℕ)
-        → size (edit t (Command.Push c)).1 ≡ size t + size (c ∷ []) }
+        → size (text_left t (edit t (Command.Push c))) ≡ size t + size (c ∷ []) }
     ensures push_str { (t : List ℕ) (u : Bor (List ℕ))
-        → size (edit t (Command.PushStr u)).1 ≡ size t + size (chars u.now) }
-    ensures insert { (t : List ℕ) (p c : ℕ) → (edit t (Command.Insert p c)).0 ≡ Reply.Done
-        → size (edit t (Command.Insert p c)).1 ≡ size t + size (c ∷ []) }
+        → size (text_left t (edit t (Command.PushStr u))) ≡ size t + size (chars u.now) }
+    ensures insert { (t : List ℕ) (p c : ℕ) → reply_of (edit t (Command.Insert p c)) ≡ Reply.Done
+        → size (text_left t (edit t (Command.Insert p c))) ≡ size t + size (c ∷ []) }
     ensures insert_str { (t : List ℕ) (p : ℕ) (u : Bor (List ℕ))
-        → (edit t (Command.InsertStr p u)).0 ≡ Reply.Done
-        → size (edit t (Command.InsertStr p u)).1 ≡ size t + size (chars u.now) }
+        → reply_of (edit t (Command.InsertStr p u)) ≡ Reply.Done
+        → size (text_left t (edit t (Command.InsertStr p u))) ≡ size t + size (chars u.now) }
 {}
 
 /// Taking out what was just put in gives it back, and leaves the old text.
 pub fn remove_undoes_insert()
     ensures { (t : List ℕ) (p c : ℕ) → IsPlace t p
-        → edit (edit t (Command.Insert p c)).1 (Command.Remove p) ≡ (Reply.Char c, t) }
+        → edit (text_left t (edit t (Command.Insert p c))) (Command.Remove p) ≡ yields c t }
 {}
 
 /// Legal replies, read one at a time: each is that of `edit` on the text after the commands before
@@ -196,8 +206,7 @@ pub fn short_runs_are_edits()
 pub fn short_runs_are_short_at_each_command()
     ensures { (n : ℕ) (t : List ℕ) (commands : List Command) → StaysWithin n t commands
         ↔ ((i : ℕ) (command : Command) → slice_get commands i ≡ Some command
-        → ReservesWithin n (text_after_edits t (take i commands)) (need_of command)
-        × (size (edit (text_after_edits t (take i commands)) command).1 ≤ n)) }
+        → LeavesWithin n (text_after_edits t (take i commands)) command) }
 {}
 
 /// Reserved pushes never fail: pushes directly after a reservation that was carried out, or at the

@@ -3,7 +3,7 @@ ghost use Rattle.std.specs.Prelude.{◌≡◌, ◌≤◌, ◌++◌, length, take
 ghost use Rattle.std.specs.Option.{option_map};
 ghost use Rattle.std.specs.Str.{chars};
 ghost use Rattle.inlinable_string.specs.Text.{size, cut};
-ghost use Rattle.inlinable_string.specs.Edit.{edit, spliced, truncated, popped, last_off, removed, replaced, text_after_step};
+ghost use Rattle.inlinable_string.specs.Edit.{reply_of, text_left, edit, insertion, truncation, pop_result, split_last, removal, replacement, text_after_step};
 
 use inlinable_string::run::{Command, Reply};
 use std::alloc::{AllocError, Global};
@@ -48,24 +48,24 @@ pub fn edit(
     text: &[char],
     command: Command,
 ) -> Result<(Reply, Vec<char>), AllocError>
-    ensures reply { IfOk result (λ r. r.0 ≡ (edit text.now command.entry).0) }
-    ensures text { IfOk result (λ r. r.1.items ≡ (edit text.now command.entry).1) }
+    ensures reply { IfOk result (λ r. r.0 ≡ reply_of (edit text.now command.entry)) }
+    ensures text { IfOk result (λ r. r.1.items ≡ text_left text.now (edit text.now command.entry)) }
 {
     match command {
-        Command::Push(c) => pushed(alloc, text, &[c]),
-        Command::PushStr(string) => pushed(alloc, text, &chars_of(alloc, string)?),
-        Command::Insert(place, c) => spliced(alloc, text, place, &[c]),
+        Command::Push(c) => growth(alloc, text, &[c]),
+        Command::PushStr(string) => growth(alloc, text, &chars_of(alloc, string)?),
+        Command::Insert(place, c) => insertion(alloc, text, place, &[c]),
         Command::InsertStr(place, string) => {
-            spliced(alloc, text, place, &chars_of(alloc, string)?)
+            insertion(alloc, text, place, &chars_of(alloc, string)?)
         }
-        Command::Truncate(place) => truncated(alloc, text, place),
-        Command::Pop => popped(alloc, text),
-        Command::Remove(place) => removed(alloc, text, place),
+        Command::Truncate(place) => truncation(alloc, text, place),
+        Command::Pop => pop_result(alloc, text),
+        Command::Remove(place) => removal(alloc, text, place),
         Command::Clear => Ok((Reply::Done, Vec::new(alloc))),
-        Command::ReplaceBytes(bytes) => replaced(alloc, text, bytes),
-        Command::Reserve(_) => left(alloc, text, Reply::Done),
-        Command::ReserveExact(_) => left(alloc, text, Reply::Done),
-        Command::ShrinkToFit => left(alloc, text, Reply::Done),
+        Command::ReplaceBytes(bytes) => replacement(alloc, text, bytes),
+        Command::Reserve(_) => copy_with(alloc, text, Reply::Done),
+        Command::ReserveExact(_) => copy_with(alloc, text, Reply::Done),
+        Command::ShrinkToFit => copy_with(alloc, text, Reply::Done),
     }
 }
 
@@ -88,14 +88,14 @@ pub fn text_after_step(
 }
 
 // A copy of a text, after a reply.
-fn left(alloc: Global, text: &[char], reply: Reply) -> Result<(Reply, Vec<char>), AllocError>
+fn copy_with(alloc: Global, text: &[char], reply: Reply) -> Result<(Reply, Vec<char>), AllocError>
     ensures reply { IfOk result (λ r. r.0 ≡ reply) }
     ensures text { IfOk result (λ r. r.1.items ≡ text.now) }
 {
     Ok((reply, Vec::from_slice(alloc, text)?))
 }
 
-fn joined(alloc: Global, front: &[char], back: &[char]) -> Result<Vec<char>, AllocError>
+fn concat(alloc: Global, front: &[char], back: &[char]) -> Result<Vec<char>, AllocError>
     ensures { IfOk result (λ all. all.items ≡ front.now ++ back.now) }
 {
     let mut all = Vec::from_slice(alloc, front)?;
@@ -103,76 +103,80 @@ fn joined(alloc: Global, front: &[char], back: &[char]) -> Result<Vec<char>, All
     Ok(all)
 }
 
-fn pushed(alloc: Global, text: &[char], more: &[char]) -> Result<(Reply, Vec<char>), AllocError>
+fn growth(alloc: Global, text: &[char], more: &[char]) -> Result<(Reply, Vec<char>), AllocError>
     ensures reply { IfOk result (λ r. r.0 ≡ Reply.Done) }
     ensures text { IfOk result (λ r. r.1.items ≡ text.now ++ more.now) }
 {
-    Ok((Reply::Done, joined(alloc, text, more)?))
+    Ok((Reply::Done, concat(alloc, text, more)?))
 }
 
-fn spliced(
+fn insertion(
     alloc: Global,
     text: &[char],
     place: usize,
     more: &[char],
 ) -> Result<(Reply, Vec<char>), AllocError>
     ensures reply { IfOk result (λ r. r.0
-        ≡ (spliced text.now more.now (cut text.now place)).0) }
+        ≡ reply_of (insertion more.now (cut text.now place))) }
     ensures text { IfOk result (λ r. r.1.items
-        ≡ (spliced text.now more.now (cut text.now place)).1) }
+        ≡ text_left text.now (insertion more.now (cut text.now place))) }
 {
     let Some(count) = chars_before(text, place) else {
-        return left(alloc, text, Reply::BadPlace);
+        return copy_with(alloc, text, Reply::BadPlace);
     };
-    let mut all = joined(alloc, &text[..count], more)?;
+    let mut all = concat(alloc, &text[..count], more)?;
     all.extend_from_slice(&text[count..])?;
     Ok((Reply::Done, all))
 }
 
-fn truncated(alloc: Global, text: &[char], place: usize) -> Result<(Reply, Vec<char>), AllocError>
-    ensures reply { IfOk result (λ r. r.0 ≡ (truncated text.now (cut text.now place)).0) }
-    ensures text { IfOk result (λ r. r.1.items ≡ (truncated text.now (cut text.now place)).1) }
+fn truncation(alloc: Global, text: &[char], place: usize) -> Result<(Reply, Vec<char>), AllocError>
+    ensures reply { IfOk result (λ r. r.0 ≡ reply_of (truncation (cut text.now place))) }
+    ensures text { IfOk result (λ r. r.1.items
+        ≡ text_left text.now (truncation (cut text.now place))) }
 {
     match chars_before(text, place) {
-        Some(count) => left(alloc, &text[..count], Reply::Done),
-        None => left(alloc, text, Reply::BadPlace),
+        Some(count) => copy_with(alloc, &text[..count], Reply::Done),
+        None => copy_with(alloc, text, Reply::BadPlace),
     }
 }
 
-fn popped(alloc: Global, text: &[char]) -> Result<(Reply, Vec<char>), AllocError>
-    ensures reply { IfOk result (λ r. r.0 ≡ (popped text.now (last_off text.now)).0) }
-    ensures text { IfOk result (λ r. r.1.items ≡ (popped text.now (last_off text.now)).1) }
+fn pop_result(alloc: Global, text: &[char]) -> Result<(Reply, Vec<char>), AllocError>
+    ensures reply { IfOk result (λ r. r.0 ≡ reply_of (pop_result (split_last text.now))) }
+    ensures text { IfOk result (λ r. r.1.items
+        ≡ text_left text.now (pop_result (split_last text.now))) }
 {
     match text.split_last() {
-        Some((last, front)) => left(alloc, front, Reply::Char(*last)),
-        None => left(alloc, text, Reply::NoChar),
+        Some((last, front)) => copy_with(alloc, front, Reply::Char(*last)),
+        None => copy_with(alloc, text, Reply::NoChar),
     }
 }
 
 // At the text's end no character begins, so the end is a bad place here.
-fn removed(alloc: Global, text: &[char], place: usize) -> Result<(Reply, Vec<char>), AllocError>
-    ensures reply { IfOk result (λ r. r.0 ≡ (removed text.now (cut text.now place)).0) }
-    ensures text { IfOk result (λ r. r.1.items ≡ (removed text.now (cut text.now place)).1) }
+fn removal(alloc: Global, text: &[char], place: usize) -> Result<(Reply, Vec<char>), AllocError>
+    ensures reply { IfOk result (λ r. r.0 ≡ reply_of (removal (cut text.now place))) }
+    ensures text { IfOk result (λ r. r.1.items
+        ≡ text_left text.now (removal (cut text.now place))) }
 {
     let Some(count) = chars_before(text, place) else {
-        return left(alloc, text, Reply::BadPlace);
+        return copy_with(alloc, text, Reply::BadPlace);
     };
     match text[count..].split_first() {
-        Some((c, back)) => Ok((Reply::Char(*c), joined(alloc, &text[..count], back)?)),
-        None => left(alloc, text, Reply::BadPlace),
+        Some((c, back)) => Ok((Reply::Char(*c), concat(alloc, &text[..count], back)?)),
+        None => copy_with(alloc, text, Reply::BadPlace),
     }
 }
 
 // The number of bytes is tested first, so bytes of another number are never said not to be UTF-8.
-fn replaced(alloc: Global, text: &[char], bytes: &[u8]) -> Result<(Reply, Vec<char>), AllocError>
-    ensures reply { IfOk result (λ r. r.0 ≡ (replaced text.now bytes.now).0) }
-    ensures text { IfOk result (λ r. r.1.items ≡ (replaced text.now bytes.now).1) }
+fn replacement(alloc: Global, text: &[char], bytes: &[u8]) -> Result<(Reply, Vec<char>), AllocError>
+    ensures reply { IfOk result (λ r. r.0 ≡ reply_of (replacement text.now bytes.now)) }
+    ensures text { IfOk result (λ r. r.1.items
+        ≡ text_left text.now (replacement text.now bytes.now)) }
 {
     if bytes.len() != size_of(text) {
-        return left(alloc, text, Reply::WrongLength);
+        return copy_with(alloc, text, Reply::WrongLength);
     }
     match str::from_utf8(bytes) {
         Ok(string) => Ok((Reply::Done, chars_of(alloc, string)?)),
-        Err(_) => left(alloc, text, Reply::NotUtf8),
+        Err(_) => copy_with(alloc, text, Reply::NotUtf8),
     }
 }

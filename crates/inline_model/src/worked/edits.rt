@@ -1,7 +1,7 @@
 //! What commands do to texts, and what they answer.
 ghost use Rattle.std.specs.Prelude.{◌≡◌, ◌∷◌, [], List, ℕ, Some, None, codes};
 ghost use Rattle.inlinable_string.specs.Text.{size, cut};
-ghost use Rattle.inlinable_string.specs.Edit.{edit};
+ghost use Rattle.inlinable_string.specs.Edit.{Outcome, becomes, yields, has_no_char, has_no_place, is_not_utf8, has_wrong_length, reply_of, text_left, edit};
 
 use inlinable_string::run::{Command, Reply};
 
@@ -37,75 +37,95 @@ pub fn places_of_each_width()
     ensures past { cut (97 ∷ 233 ∷ 8364 ∷ 119070 ∷ []) 11 ≡ None }
 {}
 
+/// Each outcome has its own reply.
+pub fn replies_of_outcomes()
+    ensures done { (v : List ℕ) → reply_of (becomes v) ≡ Reply.Done }
+    ensures char { (c : ℕ) (v : List ℕ) → reply_of (yields c v) ≡ Reply.Char c }
+    ensures no_char { reply_of has_no_char ≡ Reply.NoChar }
+    ensures bad_place { reply_of has_no_place ≡ Reply.BadPlace }
+    ensures not_utf8 { reply_of is_not_utf8 ≡ Reply.NotUtf8 }
+    ensures wrong_length { reply_of has_wrong_length ≡ Reply.WrongLength }
+{}
+
+/// A command that is carried out leaves its own text, and one that is refused the text before it.
+pub fn texts_left_by_outcomes()
+    ensures done { (t v : List ℕ) → text_left t (becomes v) ≡ v }
+    ensures char { (t : List ℕ) (c : ℕ) (v : List ℕ) → text_left t (yields c v) ≡ v }
+    ensures no_char { (t : List ℕ) → text_left t has_no_char ≡ t }
+    ensures bad_place { (t : List ℕ) → text_left t has_no_place ≡ t }
+    ensures not_utf8 { (t : List ℕ) → text_left t is_not_utf8 ≡ t }
+    ensures wrong_length { (t : List ℕ) → text_left t has_wrong_length ≡ t }
+{}
+
 /// "é", truncated at 1, inside it, or at 3, past its end, is left as it was; at 2 it is kept whole.
 pub fn truncate_of_one_character()
-    ensures inside { edit (233 ∷ []) (Command.Truncate 1) ≡ (Reply.BadPlace, 233 ∷ []) }
-    ensures end { edit (233 ∷ []) (Command.Truncate 2) ≡ (Reply.Done, 233 ∷ []) }
-    ensures past { edit (233 ∷ []) (Command.Truncate 3) ≡ (Reply.BadPlace, 233 ∷ []) }
+    ensures inside { edit (233 ∷ []) (Command.Truncate 1) ≡ has_no_place }
+    ensures end { edit (233 ∷ []) (Command.Truncate 2) ≡ becomes (233 ∷ []) }
+    ensures past { edit (233 ∷ []) (Command.Truncate 3) ≡ has_no_place }
 {}
 
 /// A text can be truncated at 0.
 pub fn truncate_at_the_start()
-    ensures all { edit (codes "hi") (Command.Truncate 0) ≡ (Reply.Done, []) }
-    ensures empty { edit [] (Command.Truncate 0) ≡ (Reply.Done, []) }
+    ensures all { edit (codes "hi") (Command.Truncate 0) ≡ becomes [] }
+    ensures empty { edit [] (Command.Truncate 0) ≡ becomes [] }
 {}
 
 /// Of "hi" the i is taken off; of the empty text no character.
 pub fn pop_of_two_texts()
-    ensures last { edit (codes "hi") Command.Pop ≡ (Reply.Char 105, codes "h") }
-    ensures none { edit [] Command.Pop ≡ (Reply.NoChar, []) }
+    ensures last { edit (codes "hi") Command.Pop ≡ yields 105 (codes "h") }
+    ensures none { edit [] Command.Pop ≡ has_no_char }
 {}
 
 /// "bc" put at the end of "a" makes "abc".
 pub fn push_of_two_letters(string: &str)
     requires { string.now ≡ codes "bc" }
-    ensures { edit (codes "a") (Command.PushStr string.entry) ≡ (Reply.Done, codes "abc") }
+    ensures { edit (codes "a") (Command.PushStr string.entry) ≡ becomes (codes "abc") }
 {}
 
 /// The three bytes of € are one character.
 pub fn push_of_a_euro(string: &str)
     requires { string.now ≡ 226 ∷ 130 ∷ 172 ∷ [] }
-    ensures { edit (codes "a") (Command.PushStr string.entry) ≡ (Reply.Done, 97 ∷ 8364 ∷ []) }
+    ensures { edit (codes "a") (Command.PushStr string.entry) ≡ becomes (97 ∷ 8364 ∷ []) }
 {}
 
 /// The G clef put at the end of "a".
 pub fn push_of_a_clef()
-    ensures { edit (97 ∷ []) (Command.Push 119070) ≡ (Reply.Done, 97 ∷ 119070 ∷ []) }
+    ensures { edit (97 ∷ []) (Command.Push 119070) ≡ becomes (97 ∷ 119070 ∷ []) }
 {}
 
 /// Of "aé" the é is taken out at 1, and "a" is left; at 1, its end, no character begins.
 pub fn remove_of_the_last_character()
-    ensures last { edit (97 ∷ 233 ∷ []) (Command.Remove 1) ≡ (Reply.Char 233, 97 ∷ []) }
-    ensures end { edit (97 ∷ []) (Command.Remove 1) ≡ (Reply.BadPlace, 97 ∷ []) }
+    ensures last { edit (97 ∷ 233 ∷ []) (Command.Remove 1) ≡ yields 233 (97 ∷ []) }
+    ensures end { edit (97 ∷ []) (Command.Remove 1) ≡ has_no_place }
 {}
 
 /// € put into "aé" between its characters is taken out again at 1, but not at 2, inside it.
 pub fn euro_put_in_and_taken_out()
     ensures put_in { edit (97 ∷ 233 ∷ []) (Command.Insert 1 8364)
-        ≡ (Reply.Done, 97 ∷ 8364 ∷ 233 ∷ []) }
+        ≡ becomes (97 ∷ 8364 ∷ 233 ∷ []) }
     ensures inside { edit (97 ∷ 8364 ∷ 233 ∷ []) (Command.Remove 2)
-        ≡ (Reply.BadPlace, 97 ∷ 8364 ∷ 233 ∷ []) }
+        ≡ has_no_place }
     ensures taken_out { edit (97 ∷ 8364 ∷ 233 ∷ []) (Command.Remove 1)
-        ≡ (Reply.Char 8364, 97 ∷ 233 ∷ []) }
+        ≡ yields 8364 (97 ∷ 233 ∷ []) }
 {}
 
 /// Nothing is put into "é" at 1, which is inside it.
 pub fn insert_inside_a_character(string: &str)
-    ensures character { edit (233 ∷ []) (Command.Insert 1 120) ≡ (Reply.BadPlace, 233 ∷ []) }
+    ensures character { edit (233 ∷ []) (Command.Insert 1 120) ≡ has_no_place }
     ensures text { edit (233 ∷ []) (Command.InsertStr 1 string.entry)
-        ≡ (Reply.BadPlace, 233 ∷ []) }
+        ≡ has_no_place }
 {}
 
 /// "bar" put into "foo" at 2 makes "fobaro".
 pub fn insert_of_three_letters(string: &str)
     requires { string.now ≡ codes "bar" }
     ensures { edit (codes "foo") (Command.InsertStr 2 string.entry)
-        ≡ (Reply.Done, codes "fobaro") }
+        ≡ becomes (codes "fobaro") }
 {}
 
 /// Of any text nothing is left.
 pub fn clear_of_any_text()
-    ensures { (t : List ℕ) → edit t Command.Clear ≡ (Reply.Done, []) }
+    ensures { (t : List ℕ) → edit t Command.Clear ≡ becomes [] }
 {}
 
 /// The two bytes of "é" are replaced by two bytes that are UTF-8, and by no others: one byte is of
@@ -115,24 +135,24 @@ pub fn replace_of_two_bytes(one: &[u8], broken: &[u8], letters: &[u8])
     requires broken { broken.now ≡ 195 ∷ 97 ∷ [] }
     requires letters { letters.now ≡ codes "ab" }
     ensures wrong_length { edit (233 ∷ []) (Command.ReplaceBytes one.entry)
-        ≡ (Reply.WrongLength, 233 ∷ []) }
+        ≡ has_wrong_length }
     ensures not_utf8 { edit (233 ∷ []) (Command.ReplaceBytes broken.entry)
-        ≡ (Reply.NotUtf8, 233 ∷ []) }
+        ≡ is_not_utf8 }
     ensures done { edit (233 ∷ []) (Command.ReplaceBytes letters.entry)
-        ≡ (Reply.Done, codes "ab") }
+        ≡ becomes (codes "ab") }
 {}
 
 /// The bytes of "hello" in their opposite order make "olleh".
 pub fn replace_of_five_bytes(bytes: &[u8])
     requires { bytes.now ≡ 111 ∷ 108 ∷ 108 ∷ 101 ∷ 104 ∷ [] }
     ensures { edit (codes "hello") (Command.ReplaceBytes bytes.entry)
-        ≡ (Reply.Done, codes "olleh") }
+        ≡ becomes (codes "olleh") }
 {}
 
 /// Room is reserved and given back without a change of the text.
 pub fn room_leaves_the_text()
-    ensures reserve { (t : List ℕ) → (n : ℕ) → edit t (Command.Reserve n) ≡ (Reply.Done, t) }
+    ensures reserve { (t : List ℕ) → (n : ℕ) → edit t (Command.Reserve n) ≡ becomes t }
     ensures exact { (t : List ℕ) → (n : ℕ)
-        → edit t (Command.ReserveExact n) ≡ (Reply.Done, t) }
-    ensures shrink { (t : List ℕ) → edit t Command.ShrinkToFit ≡ (Reply.Done, t) }
+        → edit t (Command.ReserveExact n) ≡ becomes t }
+    ensures shrink { (t : List ℕ) → edit t Command.ShrinkToFit ≡ becomes t }
 {}

@@ -4,7 +4,7 @@ ghost use Rattle.std.specs.Prelude.{◌≡◌, ◌∷◌, [], List, ℕ, true, f
 ghost use Rattle.std.specs.Str.{chars};
 ghost use Rattle.inlinable_string.specs.Text.{size};
 ghost use Rattle.inlinable_string.specs.Run.{pushes, inserts, reserves, shrinks, nothing};
-ghost use Rattle.inlinable_string.specs.Laws.{replies_of, text_after_edits, ReservesWithin, StaysWithin, PushesWithin, is_refusal};
+ghost use Rattle.inlinable_string.specs.Laws.{replies_of, text_after_edits, ReservesWithin, LeavesWithin, StaysWithin, PushesWithin, is_refusal};
 ghost use Rattle.inline_model.specs.Worked.{four_edits};
 
 use inlinable_string::run::{Command, Reply};
@@ -35,6 +35,15 @@ pub fn other_needs_reserve_nothing()
     ensures insert { (t : List ℕ) → ReservesWithin 0 t (inserts 1) }
     ensures shrink { (t : List ℕ) → ReservesWithin 0 t shrinks }
     ensures other { (t : List ℕ) → ReservesWithin 0 t nothing }
+{}
+
+/// What a command leaves counts, and what it reserves beside the text before it.
+pub fn one_command_leaves_within()
+    ensures met { LeavesWithin 3 [] (Command.Push 8364) }
+    ensures missed { ¬ LeavesWithin 2 [] (Command.Push 8364) }
+    ensures cleared { (t : List ℕ) → LeavesWithin 0 t Command.Clear }
+    ensures reserved { (t : List ℕ) → size t ≡ 3 → LeavesWithin 30 t (Command.Reserve 27) }
+    ensures passed { (t : List ℕ) → size t ≡ 3 → ¬ LeavesWithin 30 t (Command.Reserve 28) }
 {}
 
 /// From the empty text 30 bytes at the end stay within 30.

@@ -1,7 +1,7 @@
 //! Where texts fall into parts, what stands between these, and the ends of texts.
 ghost use Rattle.std.specs.Prelude.{◌≡◌, ◌∷◌, [], List, ℕ, Some, None, codes};
 ghost use Rattle.inlinable_string.specs.Text.{bytes_of, IsCut, IsPlace, IsSplice, IsRemoval, with_first};
-ghost use Rattle.inlinable_string.specs.Edit.{before_last, last_off};
+ghost use Rattle.inlinable_string.specs.Edit.{split_last, with_char_in_front};
 
 /// The UTF-8 of "aé€" and of the G clef.
 pub fn bytes_of_each_width()
@@ -53,8 +53,8 @@ pub fn first_of_two_parts()
 
 /// "abc" is "ab" and then c; a character before no text is the last, and before another it is not.
 pub fn last_of_three_characters()
-    ensures three { last_off (codes "abc") ≡ Some (codes "ab", 99) }
-    ensures none { last_off [] ≡ None }
-    ensures before_none { before_last 97 None ≡ ([], 97) }
-    ensures before_some { before_last 97 (Some (codes "b", 99)) ≡ (codes "ab", 99) }
+    ensures three { split_last (codes "abc") ≡ Some (codes "ab", 99) }
+    ensures none { split_last [] ≡ None }
+    ensures before_none { with_char_in_front 97 None ≡ ([], 97) }
+    ensures before_some { with_char_in_front 97 (Some (codes "b", 99)) ≡ (codes "ab", 99) }
 {}
