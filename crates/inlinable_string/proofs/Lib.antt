@@ -1,4 +1,8 @@
 pub mod Text
+pub mod Units
+pub mod Subparts
+pub mod Table
+pub mod Makers
 pub mod Cut
 pub mod Edits
 pub mod Window

@@ -9,8 +9,10 @@ ghost use Rattle.inlinable_string.specs.State.{IsSameText};
 ghost use Rattle.inlinable_string.specs.Values.{inlinable_policy, inlinable_state};
 
 use crate::inline_string::{INLINE_STRING_CAPACITY, InlineStringN, ReplaceError};
-use crate::string_ext::{Storage, StringExt, StringMake};
+use crate::string_ext::{Storage, StringExt};
 use std::alloc::{AllocError, Global};
+
+mod makers;
 
 /// An [`InlinableStringN`] of 30 bytes inline, the capacity of the Rust crate.
 pub type InlinableString = InlinableStringN<INLINE_STRING_CAPACITY>;
@@ -248,21 +250,5 @@ impl<const N: usize> StringExt for InlinableStringN<N> {
             InlinableStringN::Heap(text, _) => StringExt::as_str(text),
             InlinableStringN::Inline(text, _) => text.as_str(),
         }
-    }
-}
-
-impl<const N: usize> StringMake for InlinableStringN<N> {
-    ghost policy = { inlinable_policy N };
-
-    fn new(alloc: Global) -> Self {
-        InlinableStringN::Inline(InlineStringN::new(), alloc)
-    }
-
-    fn with_capacity(alloc: Global, capacity: usize) -> Result<Self, AllocError> {
-        if capacity <= N {
-            return Ok(Self::new(alloc));
-        }
-        let heap = String::with_capacity(alloc, capacity)?;
-        Ok(InlinableStringN::Heap(heap, alloc))
     }
 }

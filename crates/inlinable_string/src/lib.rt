@@ -18,4 +18,4 @@ pub mod string_ext;
 pub use boxable_string::BoxableString;
 pub use inlinable_string::{InlinableString, InlinableStringN};
 pub use inline_string::{INLINE_STRING_CAPACITY, InlineString, InlineStringN};
-pub use string_ext::{Storage, StringExt, StringMake};
+pub use string_ext::{Storage, StringExt, StringMake, Utf16Error};

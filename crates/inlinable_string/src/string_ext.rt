@@ -1,14 +1,20 @@
 //! The traits of a text that can be edited: code over them is written once for `String`, for
 //! [`crate::InlinableStringN`] and for a type of one's own.
-ghost use Rattle.std.specs.Prelude.{◌≡◌, ℕ, ◌+◌, ◌≤◌, ◌<◌, ◌↔◌, List, ◌++◌, [], ◌∷◌, length, drop, IsTrue, OnOk, OnErr, IfOk, IsOk, Err, MatchOption, IsUtf8};
+ghost use Rattle.std.specs.Prelude.{◌≡◌, ℕ, ◌+◌, ◌≤◌, ◌<◌, ◌↔◌, List, ◌++◌, [], ◌∷◌, length, drop, IsTrue, OnOk, OnErr, IsOk, Err, MatchOption, IsUtf8};
 ghost use Rattle.std.specs.Str.{chars, IsCharBoundary};
 ghost use Rattle.inlinable_string.specs.Text.{bytes_of, size, IsCut, IsPlace, IsSplice, IsRemoval};
-ghost use Rattle.inlinable_string.specs.State.{TextState, Policy, IsLawful, IsSameText, HasRoom, HasInlineRoom, storage_with_room, storage_when_shrunk, storage_when_made};
+ghost use Rattle.inlinable_string.specs.State.{TextState, IsLawful, IsSameText, HasRoom, HasInlineRoom, storage_with_room, storage_when_shrunk};
 
 use crate::inline_string::ReplaceError;
 use std::alloc::{AllocError, Global};
 
+pub mod laws;
+mod make;
 mod std_string;
+mod utf16;
+mod utf8;
+
+pub use make::{StringMake, Utf16Error};
 
 /// Where the bytes of a text lie.
 #[derive(Clone, Copy, Debug, PartialEq, Eq)]
@@ -242,26 +248,4 @@ pub trait StringExt {
         ensures bytes { result.now ≡ bytes_of (state self.now).text }
         ensures text { chars result.now ≡ (state self.now).text }
         ensures places { (p : ℕ) → IsCharBoundary result.now p ↔ IsPlace (state self.now).text p };
-}
-
-/// A type that makes texts that can be edited.
-pub trait StringMake: StringExt {
-    /// The policy of each text that is made.
-    ghost policy: { Policy };
-
-    /// The empty text. It takes no memory.
-    fn new(alloc: Global) -> Self
-        ensures text { (Self.state result).text ≡ [] }
-        ensures storage { (Self.state result).storage ≡ storage_when_made policy 0 }
-        ensures policy { (Self.state result).policy ≡ policy };
-
-    /// The empty text, with room for `capacity` bytes. Where these would lie inline it takes no
-    /// memory and is not refused.
-    fn with_capacity(alloc: Global, capacity: usize) -> Result<Self, AllocError>
-        ensures text { IfOk result (λ made. (Self.state made).text ≡ []) }
-        ensures room { IfOk result (λ made. capacity ≤ (Self.state made).capacity) }
-        ensures storage { IfOk result
-            (λ made. (Self.state made).storage ≡ storage_when_made policy capacity) }
-        ensures granted { IsTrue policy.demotes → capacity ≤ policy.limit → IsOk result }
-        ensures policy { IfOk result (λ made. (Self.state made).policy ≡ policy) };
 }

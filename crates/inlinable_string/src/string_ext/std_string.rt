@@ -5,6 +5,7 @@ use super::{Storage, StringExt, StringMake};
 use crate::inline_string::ReplaceError;
 use std::alloc::{AllocError, Global};
 use std::str;
+use std::string::FromUtf8Error;
 
 impl StringExt for String {
     ghost state = { string_state };
@@ -93,5 +94,17 @@ impl StringMake for String {
 
     fn with_capacity(alloc: Global, capacity: usize) -> Result<Self, AllocError> {
         String::with_capacity(alloc, capacity)
+    }
+
+    fn from_utf8(_alloc: Global, vec: Vec<u8>) -> Result<Self, FromUtf8Error> {
+        String::from_utf8(vec)
+    }
+
+    unsafe fn from_utf8_unchecked(_alloc: Global, bytes: Vec<u8>) -> Self {
+        unsafe { String::from_utf8_unchecked(bytes) }
+    }
+
+    fn into_bytes(self) -> Result<Vec<u8>, Self> {
+        Ok(self.into_bytes())
     }
 }

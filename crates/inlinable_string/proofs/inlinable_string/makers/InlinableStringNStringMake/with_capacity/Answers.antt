@@ -1,7 +1,7 @@
 use Rattle.std.proofs.Common.{◌∙◌, ap}
 use Rattle.std.proofs.lemmas.Str.{chars-nil}
 use Rattle.std.specs.Str.{chars}
-use Rattle.inlinable_string.proofs.inlinable_string.InlinableStringNStringMake.with_capacity.Goals as goal
+use Rattle.inlinable_string.proofs.inlinable_string.makers.InlinableStringNStringMake.with_capacity.Goals as goal
 
 pub returns-clause-text : goal.returns-clause-text
 returns-clause-text g c = ap chars c.in_ok-heap.ensures.bytes ∙ chars-nil

@@ -1,0 +1,5 @@
+use Rattle.inlinable_string.proofs.Makers.{bytes_made}
+use Rattle.inlinable_string.proofs.inlinable_string.makers.InlinableStringNStringMake.from_utf8_unchecked.Goals as goal
+
+pub returns-clause-text : goal.returns-clause-text
+returns-clause-text g c = bytes_made c.from_utf8_unchecked-heap.result c.args.bytes c.from_utf8_unchecked-heap.ensures.value

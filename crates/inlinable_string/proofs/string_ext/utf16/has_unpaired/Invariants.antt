@@ -1,0 +1,6 @@
+use Rattle.std.proofs.Common.{◌≡◌, ◌<◌, ℕ, false}
+use Rattle.inlinable_string.specs.Utf16.{is_unpaired}
+use Rattle.inlinable_string.proofs.string_ext.utf16.has_unpaired.Given as goal
+
+abbrev pub invariant-loop-i : goal.invariant-loop-i
+invariant-loop-i l = (j : ℕ) → j < l.i → is_unpaired l.units j ≡ false

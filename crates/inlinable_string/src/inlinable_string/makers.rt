@@ -1,0 +1,104 @@
+//! Texts that lie inline where they fit, and texts that take over what lies on the heap.
+ghost use Rattle.std.specs.Prelude.{◌≡◌, ◌≤◌, [], length, IfOk, IsOk};
+ghost use Rattle.std.specs.Str.{chars};
+ghost use Rattle.std.specs.String.{string_bytes};
+ghost use Rattle.inlinable_string.specs.State.{storage_when_made};
+ghost use Rattle.inlinable_string.specs.Values.{inlinable_policy, inlinable_state};
+
+use super::InlinableStringN;
+use crate::inline_string::InlineStringN;
+use crate::string_ext::{Storage, StringMake};
+use std::alloc::{AllocError, Global};
+use std::string::FromUtf8Error;
+
+impl<const N: usize> InlinableStringN<N> {
+    /// The text of `string`, inline where it has at most `N` bytes: then it takes no memory, and is
+    /// not refused.
+    pub fn from(alloc: Global, string: &str) -> Result<Self, AllocError>
+        ensures text { IfOk result (λ made. (inlinable_state N made).text ≡ chars string.now) }
+        ensures storage { IfOk result (λ made. (inlinable_state N made).storage
+            ≡ storage_when_made (inlinable_policy N) (length string.now)) }
+        ensures policy { IfOk result (λ made. (inlinable_state N made).policy ≡ inlinable_policy N) }
+        ensures granted { length string.now ≤ N → IsOk result }
+    {
+        if string.len() <= N {
+            let inline = InlineStringN::from(string);
+            return Ok(InlinableStringN::Inline(inline, alloc));
+        }
+        let heap = String::from_str(alloc, string)?;
+        Ok(InlinableStringN::Heap(heap, alloc))
+    }
+
+    /// The same as [`InlinableStringN::from`].
+    pub fn from_str(alloc: Global, s: &str) -> Result<Self, AllocError>
+        ensures text { IfOk result (λ made. (inlinable_state N made).text ≡ chars s.now) }
+        ensures storage { IfOk result (λ made. (inlinable_state N made).storage
+            ≡ storage_when_made (inlinable_policy N) (length s.now)) }
+        ensures policy { IfOk result (λ made. (inlinable_state N made).policy ≡ inlinable_policy N) }
+        ensures granted { length s.now ≤ N → IsOk result }
+    {
+        Self::from(alloc, s)
+    }
+
+    /// The text of `string`, inline where it has at most `N` bytes; else it is kept as it is. It
+    /// takes no memory.
+    pub fn from_string(alloc: Global, string: String) -> Self
+        ensures text { (inlinable_state N result).text ≡ chars (string_bytes string) }
+        ensures storage { (inlinable_state N result).storage
+            ≡ storage_when_made (inlinable_policy N) (length (string_bytes string)) }
+        ensures policy { (inlinable_state N result).policy ≡ inlinable_policy N }
+    {
+        if string.len() <= N {
+            let inline = InlineStringN::from(string.as_str());
+            return InlinableStringN::Inline(inline, alloc);
+        }
+        InlinableStringN::Heap(string, alloc)
+    }
+
+    /// The empty text, inline. It takes no memory.
+    pub fn default(alloc: Global) -> Self
+        ensures text { (inlinable_state N result).text ≡ [] }
+        ensures storage { (inlinable_state N result).storage ≡ Storage.Inline }
+        ensures policy { (inlinable_state N result).policy ≡ inlinable_policy N }
+    {
+        Self::new(alloc)
+    }
+}
+
+impl<const N: usize> StringMake for InlinableStringN<N> {
+    ghost policy = { inlinable_policy N };
+
+    fn new(alloc: Global) -> Self {
+        InlinableStringN::Inline(InlineStringN::new(), alloc)
+    }
+
+    fn with_capacity(alloc: Global, capacity: usize) -> Result<Self, AllocError> {
+        if capacity <= N {
+            return Ok(Self::new(alloc));
+        }
+        let heap = String::with_capacity(alloc, capacity)?;
+        Ok(InlinableStringN::Heap(heap, alloc))
+    }
+
+    fn from_utf8(alloc: Global, vec: Vec<u8>) -> Result<Self, FromUtf8Error> {
+        let heap = String::from_utf8(vec)?;
+        Ok(InlinableStringN::Heap(heap, alloc))
+    }
+
+    unsafe fn from_utf8_unchecked(alloc: Global, bytes: Vec<u8>) -> Self {
+        let heap = unsafe { String::from_utf8_unchecked(bytes) };
+        InlinableStringN::Heap(heap, alloc)
+    }
+
+    fn into_bytes(self) -> Result<Vec<u8>, Self> {
+        match self {
+            InlinableStringN::Heap(text, _) => Ok(text.into_bytes()),
+            InlinableStringN::Inline(text, alloc) => {
+                match Vec::from_slice(alloc, text.as_bytes()) {
+                    Ok(bytes) => Ok(bytes),
+                    Err(_) => Err(InlinableStringN::Inline(text, alloc)),
+                }
+            }
+        }
+    }
+}

@@ -1,0 +1,118 @@
+//! UTF-16 read as text: each unit by itself and its two neighbours.
+ghost use Rattle.std.specs.Prelude.{◌≡◌, ◌<◌, ◌≤◌, ◌^◌, ◌↔◌, [], ◌∷◌, length, IfOk, IsTrue, MatchOption};
+ghost use Rattle.std.specs.Char.Utf16.{is_high_surrogate, is_low_surrogate, surrogate_pair_char};
+ghost use Rattle.std.specs.Str.{chars};
+ghost use Rattle.std.specs.String.{string_bytes};
+ghost use Rattle.inlinable_string.specs.Text.{size};
+ghost use Rattle.inlinable_string.specs.Utf16.{is_unpaired, HasUnpaired, lossy_unit, lossy_utf16};
+
+use std::alloc::{AllocError, Global};
+
+/// Whether some unit is a surrogate without its partner.
+pub(super) fn has_unpaired(units: &[u16]) -> bool
+    ensures { IsTrue result ↔ HasUnpaired units.now }
+{
+    for i in 0..units.len() {
+        if is_unpaired(units, i) {
+            return true;
+        }
+    }
+    false
+}
+
+/// The text of the units, with U+FFFD for each that is unpaired. Memory is asked for once, for the
+/// exact size; a size past `usize::MAX` is want of memory.
+pub(super) fn lossy(alloc: Global, units: &[u16]) -> Result<String, AllocError>
+    ensures { IfOk result (λ made. chars (string_bytes made) ≡ lossy_utf16 units.now) }
+{
+    let Some(len) = lossy_len(units) else {
+        return Err(AllocError);
+    };
+    let mut made = String::with_capacity(alloc, len)?;
+    for i in 0..units.len() {
+        if let Some(ch) = char_at(units, i) {
+            made.push(ch)?;
+        }
+    }
+    Ok(made)
+}
+
+/// How many bytes that text has; `None` past `usize::MAX`.
+fn lossy_len(units: &[u16]) -> Option<usize>
+    ensures { MatchOption result
+        (2 ^ 64 ≤ size (lossy_utf16 units.now)) (λ len. len ≡ size (lossy_utf16 units.now)) }
+{
+    let mut len: usize = 0;
+    for i in 0..units.len() {
+        if let Some(ch) = char_at(units, i) {
+            len = len.checked_add(ch.len_utf8())?;
+        }
+    }
+    Some(len)
+}
+
+/// What the unit at `i` gives: a pair's character stands at its high surrogate, and nothing at its
+/// low one.
+fn char_at(units: &[u16], i: usize) -> Option<char>
+    requires { i < length units.now }
+    ensures { MatchOption result
+        (lossy_unit units.now i ≡ []) (λ ch. lossy_unit units.now i ≡ ch ∷ []) }
+{
+    let unit = units[i];
+    // The usual case first: no neighbour is looked at.
+    if !is_high(unit) && !is_low(unit) {
+        return Some(unit_char(unit));
+    }
+    if is_unpaired(units, i) {
+        return Some(char::REPLACEMENT_CHARACTER);
+    }
+    if is_high(unit) {
+        return Some(pair_char(unit, units[i + 1]));
+    }
+    None
+}
+
+/// Whether the unit at `i` is a surrogate without its partner.
+fn is_unpaired(units: &[u16], i: usize) -> bool
+    requires { i < length units.now }
+    ensures { result ≡ is_unpaired units.now i }
+{
+    if is_high(units[i]) {
+        units.len() - i < 2 || !is_low(units[i + 1])
+    } else {
+        is_low(units[i]) && (i == 0 || !is_high(units[i - 1]))
+    }
+}
+
+/// Whether a unit is the first of a pair.
+fn is_high(unit: u16) -> bool
+    ensures { result ≡ is_high_surrogate unit }
+{
+    0xD800 <= unit && unit < 0xDC00
+}
+
+/// Whether a unit is the second of a pair.
+fn is_low(unit: u16) -> bool
+    ensures { result ≡ is_low_surrogate unit }
+{
+    0xDC00 <= unit && unit < 0xE000
+}
+
+/// The character of a pair.
+fn pair_char(high: u16, low: u16) -> char
+    requires high { IsTrue (is_high_surrogate high) }
+    requires low { IsTrue (is_low_surrogate low) }
+    ensures { result ≡ surrogate_pair_char high low }
+{
+    let code = 0x1_0000 + (high as u32 - 0xD800) * 0x400 + (low as u32 - 0xDC00);
+    unsafe { char::from_u32_unchecked(code) }
+}
+
+/// The character of a unit that is no surrogate.
+fn unit_char(unit: u16) -> char
+    requires high { ¬ IsTrue (is_high_surrogate unit) }
+    requires low { ¬ IsTrue (is_low_surrogate unit) }
+    ensures { result ≡ unit }
+{
+    unsafe { char::from_u32_unchecked(unit as u32) }
+}
