@@ -229,3 +229,78 @@ text_is_paired (c ∷ t) s i =
     (λ h. ap (λ u. is_unpaired (u ++ units_of t) i) (one_unit c h) ∙ one_is_paired c (units_of t) n.0 n.1 rest i)
     (λ h. ap (λ u. is_unpaired (u ++ units_of t) i) (two_units c h) ∙ pair_is_paired _ _ (units_of t) (first_is_high c h (scalar_below c p.0)) (second_is_low c) rest i)
     (cases_lt c 0x1_0000)
+
+-- a text's units are read as the text
+abbrev given : Bool → Bool → Bool → ℕ → ℕ → List ℕ
+given unpaired high low u next =
+    if unpaired then 0xFFFD ∷ []
+    else (if high then surrogate_pair_char u next ∷ []
+    else (if low then [] else u ∷ []))
+
+next_behind : (u : ℕ) (v : List ℕ) (n : ℕ) → slice_index (u ∷ v) (suc n + 1) ≡ slice_index v (n + 1)
+next_behind u v n =
+    ap (slice_index (u ∷ v)) (add-one (suc n)) ∙ sym (ap (slice_index v) (add-one n))
+
+-- behind a unit that is not high, units give what they give by themselves
+behind_one : (u : ℕ) (v : List ℕ) (n : ℕ) → is_high_surrogate u ≡ false
+    → lossy_unit (u ∷ v) (suc n) ≡ lossy_unit v n
+behind_one u v n h i =
+    given (past_first u v n h i) (is_high_at v n) (is_low_at v n) (slice_index v n) (next_behind u v n i)
+
+-- so they do behind a pair
+behind_pair : (h l : ℕ) (v : List ℕ) (n : ℕ) → is_high_surrogate l ≡ false
+    → lossy_unit (h ∷ l ∷ v) (suc (suc n)) ≡ lossy_unit v n
+behind_pair h l v n not_high =
+    let paired : is_unpaired (h ∷ l ∷ v) (suc (suc n)) ≡ is_unpaired (l ∷ v) (suc n) =
+    by_next (h ∷ l ∷ v) (suc (suc n)) ∙ sym (by_next (l ∷ v) (suc n)) in
+    let same : lossy_unit (h ∷ l ∷ v) (suc (suc n)) ≡ lossy_unit (l ∷ v) (suc n) =
+    λ i. given (paired i) (is_high_at v n) (is_low_at v n) (slice_index v n) (next_behind h (l ∷ v) (suc n) i) in
+    same ∙ behind_one l v n not_high
+
+-- what the first units give is followed by what those behind them give
+read_behind : (w v x : List ℕ) (at : ℕ → ℕ) → lossy_utf16_before w (at 0) ≡ x
+    → ((n : ℕ) → lossy_utf16_before w (at (suc n)) ≡ lossy_utf16_before w (at n) ++ lossy_unit v n)
+    → (n : ℕ) → lossy_utf16_before w (at n) ≡ x ++ lossy_utf16_before v n
+read_behind w v x at first more zero = first ∙ sym (append-nil x)
+read_behind w v x at first more (suc n) =
+    more n
+    ∙ ap (λ y. y ++ lossy_unit v n) (read_behind w v x at first more n)
+    ∙ append_assoc x (lossy_utf16_before v n) (lossy_unit v n)
+
+one_is_read : (u : ℕ) (v : List ℕ) → is_high_surrogate u ≡ false → is_low_surrogate u ≡ false
+    → lossy_utf16 (u ∷ v) ≡ u ∷ lossy_utf16 v
+one_is_read u v h l =
+    let first : lossy_utf16_before (u ∷ v) 1 ≡ u ∷ [] = gives_itself (u ∷ v) 0 (rw (h, l) refl) h l in
+    read_behind (u ∷ v) v (u ∷ []) suc first (λ n. ap (λ y. lossy_utf16_before (u ∷ v) (suc n) ++ y) (behind_one u v n h)) (length v)
+
+pair_is_read : (h l : ℕ) (v : List ℕ) → is_high_surrogate h ≡ true → is_low_surrogate l ≡ true
+    → lossy_utf16 (h ∷ l ∷ v) ≡ surrogate_pair_char h l ∷ lossy_utf16 v
+pair_is_read h l v p q =
+    let w = h ∷ l ∷ v in
+    let not_high : is_high_surrogate l ≡ false = low_is_not_high l q in
+    let high : lossy_unit w 0 ≡ surrogate_pair_char h l ∷ [] =
+    gives_pair w 0 (rw (p, q, high_is_not_low h p) refl) p in
+    let low : lossy_unit w 1 ≡ [] = gives_none w 1 (rw (p, q, not_high) refl) not_high q in
+    let first : lossy_utf16_before w 2 ≡ surrogate_pair_char h l ∷ [] = λ i. high i ++ low i in
+    read_behind w v (surrogate_pair_char h l ∷ []) (λ n. suc (suc n)) first (λ n. ap (λ y. lossy_utf16_before w (suc (suc n)) ++ y) (behind_pair h l v n not_high)) (length v)
+
+pair_of : (c : ℕ) → 0x1_0000 ≤ c
+    → surrogate_pair_char (0xD800 + (c - 0x1_0000) / 0x400) (0xDC00 + (c - 0x1_0000) % 0x400) ≡ c
+pair_of c h = omega (arith, h)
+
+pub text_is_read : (t : List ℕ) → all_scalars t ≡ true → lossy_utf16 (units_of t) ≡ t
+text_is_read [] s = refl
+text_is_read (c ∷ t) s =
+    let p = and_parts _ _ s in
+    let n = scalar_is_no_surrogate c p.0 in
+    let rest = text_is_read t p.1 in
+    ⊎_elim
+    (λ h.
+    ap (λ u. lossy_utf16 (u ++ units_of t)) (one_unit c h)
+    ∙ one_is_read c (units_of t) n.0 n.1
+    ∙ ap (λ r. c ∷ r) rest)
+    (λ h.
+    ap (λ u. lossy_utf16 (u ++ units_of t)) (two_units c h)
+    ∙ pair_is_read _ _ (units_of t) (first_is_high c h (scalar_below c p.0)) (second_is_low c)
+    ∙ (λ i. pair_of c h i ∷ rest i))
+    (cases_lt c 0x1_0000)

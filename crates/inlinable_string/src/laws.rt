@@ -7,6 +7,8 @@ ghost use Rattle.inlinable_string.specs.Text.{bytes_of, size, cut, IsCut, IsPlac
 use crate::inline_string::{InlineStringN, NotEnoughSpaceError, ReplaceError};
 use std::fmt;
 
+pub mod conversions;
+
 /// A place is at most the length, and a boundary of the bytes.
 pub fn places_are_boundaries()
     ensures within { (t : List ℕ) (p : ℕ) → IsPlace t p → p ≤ size t }

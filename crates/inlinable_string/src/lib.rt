@@ -9,6 +9,7 @@
 
 mod boxable_string;
 mod cells;
+mod conversions;
 mod inlinable_string;
 pub mod inline_string;
 pub mod laws;

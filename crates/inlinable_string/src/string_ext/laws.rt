@@ -1,10 +1,15 @@
-//! Laws over the definitions of UTF-16 and of lossy reading. No function here does anything: its
-//! contract is the law.
-ghost use Rattle.std.specs.Prelude.{◌≡◌, ℕ, ◌<◌, ◌≤◌, ◌^◌, List, ◌++◌, ◌∷◌, length, take, drop, IsTrue, IsUtf8, All};
+//! Laws of UTF-16, of lossy reading and of what `into_bytes` gives, for callers: a call of one,
+//! which does nothing, makes its clauses known to the proof of the function that calls it.
+ghost use Rattle.std.specs.Prelude.{◌≡◌, ◌↔◌, ℕ, ◌<◌, ◌≤◌, ◌^◌, List, ◌++◌, ◌∷◌, length, take, drop, true, Some, codes, IsUtf8, All};
 ghost use Rattle.std.specs.Char.{IsScalar, encode_utf8};
 ghost use Rattle.std.specs.Str.{chars, all_scalars, StartsWithNoChar};
 ghost use Rattle.inlinable_string.specs.Utf16.{units_of, HasUnpaired, lossy_utf16};
 ghost use Rattle.inlinable_string.specs.Lossy.{subpart_len, lossy_utf8};
+ghost use Rattle.inlinable_string.specs.Text.{bytes_of};
+
+use super::Utf16Error;
+use std::alloc::AllocError;
+use std::fmt;
 
 /// Units of which none is unpaired are those of the text that they are read as.
 pub fn paired_units_are_a_text()
@@ -14,7 +19,7 @@ pub fn paired_units_are_a_text()
 
 /// Where one is unpaired, no text has these units.
 pub fn units_of_a_text_are_paired()
-    ensures { (t : List ℕ) → IsTrue (all_scalars t) → ¬ (HasUnpaired (units_of t)) }
+    ensures { (t : List ℕ) → all_scalars t ≡ true → ¬ (HasUnpaired (units_of t)) }
 {}
 
 /// Where a character begins, it is read, and what follows it by itself.
@@ -50,4 +55,33 @@ pub fn no_longer_front_begins_a_character()
 /// UTF-8 is read as the text that it is.
 pub fn utf8_is_read_as_it_is()
     ensures { (bs : List ℕ) → IsUtf8 bs → lossy_utf8 bs ≡ chars bs }
+{}
+
+/// The UTF-16 of a text is read as that text: so no other text has these units.
+pub fn utf16_is_read_as_it_is()
+    ensures read { (t : List ℕ) → all_scalars t ≡ true → lossy_utf16 (units_of t) ≡ t }
+    ensures told { (t u : List ℕ) → all_scalars t ≡ true → all_scalars u ≡ true
+        → units_of t ≡ units_of u → t ≡ u }
+{}
+
+/// The bytes of a text are UTF-8, and a text that has them is that text: so `from_utf8` of what
+/// `into_bytes` gave is not refused, and is the same text.
+pub fn bytes_give_the_text_back()
+    ensures utf8 { (t bs : List ℕ) → all_scalars t ≡ true → bs ≡ bytes_of t → IsUtf8 bs }
+    ensures text { (t u bs : List ℕ) → all_scalars t ≡ true → bs ≡ bytes_of t → bytes_of u ≡ bs
+        → u ≡ t }
+{}
+
+/// What [`Utf16Error`] prints.
+pub fn utf16_errors_print_their_reason()
+    ensures unpaired { ⟦<Utf16Error as fmt::Display>⟧.output Utf16Error.Unpaired
+        ≡ Some (codes "a surrogate is unpaired") }
+    ensures no_memory { ⟦<Utf16Error as fmt::Display>⟧.output Utf16Error.NoMemory
+        ≡ Some (codes "there is no memory") }
+{}
+
+/// Want of memory, passed on by `?`, is [`Utf16Error::NoMemory`].
+pub fn want_of_memory_is_no_memory()
+    ensures { (want : AllocError) (error : Utf16Error)
+        → ⟦<Utf16Error as From<AllocError>>⟧.from_gives want error ↔ (error ≡ Utf16Error.NoMemory) }
 {}

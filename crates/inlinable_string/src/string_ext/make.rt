@@ -110,6 +110,7 @@ pub trait StringMake: StringExt {
     /// Memory is asked for once, for the exact size. The text lies on the heap, however short.
     fn from_utf16(alloc: Global, v: &[u16]) -> Result<Self, Utf16Error>
         ensures text { IfOk result (λ made. units_of (Self.state made).text ≡ v.now) }
+        ensures read { IfOk result (λ made. (Self.state made).text ≡ lossy_utf16 v.now) }
         ensures unpaired { (result ≡ Err Utf16Error.Unpaired) ↔ HasUnpaired v.now }
         ensures storage { IfOk result (λ made. (Self.state made).storage ≡ Storage.Heap) }
         ensures policy { IfOk result (λ made. (Self.state made).policy ≡ policy) }

@@ -13,3 +13,8 @@ returns-clause-text g c =
     let paired = all_paired v (λ some. let h = c.has_unpaired.ensures.1 some in cc) in
     ap units_of (text_made _ c.in_ok-read.read c.into_bytes.result c.into_bytes.ensures.value c.from_utf8_unchecked.ensures.text ∙ c.in_ok-read.ensures)
     ∙ units-lossy v paired (λ i. let fits = c.type_inv.v i in omega arith)
+
+pub returns-clause-read : goal.returns-clause-read
+returns-clause-read g c =
+    text_made _ c.in_ok-read.read c.into_bytes.result c.into_bytes.ensures.value c.from_utf8_unchecked.ensures.text
+    ∙ c.in_ok-read.ensures

@@ -1,0 +1,83 @@
+//! Conversions that need no allocator, under the names that std's traits give them.
+ghost use Rattle.std.specs.Prelude.{◌≡◌, ◌≤◌, ◌<◌, [], ◌∷◌, length, MatchResult};
+ghost use Rattle.std.specs.Str.{chars};
+ghost use Rattle.inlinable_string.specs.Text.{size};
+ghost use Rattle.inlinable_string.specs.Values.{inlinable_state};
+
+use crate::boxable_string::BoxableString;
+use crate::inlinable_string::{InlinableString, InlinableStringN};
+use crate::inline_string::{InlineStringN, NotEnoughSpaceError};
+use crate::string_ext::StringExt;
+use std::str::FromStr;
+
+/// Fails exactly where the text has more than `N` bytes.
+impl<const N: usize> FromStr for InlineStringN<N> {
+    type Err = NotEnoughSpaceError;
+
+    ghost from_str_gives = { λ bytes result. MatchResult result
+        (λ made. (made ≡ chars bytes) × (length bytes ≤ N)) (λ _. N < length bytes) };
+
+    fn from_str(s: &str) -> Result<Self, NotEnoughSpaceError> {
+        if N < s.len() {
+            return Err(NotEnoughSpaceError);
+        }
+        Ok(Self::from(s))
+    }
+}
+
+/// Fails exactly where the text has more than `N` bytes.
+impl<const N: usize> TryFrom<&str> for InlineStringN<N> {
+    type Error = NotEnoughSpaceError;
+
+    ghost try_from_gives = { λ string result. MatchResult result
+        (λ made. (made ≡ chars string.now) × (length string.now ≤ N))
+        (λ _. N < length string.now) };
+
+    fn try_from(string: &str) -> Result<Self, NotEnoughSpaceError> {
+        if N < string.len() {
+            return Err(NotEnoughSpaceError);
+        }
+        Ok(Self::from(string))
+    }
+}
+
+/// Fails exactly where the character has more than `N` bytes.
+impl<const N: usize> TryFrom<char> for InlineStringN<N> {
+    type Error = NotEnoughSpaceError;
+
+    ghost try_from_gives = { λ ch result. MatchResult result
+        (λ made. (made ≡ ch ∷ []) × (size (ch ∷ []) ≤ N)) (λ _. N < size (ch ∷ [])) };
+
+    fn try_from(ch: char) -> Result<Self, NotEnoughSpaceError> {
+        let mut made = Self::new();
+        made.push(ch)?;
+        Ok(made)
+    }
+}
+
+/// The text, wherever it lies. Fails exactly where it has more than `N` bytes, and then hands it
+/// back.
+impl<const N: usize> TryFrom<InlinableStringN<N>> for InlineStringN<N> {
+    type Error = InlinableStringN<N>;
+
+    ghost try_from_gives = { λ text result. MatchResult result
+        (λ made. (made ≡ (inlinable_state N text).text)
+        × (size (inlinable_state N text).text ≤ N))
+        (λ back. (back ≡ text) × (N < size (inlinable_state N text).text)) };
+
+    fn try_from(text: InlinableStringN<N>) -> Result<Self, InlinableStringN<N>> {
+        if N < text.len() {
+            return Err(text);
+        }
+        Ok(Self::from(text.as_str()))
+    }
+}
+
+/// The same text, where it lies: it takes no memory.
+impl From<InlinableString> for BoxableString {
+    ghost from_gives = { λ text made. made.0 ≡ text };
+
+    fn from(text: InlinableString) -> Self {
+        BoxableString(text)
+    }
+}
