@@ -4,6 +4,7 @@
 
 pub mod cells;
 pub mod edits;
+pub mod encodings;
 pub mod laws;
 pub mod needs;
 pub mod places;

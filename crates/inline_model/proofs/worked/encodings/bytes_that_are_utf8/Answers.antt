@@ -1,0 +1,12 @@
+use Rattle.std.proofs.Common.{refl}
+use Rattle.std.specs.Str.{chars, is_utf8}
+use lib.Utf8.{encode}
+use Rattle.inline_model.proofs.worked.encodings.bytes_that_are_utf8.Goals as goal
+
+pub returns : goal.returns
+unfolding is_utf8 chars encode
+returns c = record {
+  none = refl;
+  he = refl;
+  each_width = refl;
+}
