@@ -10,16 +10,14 @@ use Rattle.inlinable_string.specs.Text.{bytes_of, size, IsCut, IsPlace, cut, wit
 use Rattle.inlinable_string.specs.Edit.{split_last}
 use Rattle.inlinable_string.proofs.Text.{holds, boundary, cut_at}
 
-encode_positive : (c : ℕ) → 0 < length (encode_utf8 c)
-encode_positive c = omega (arith, length-encode c, len_utf8_bounds c)
-
 pub cut_joined : (a b : List ℕ) → cut (a ++ b) (size a) ≡ Some (a, b)
 cut_joined [] [] = refl
 cut_joined [] (c ∷ t) = refl
 cut_joined (c ∷ a) b =
     let first = encode_utf8 c in
     let n : size (c ∷ a) ≡ length first + size a = length-append first (bytes_of a) in
-    let some : nat_eq (size (c ∷ a)) 0 ≡ false = grind (arith, nat_tests, n, encode_positive c) in
+    let positive : 0 < length first = omega (arith, length-encode c, len_utf8_bounds c) in
+    let some : nat_eq (size (c ∷ a)) 0 ≡ false = grind (arith, nat_tests, n, positive) in
     let long : nat_lt (size (c ∷ a)) (length first) ≡ false = grind (arith, nat_tests, n) in
     let rest : size (c ∷ a) - length first ≡ size a = omega (arith, n) in
     rw (some, long, rest, cut_joined a b)
@@ -81,10 +79,6 @@ pub not_from_test : {P : Type 0} (b : Bool) → (IsTrue b ↔ P) → b ≡ false
 not_from_test b test failed at = let passed : b ≡ true = test.1 at in cc
 
 module _ (t bs : List ℕ) (u : IsUtf8 bs) (e : bs ≡ bytes_of t) where
-  -- bytes that are those of a text
-  pub chars_are : chars bs ≡ t
-  chars_are = (holds u e).shown
-
   -- the test of the bytes is that of the characters
   pub places_are : (p : ℕ) → IsCharBoundary bs p ↔ IsPlace t p
   places_are p = (λ at. (_, _, cut_at (holds u e) p at), boundary (holds u e))

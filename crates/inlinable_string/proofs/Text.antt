@@ -139,15 +139,11 @@ pub size-pushed : (t u v : List ℕ) → v ≡ t ++ u → size v ≡ size t + si
 size-pushed t u v e = ap size e ∙ size-append t u
 
 pub size-spliced : {t u v : List ℕ} {p : ℕ} → IsSplice t p u v → size v ≡ size t + size u
-size-spliced {t} {u} s =
-    let before = ap size s.cut.joined ∙ size-append s.front s.back in
-    let after = ap size s.joined ∙ size-append (s.front ++ u) s.back in
-    omega (arith, before, after, size-append s.front u)
+size-spliced s = rw (s.joined, s.cut.joined) (simp size-append (omega arith))
 
 pub size-removed : {t v : List ℕ} {p c : ℕ} → IsRemoval t p c v → size v + size (c ∷ []) ≡ size t
 size-removed {c = c} r =
-    let before = ap size r.cut.joined ∙ size-append r.front (c ∷ r.back) in
-    omega (arith, before, ap size r.joined, size-append r.front r.back, size-append (c ∷ []) r.back)
+    rw (r.joined, r.cut.joined) (simp size-append (omega (arith, size-append (c ∷ []) r.back)))
 
 -- where places are
 pub place_within : (t : List ℕ) (p : ℕ) → IsPlace t p → p ≤ size t
