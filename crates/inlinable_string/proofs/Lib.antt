@@ -10,10 +10,12 @@ pub mod Lawful
 pub mod Steps
 pub mod Runs
 pub mod Each
-pub mod Joined
-pub mod Turns
-pub mod Determined
-pub mod Free
+pub mod RunsJoined
+pub mod RepliesInTurn
+pub mod RefusalsDecide
+pub mod FreeCommands
+pub mod ReservedPushes
+pub mod ShortRuns
 pub mod Unrefused
-pub mod Followed
+pub mod SecondRun
 pub mod Places

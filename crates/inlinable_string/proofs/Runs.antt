@@ -10,7 +10,7 @@ use Rattle.inlinable_string.specs.declared.run.Command.{Command}
 use Rattle.inlinable_string.specs.declared.run.Reply.{Reply}
 
 -- the commands so far
-pub record Ran (old : TextState) (commands : List Command) (replies : List Reply) (new : TextState) : Type 0 where
+pub record IsRunSoFar (old : TextState) (commands : List Command) (replies : List Reply) (new : TextState) : Type 0 where
   pub legal : LegalReplies old commands replies
   pub next : Covers (state_after old commands replies) new
 
@@ -49,14 +49,14 @@ covered : (s value : TextState) → Covers s value → record value { capacity =
 covered s value h = rw (h.text, h.storage, h.policy) refl
 
 -- the start of a run
-pub ran_none : (s : TextState) → Ran s [] [] s
-ran_none s = record { legal = tt; next = record { text = refl; storage = refl; room = omega arith; policy = refl } }
+pub so_far_none : (s : TextState) → IsRunSoFar s [] [] s
+so_far_none s = record { legal = tt; next = record { text = refl; storage = refl; room = omega arith; policy = refl } }
 
 -- the step of a loop over the commands
-pub ran_more : (old mid new : TextState) (cs : List Command) (rs : List Reply) (i : ℕ) (d : Command) (r : Reply)
-    → length rs ≡ length cs → i < length cs → IsLawful old → Ran old (take i cs) (take i rs) mid → IsStep mid (get_or cs i d) r new
-    → Ran old (take (i + 1) cs) (take (i + 1) (set rs i r)) new
-ran_more old mid new cs rs i d r long lt laws ran step =
+pub so_far_more : (old mid new : TextState) (cs : List Command) (rs : List Reply) (i : ℕ) (d : Command) (r : Reply)
+    → length rs ≡ length cs → i < length cs → IsLawful old → IsRunSoFar old (take i cs) (take i rs) mid → IsStep mid (get_or cs i d) r new
+    → IsRunSoFar old (take (i + 1) cs) (take (i + 1) (set rs i r)) new
+so_far_more old mid new cs rs i d r long lt laws ran step =
     let c = get_or cs i d in
     let s : TextState = state_after old (take i cs) (take i rs) in
     let front : take (i + 1) cs ≡ take i cs ++ c ∷ [] = take_more cs i d lt in
@@ -73,11 +73,11 @@ ran_more old mid new cs rs i d r long lt laws ran step =
 
 -- the end of a run
 pub run_whole : (old new : TextState) (cs : List Command) (rs : List Reply) (i : ℕ) → length rs ≡ length cs → length cs ≤ i → IsLawful old
-    → Ran old (take i cs) (take i rs) new → IsRun old cs rs new
+    → IsRunSoFar old (take i cs) (take i rs) new → IsRun old cs rs new
 run_whole old new cs rs i long past laws ran =
     let a : take i cs ≡ cs = take_all i cs past in
     let b : take i rs ≡ rs = take_all i rs (omega (arith, long, past)) in
-    let whole : Ran old cs rs new = rw (a, b) at ran in
+    let whole : IsRunSoFar old cs rs new = rw (a, b) at ran in
     record {
       text = whole.next.text ∙ text_of old cs rs;
       storage = whole.next.storage;

@@ -2,14 +2,14 @@
 use Rattle.std.proofs.Common.{◌≡◌, ◌≢◌, ◌↔◌, ℕ, zero, suc, ◌<◌, ◌^◌, inl, inr, true, List, [], ◌∷◌, take, refl, sym, ap, ◌∙◌, arith, subst, Contains, Some, slice_get}
 use Rattle.inlinable_string.specs.State.{TextState, IsLawful}
 use Rattle.inlinable_string.specs.Edit.{edit, reply_of, text_left, text_after_step, text_after}
-use Rattle.inlinable_string.specs.Run.{Need, reserves, need_of, state_after_step, IsCounted, IsLegal, LegalReplies}
+use Rattle.inlinable_string.specs.Run.{Need, reserved, need_of, state_after_step, IsCounted, IsLegal, LegalReplies}
 use Rattle.inlinable_string.specs.Laws.{replies_of, text_after_edits, ReservesWithin, LeavesWithin, StaysWithin}
 use Rattle.inlinable_string.specs.declared.string_ext.Storage.TheVariants.{Inline}
 use Rattle.inlinable_string.specs.declared.run.Command.{Command}
 use Rattle.inlinable_string.specs.declared.run.Reply.{Reply}
 use Rattle.inlinable_string.specs.declared.run.Reply.TheVariants.{Done, NoMemory}
 use Rattle.inlinable_string.proofs.Edits.{never_refused, text_granted}
-use Rattle.inlinable_string.proofs.Free.{short_step, short_run_never_asks}
+use Rattle.inlinable_string.proofs.ShortRuns.{short_step, short_run_never_asks}
 
 -- where the replies refuse nothing, the first does not, nor does one of the rest
 refused_first : (reply : Reply) (replies : List Reply) → reply ≡ NoMemory
@@ -58,9 +58,9 @@ unrefused_text s (c ∷ commands) (r ∷ replies) legal given =
 -- a reservation within a limit that a `usize` counts is counted
 counted_within : (s : TextState) (need : Need) (reply : Reply) → s.policy.limit < 2 ^ 64
     → ReservesWithin s.policy.limit s.text need → IsCounted s need reply
-counted_within s (reserves n) Done small reserved = omega (arith, small, reserved)
-counted_within s (reserves n) reply small reserved = tt
-counted_within s need reply small reserved = tt
+counted_within s (reserved n) Done small held = omega (arith, small, held)
+counted_within s (reserved n) reply small held = tt
+counted_within s need reply small held = tt
 
 -- the replies of the edits of a short run are legal
 short_replies_are_legal : (s : TextState) (commands : List Command) → s.policy.demotes ≡ true

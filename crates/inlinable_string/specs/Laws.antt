@@ -2,7 +2,7 @@
 use Rattle.std.specs.Prelude.{◌≡◌, ℕ, ◌+◌, ◌-◌, ◌≤◌, List, [], ◌∷◌, Bool, true, false}
 use Rattle.inlinable_string.specs.Text.{size}
 use Rattle.inlinable_string.specs.Edit.{edit, reply_of, text_left}
-use Rattle.inlinable_string.specs.Run.{Need, pushes, reserves, need_of}
+use Rattle.inlinable_string.specs.Run.{Need, at_end, reserved, need_of}
 use Rattle.inlinable_string.specs.declared.run.Command.{Command}
 use Rattle.inlinable_string.specs.declared.run.Reply.{Reply}
 use Rattle.inlinable_string.specs.declared.run.Reply.TheVariants.{NoMemory}
@@ -21,7 +21,7 @@ text_after_edits t (command ∷ commands) =
 
 -- what is reserved, if it is, has room within n bytes beside the text t
 abbrev pub ReservesWithin : ℕ → List ℕ → Need → Type 0
-ReservesWithin n t (reserves m) = size t + m ≤ n
+ReservesWithin n t (reserved m) = size t + m ≤ n
 ReservesWithin n t need = Unit {0}
 
 -- a command on the text t leaves at most n bytes, and so has t with what is reserved beside it
@@ -39,7 +39,7 @@ StaysWithin n t (command ∷ commands) =
 abbrev pub PushesWithin : ℕ → List Command → Type 0
 PushesWithin k [] = Unit {0}
 PushesWithin k (command ∷ commands) =
-    (n : ℕ) × (need_of command ≡ pushes n) × (n ≤ k) × PushesWithin (k - n) commands
+    (n : ℕ) × (need_of command ≡ at_end n) × (n ≤ k) × PushesWithin (k - n) commands
 
 -- memory was refused
 abbrev pub is_refusal : Reply → Bool

@@ -13,36 +13,36 @@ use Rattle.inlinable_string.specs.declared.run.Reply.TheVariants.{Done, BadPlace
 -- what a command needs of the room where the text lies
 pub data Need : Type 0 where
   -- so many bytes more at the end
-  pushes : ℕ → Need
+  at_end : ℕ → Need
   -- so many bytes more at any place
-  inserts : ℕ → Need
+  anywhere : ℕ → Need
   -- room for so many bytes more
-  reserves : ℕ → Need
+  reserved : ℕ → Need
   -- no more room than the text has bytes
-  shrinks : Need
-  nothing : Need
+  tight : Need
+  no_room : Need
 
 abbrev pub need_of : Command → Need
-need_of (Push c) = pushes (size (c ∷ []))
-need_of (PushStr u) = pushes (size (chars u.now))
-need_of (Insert p c) = inserts (size (c ∷ []))
-need_of (InsertStr p u) = inserts (size (chars u.now))
-need_of (Truncate p) = nothing
-need_of Pop = nothing
-need_of (Remove p) = nothing
-need_of Clear = nothing
-need_of (ReplaceBytes b) = nothing
-need_of (Reserve n) = reserves n
-need_of (ReserveExact n) = reserves n
-need_of ShrinkToFit = shrinks
+need_of (Push c) = at_end (size (c ∷ []))
+need_of (PushStr u) = at_end (size (chars u.now))
+need_of (Insert p c) = anywhere (size (c ∷ []))
+need_of (InsertStr p u) = anywhere (size (chars u.now))
+need_of (Truncate p) = no_room
+need_of Pop = no_room
+need_of (Remove p) = no_room
+need_of Clear = no_room
+need_of (ReplaceBytes b) = no_room
+need_of (Reserve n) = reserved n
+need_of (ReserveExact n) = reserved n
+need_of ShrinkToFit = tight
 
 -- where the text lies once a need is met
 abbrev pub storage_when_met : TextState → Need → Storage
-storage_when_met s (pushes n) = storage_with_room s n
-storage_when_met s (inserts n) = storage_with_room s n
-storage_when_met s (reserves n) = storage_with_room s n
-storage_when_met s shrinks = storage_when_shrunk s
-storage_when_met s nothing = s.storage
+storage_when_met s (at_end n) = storage_with_room s n
+storage_when_met s (anywhere n) = storage_with_room s n
+storage_when_met s (reserved n) = storage_with_room s n
+storage_when_met s tight = storage_when_shrunk s
+storage_when_met s no_room = s.storage
 
 -- where the text lies after a command with its reply
 abbrev pub storage_after_step : TextState → Command → Reply → Storage
@@ -55,8 +55,8 @@ credit s = s.capacity - size s.text
 
 -- the same once a need is met, where it was k
 abbrev pub credit_when_met : ℕ → Need → ℕ
-credit_when_met k (pushes n) = k - n
-credit_when_met k (reserves n) = n
+credit_when_met k (at_end n) = k - n
+credit_when_met k (reserved n) = n
 credit_when_met k need = 0
 
 -- the same after a command with its reply
@@ -90,15 +90,15 @@ credit_after s commands replies = credit (state_after s commands replies)
 
 -- the command may ask for memory on the text t: it needs room, and no other refusal comes first
 abbrev pub AsksMemory : List ℕ → Command → Type 0
-AsksMemory t command = ¬ (need_of command ≡ nothing) × (reply_of (edit t command) ≡ Done)
+AsksMemory t command = ¬ (need_of command ≡ no_room) × (reply_of (edit t command) ≡ Done)
 
 -- what is needed is there without any memory
 abbrev pub IsMet : TextState → Need → Type 0
-IsMet s (pushes n) = HasInlineRoom s n ⊎ (n ≤ credit s)
-IsMet s (inserts n) = HasInlineRoom s n
-IsMet s (reserves n) = HasInlineRoom s n
-IsMet s shrinks = IsTrue s.policy.demotes × (size s.text ≤ s.policy.limit)
-IsMet s nothing = Unit {0}
+IsMet s (at_end n) = HasInlineRoom s n ⊎ (n ≤ credit s)
+IsMet s (anywhere n) = HasInlineRoom s n
+IsMet s (reserved n) = HasInlineRoom s n
+IsMet s tight = IsTrue s.policy.demotes × (size s.text ≤ s.policy.limit)
+IsMet s no_room = Unit {0}
 
 -- the command may not be refused for want of memory
 abbrev pub IsFree : TextState → Command → Type 0
@@ -106,7 +106,7 @@ IsFree s command = ¬ (AsksMemory s.text command) ⊎ IsMet s (need_of command)
 
 -- no room is said to be reserved that a `usize` can't count
 abbrev pub IsCounted : TextState → Need → Reply → Type 0
-IsCounted s (reserves n) Done = size s.text + n < 2 ^ 64
+IsCounted s (reserved n) Done = size s.text + n < 2 ^ 64
 IsCounted s need reply = Unit {0}
 
 -- the reply is that of `edit`, or want of memory to a command that is not free of it

@@ -8,7 +8,7 @@ use Rattle.inlinable_string.specs.Run.{IsRun, LegalReplies, state_after}
 use Rattle.inlinable_string.specs.Laws.{is_refusal}
 use Rattle.inlinable_string.specs.declared.run.Command.{Command}
 use Rattle.inlinable_string.specs.declared.run.Reply.{Reply}
-use Rattle.inlinable_string.proofs.Determined.{same_replies, same_storage}
+use Rattle.inlinable_string.proofs.RefusalsDecide.{same_replies, same_storage}
 use Rattle.inlinable_string.proofs.Runs.{text_of}
 use Rattle.script_language.specs.Output.{printed}
 use Rattle.script_language.specs.Script.{LinesAskFor, IsNamed, Prints, PrintsFrom, lines_of, policy_of, room_of, word_of_start}

@@ -4,7 +4,7 @@ use Rattle.std.specs.Borrow.{Bor}
 use Rattle.inlinable_string.specs.State.{TextState}
 use Rattle.inlinable_string.specs.Text.{size}
 use Rattle.inlinable_string.specs.Edit.{reply_of, text_left, edit}
-use Rattle.inlinable_string.specs.Run.{Need, nothing, need_of, storage_when_met, credit, credit_when_met, state_after_step, state_after, IsFree, IsLegal, IsMet, IsCounted, LegalReplies}
+use Rattle.inlinable_string.specs.Run.{Need, no_room, need_of, storage_when_met, credit, credit_when_met, state_after_step, state_after, IsFree, IsLegal, IsMet, IsCounted, LegalReplies}
 use Rattle.inlinable_string.specs.declared.string_ext.Storage.{Storage}
 use Rattle.inlinable_string.specs.declared.run.Command.{Command}
 use Rattle.inlinable_string.specs.declared.run.Command.TheVariants.{Push, PushStr, Insert, InsertStr, Truncate, Pop, Remove, Clear, ReplaceBytes, Reserve, ReserveExact, ShrinkToFit}
@@ -97,7 +97,7 @@ same_step s one other NoMemory h = refl
 
 -- what is free of memory, by what the command does and needs
 abbrev FreeBy : TextState → Reply → Need → Type 0
-FreeBy s answer need = ¬ (¬ (need ≡ nothing) × (answer ≡ Done)) ⊎ IsMet s need
+FreeBy s answer need = ¬ (¬ (need ≡ no_room) × (answer ≡ Done)) ⊎ IsMet s need
 
 same_free : (s : TextState) (one other : Command) → DoTheSame one other → IsFree s other
     → IsFree s one

@@ -3,7 +3,7 @@ ghost use Rattle.std.specs.Prelude.{◌≡◌, ◌↔◌, IfOk, IsTrue};
 ghost use Rattle.std.specs.Str.{chars};
 ghost use Rattle.inlinable_string.specs.Text.{size};
 ghost use Rattle.inlinable_string.specs.State.{HasInlineRoom, storage_with_room, storage_when_shrunk};
-ghost use Rattle.inlinable_string.specs.Run.{need_of, storage_when_met, storage_after_step, credit_when_met, credit_after_step, AsksMemory, IsMet, IsFree, IsCounted, shrinks};
+ghost use Rattle.inlinable_string.specs.Run.{need_of, storage_when_met, storage_after_step, credit_when_met, credit_after_step, AsksMemory, IsMet, IsFree, IsCounted, tight};
 ghost use Rattle.inline_model.specs.Plain.{state_of, need_in};
 
 use crate::plain::text::{edit, size_of};
@@ -30,15 +30,15 @@ pub struct PlainText {
 #[derive(Clone, Copy)]
 pub enum Need {
     /// So many bytes more at the end.
-    Pushes(usize),
+    AtEnd(usize),
     /// So many bytes more at any place.
-    Inserts(usize),
+    Anywhere(usize),
     /// Room for so many bytes more.
-    Reserves(usize),
+    Reserved(usize),
     /// No more room than the text has bytes.
-    Shrinks,
+    Tight,
     /// No room.
-    Nothing,
+    NoRoom,
 }
 
 /// How many bytes the text of a string has.
@@ -53,18 +53,18 @@ pub fn need_of(command: Command) -> Need
     ensures { need_in result ≡ need_of command.entry }
 {
     match command {
-        Command::Push(c) => Need::Pushes(c.len_utf8()),
-        Command::PushStr(string) => Need::Pushes(bytes_in(string)),
-        Command::Insert(_, c) => Need::Inserts(c.len_utf8()),
-        Command::InsertStr(_, string) => Need::Inserts(bytes_in(string)),
-        Command::Truncate(_) => Need::Nothing,
-        Command::Pop => Need::Nothing,
-        Command::Remove(_) => Need::Nothing,
-        Command::Clear => Need::Nothing,
-        Command::ReplaceBytes(_) => Need::Nothing,
-        Command::Reserve(bytes) => Need::Reserves(bytes),
-        Command::ReserveExact(bytes) => Need::Reserves(bytes),
-        Command::ShrinkToFit => Need::Shrinks,
+        Command::Push(c) => Need::AtEnd(c.len_utf8()),
+        Command::PushStr(string) => Need::AtEnd(bytes_in(string)),
+        Command::Insert(_, c) => Need::Anywhere(c.len_utf8()),
+        Command::InsertStr(_, string) => Need::Anywhere(bytes_in(string)),
+        Command::Truncate(_) => Need::NoRoom,
+        Command::Pop => Need::NoRoom,
+        Command::Remove(_) => Need::NoRoom,
+        Command::Clear => Need::NoRoom,
+        Command::ReplaceBytes(_) => Need::NoRoom,
+        Command::Reserve(bytes) => Need::Reserved(bytes),
+        Command::ReserveExact(bytes) => Need::Reserved(bytes),
+        Command::ShrinkToFit => Need::Tight,
     }
 }
 
@@ -91,7 +91,7 @@ pub fn storage_with_room(plain: &PlainText, bytes: usize) -> Storage
 
 /// Whether the text may lie inline by what decides it, wherever it lies now.
 pub fn may_shrink(plain: &PlainText) -> bool
-    ensures { IsTrue result ↔ IsMet (state_of plain.now) shrinks }
+    ensures { IsTrue result ↔ IsMet (state_of plain.now) tight }
 {
     plain.demotes && size_of(&plain.text) <= plain.limit
 }
@@ -112,11 +112,11 @@ pub fn storage_when_met(plain: &PlainText, need: Need) -> Storage
     ensures { result ≡ storage_when_met (state_of plain.now) (need_in need) }
 {
     match need {
-        Need::Pushes(bytes) => storage_with_room(plain, bytes),
-        Need::Inserts(bytes) => storage_with_room(plain, bytes),
-        Need::Reserves(bytes) => storage_with_room(plain, bytes),
-        Need::Shrinks => storage_when_shrunk(plain),
-        Need::Nothing => plain.storage,
+        Need::AtEnd(bytes) => storage_with_room(plain, bytes),
+        Need::Anywhere(bytes) => storage_with_room(plain, bytes),
+        Need::Reserved(bytes) => storage_with_room(plain, bytes),
+        Need::Tight => storage_when_shrunk(plain),
+        Need::NoRoom => plain.storage,
     }
 }
 
@@ -135,9 +135,9 @@ pub fn credit_when_met(credit: usize, need: Need) -> usize
     ensures { result ≡ credit_when_met credit (need_in need) }
 {
     match need {
-        Need::Pushes(bytes) => credit.saturating_sub(bytes),
-        Need::Reserves(bytes) => bytes,
-        Need::Inserts(_) | Need::Shrinks | Need::Nothing => 0,
+        Need::AtEnd(bytes) => credit.saturating_sub(bytes),
+        Need::Reserved(bytes) => bytes,
+        Need::Anywhere(_) | Need::Tight | Need::NoRoom => 0,
     }
 }
 
@@ -157,11 +157,11 @@ pub fn is_met(plain: &PlainText, need: Need) -> bool
     ensures { IsTrue result ↔ IsMet (state_of plain.now) (need_in need) }
 {
     match need {
-        Need::Pushes(bytes) => has_inline_room(plain, bytes) || bytes <= plain.credit,
-        Need::Inserts(bytes) => has_inline_room(plain, bytes),
-        Need::Reserves(bytes) => has_inline_room(plain, bytes),
-        Need::Shrinks => may_shrink(plain),
-        Need::Nothing => true,
+        Need::AtEnd(bytes) => has_inline_room(plain, bytes) || bytes <= plain.credit,
+        Need::Anywhere(bytes) => has_inline_room(plain, bytes),
+        Need::Reserved(bytes) => has_inline_room(plain, bytes),
+        Need::Tight => may_shrink(plain),
+        Need::NoRoom => true,
     }
 }
 
@@ -170,7 +170,7 @@ pub fn asks_memory(alloc: Global, text: &[char], command: Command) -> Result<boo
     ensures { IfOk result (λ asks. IsTrue asks ↔ AsksMemory text.now command.entry) }
 {
     let needs_room = match need_of(command) {
-        Need::Nothing => false,
+        Need::NoRoom => false,
         _ => true,
     };
     let (reply, _) = edit(alloc, text, command)?;
@@ -190,7 +190,7 @@ pub fn is_counted(plain: &PlainText, need: Need, reply: Reply) -> bool
     ensures { IsTrue result ↔ IsCounted (state_of plain.now) (need_in need) reply }
 {
     match need {
-        Need::Reserves(bytes) => {
+        Need::Reserved(bytes) => {
             reply != Reply::Done || size_of(&plain.text).checked_add(bytes).is_some()
         }
         _ => true,

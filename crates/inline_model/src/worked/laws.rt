@@ -3,7 +3,7 @@
 ghost use Rattle.std.specs.Prelude.{◌≡◌, ◌∷◌, [], List, ℕ, true, false, codes};
 ghost use Rattle.std.specs.Str.{chars};
 ghost use Rattle.inlinable_string.specs.Text.{size};
-ghost use Rattle.inlinable_string.specs.Run.{pushes, inserts, reserves, shrinks, nothing};
+ghost use Rattle.inlinable_string.specs.Run.{at_end, anywhere, reserved, tight, no_room};
 ghost use Rattle.inlinable_string.specs.Laws.{replies_of, text_after_edits, ReservesWithin, LeavesWithin, StaysWithin, PushesWithin, is_refusal};
 ghost use Rattle.inline_model.specs.Worked.{four_edits};
 
@@ -25,16 +25,16 @@ pub fn no_edits()
 
 /// Beside three bytes 27 may be reserved within 30, and 28 may not.
 pub fn reservation_of_27_bytes_is_within()
-    ensures met { (t : List ℕ) → size t ≡ 3 → ReservesWithin 30 t (reserves 27) }
-    ensures missed { (t : List ℕ) → size t ≡ 3 → ¬ ReservesWithin 30 t (reserves 28) }
+    ensures met { (t : List ℕ) → size t ≡ 3 → ReservesWithin 30 t (reserved 27) }
+    ensures missed { (t : List ℕ) → size t ≡ 3 → ¬ ReservesWithin 30 t (reserved 28) }
 {}
 
 /// Whatever else is needed reserves nothing.
 pub fn other_needs_reserve_nothing()
-    ensures push { (t : List ℕ) → ReservesWithin 0 t (pushes 1) }
-    ensures insert { (t : List ℕ) → ReservesWithin 0 t (inserts 1) }
-    ensures shrink { (t : List ℕ) → ReservesWithin 0 t shrinks }
-    ensures other { (t : List ℕ) → ReservesWithin 0 t nothing }
+    ensures push { (t : List ℕ) → ReservesWithin 0 t (at_end 1) }
+    ensures insert { (t : List ℕ) → ReservesWithin 0 t (anywhere 1) }
+    ensures shrink { (t : List ℕ) → ReservesWithin 0 t tight }
+    ensures other { (t : List ℕ) → ReservesWithin 0 t no_room }
 {}
 
 /// What a command leaves counts, and what it reserves beside the text before it.

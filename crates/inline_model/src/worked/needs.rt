@@ -3,7 +3,7 @@ ghost use Rattle.std.specs.Prelude.{◌≡◌, ◌∷◌, [], List, ℕ, true, f
 ghost use Rattle.std.specs.Str.{chars};
 ghost use Rattle.inlinable_string.specs.Text.{size};
 ghost use Rattle.inlinable_string.specs.State.{TextState};
-ghost use Rattle.inlinable_string.specs.Run.{need_of, pushes, inserts, reserves, shrinks, nothing, AsksMemory, IsMet, IsCounted, credit_when_met, storage_when_met};
+ghost use Rattle.inlinable_string.specs.Run.{need_of, at_end, anywhere, reserved, tight, no_room, AsksMemory, IsMet, IsCounted, credit_when_met, storage_when_met};
 ghost use Rattle.inline_model.specs.Worked.{inline_text, heap_text, heap_only_text};
 
 use inlinable_string::Storage;
@@ -12,26 +12,26 @@ use inlinable_string::run::{Command, Reply};
 /// A growth needs as many bytes as it adds, of which € has three.
 pub fn needs_of_growths(string: &str)
     requires { size (chars string.now) ≡ 5 }
-    ensures push { need_of (Command.Push 8364) ≡ pushes 3 }
-    ensures push_str { need_of (Command.PushStr string.entry) ≡ pushes 5 }
-    ensures insert { (p : ℕ) → need_of (Command.Insert p 8364) ≡ inserts 3 }
-    ensures insert_str { (p : ℕ) → need_of (Command.InsertStr p string.entry) ≡ inserts 5 }
+    ensures push { need_of (Command.Push 8364) ≡ at_end 3 }
+    ensures push_str { need_of (Command.PushStr string.entry) ≡ at_end 5 }
+    ensures insert { (p : ℕ) → need_of (Command.Insert p 8364) ≡ anywhere 3 }
+    ensures insert_str { (p : ℕ) → need_of (Command.InsertStr p string.entry) ≡ anywhere 5 }
 {}
 
 /// A reservation needs what it reserves, and shrinking no more than the text.
 pub fn needs_of_room()
-    ensures reserve { need_of (Command.Reserve 100) ≡ reserves 100 }
-    ensures exact { need_of (Command.ReserveExact 100) ≡ reserves 100 }
-    ensures shrink { need_of Command.ShrinkToFit ≡ shrinks }
+    ensures reserve { need_of (Command.Reserve 100) ≡ reserved 100 }
+    ensures exact { need_of (Command.ReserveExact 100) ≡ reserved 100 }
+    ensures shrink { need_of Command.ShrinkToFit ≡ tight }
 {}
 
 /// No other command needs room.
 pub fn needs_of_cuts(bytes: &[u8])
-    ensures truncate { (p : ℕ) → need_of (Command.Truncate p) ≡ nothing }
-    ensures pop { need_of Command.Pop ≡ nothing }
-    ensures remove { (p : ℕ) → need_of (Command.Remove p) ≡ nothing }
-    ensures clear { need_of Command.Clear ≡ nothing }
-    ensures replace { need_of (Command.ReplaceBytes bytes.entry) ≡ nothing }
+    ensures truncate { (p : ℕ) → need_of (Command.Truncate p) ≡ no_room }
+    ensures pop { need_of Command.Pop ≡ no_room }
+    ensures remove { (p : ℕ) → need_of (Command.Remove p) ≡ no_room }
+    ensures clear { need_of Command.Clear ≡ no_room }
+    ensures replace { need_of (Command.ReplaceBytes bytes.entry) ≡ no_room }
 {}
 
 /// A command that needs room may ask for memory, also for none, unless its place is bad; one that
@@ -50,75 +50,75 @@ pub fn commands_that_need_room_ask()
 /// and five do not without credit.
 pub fn inline_room_meets_needs()
     ensures push { (s : TextState) → s.storage ≡ Storage.Inline → s.policy.limit ≡ 30
-        → size s.text ≡ 26 → IsMet s (pushes 4) }
-    ensures push_missed { (t : List ℕ) → size t ≡ 26 → ¬ IsMet (inline_text t 30) (pushes 5) }
+        → size s.text ≡ 26 → IsMet s (at_end 4) }
+    ensures push_missed { (t : List ℕ) → size t ≡ 26 → ¬ IsMet (inline_text t 30) (at_end 5) }
     ensures insert { (s : TextState) → s.storage ≡ Storage.Inline → s.policy.limit ≡ 30
-        → size s.text ≡ 26 → IsMet s (inserts 4) }
-    ensures insert_missed { (t : List ℕ) → size t ≡ 26 → ¬ IsMet (inline_text t 30) (inserts 5) }
+        → size s.text ≡ 26 → IsMet s (anywhere 4) }
+    ensures insert_missed { (t : List ℕ) → size t ≡ 26 → ¬ IsMet (inline_text t 30) (anywhere 5) }
     ensures reserve { (s : TextState) → s.storage ≡ Storage.Inline → s.policy.limit ≡ 30
-        → size s.text ≡ 26 → IsMet s (reserves 4) }
+        → size s.text ≡ 26 → IsMet s (reserved 4) }
     ensures reserve_missed { (t : List ℕ) → size t ≡ 26
-        → ¬ IsMet (inline_text t 30) (reserves 5) }
+        → ¬ IsMet (inline_text t 30) (reserved 5) }
 {}
 
 /// On the heap ten bytes of 40 are taken: 30 more at the end have room, and nothing else is
 /// certain of any.
 pub fn heap_room_meets_pushes()
-    ensures push { (t : List ℕ) → size t ≡ 10 → IsMet (heap_text t 40) (pushes 30) }
-    ensures push_missed { (t : List ℕ) → size t ≡ 10 → ¬ IsMet (heap_text t 40) (pushes 31) }
-    ensures insert { (t : List ℕ) → size t ≡ 10 → ¬ IsMet (heap_text t 40) (inserts 1) }
-    ensures reserve { (t : List ℕ) → size t ≡ 10 → ¬ IsMet (heap_text t 40) (reserves 1) }
+    ensures push { (t : List ℕ) → size t ≡ 10 → IsMet (heap_text t 40) (at_end 30) }
+    ensures push_missed { (t : List ℕ) → size t ≡ 10 → ¬ IsMet (heap_text t 40) (at_end 31) }
+    ensures insert { (t : List ℕ) → size t ≡ 10 → ¬ IsMet (heap_text t 40) (anywhere 1) }
+    ensures reserve { (t : List ℕ) → size t ≡ 10 → ¬ IsMet (heap_text t 40) (reserved 1) }
 {}
 
 /// A text of 30 bytes is brought back where 30 may lie inline, one of 31 is not, and none is where
 /// none is ever brought back.
 pub fn inline_room_meets_shrinking()
-    ensures met { (t : List ℕ) → size t ≡ 30 → IsMet (heap_text t 40) shrinks }
-    ensures missed { (t : List ℕ) → size t ≡ 31 → ¬ IsMet (heap_text t 40) shrinks }
-    ensures heap_only { ¬ IsMet (heap_only_text [] 40) shrinks }
+    ensures met { (t : List ℕ) → size t ≡ 30 → IsMet (heap_text t 40) tight }
+    ensures missed { (t : List ℕ) → size t ≡ 31 → ¬ IsMet (heap_text t 40) tight }
+    ensures heap_only { ¬ IsMet (heap_only_text [] 40) tight }
 {}
 
 /// What needs nothing is met.
 pub fn nothing_is_met()
-    ensures { (s : TextState) → IsMet s nothing }
+    ensures { (s : TextState) → IsMet s no_room }
 {}
 
 /// Beside one byte as many may be reserved as a `usize` can count with it, and no more; what is not
 /// carried out, or not reserved, is not counted.
 pub fn reserved_bytes_are_counted()
     ensures met { (s : TextState) → size s.text ≡ 1
-        → IsCounted s (reserves 18446744073709551614) Reply.Done }
+        → IsCounted s (reserved 18446744073709551614) Reply.Done }
     ensures missed { (s : TextState) → size s.text ≡ 1
-        → ¬ IsCounted s (reserves 18446744073709551615) Reply.Done }
+        → ¬ IsCounted s (reserved 18446744073709551615) Reply.Done }
     ensures refused { (s : TextState) → size s.text ≡ 1
-        → IsCounted s (reserves 18446744073709551615) Reply.NoMemory }
+        → IsCounted s (reserved 18446744073709551615) Reply.NoMemory }
     ensures push { (s : TextState) → size s.text ≡ 1
-        → IsCounted s (pushes 18446744073709551615) Reply.Done }
+        → IsCounted s (at_end 18446744073709551615) Reply.Done }
 {}
 
 /// Of a credit of 100 bytes a push takes its own, also those that it lacks; a reservation sets it,
 /// and what else is met ends it.
 pub fn credit_once_a_need_is_met()
-    ensures push { credit_when_met 100 (pushes 30) ≡ 70 }
-    ensures all { credit_when_met 100 (pushes 101) ≡ 0 }
-    ensures insert { credit_when_met 100 (inserts 30) ≡ 0 }
-    ensures reserve { credit_when_met 100 (reserves 30) ≡ 30 }
-    ensures shrink { credit_when_met 100 shrinks ≡ 0 }
-    ensures other { credit_when_met 100 nothing ≡ 0 }
+    ensures push { credit_when_met 100 (at_end 30) ≡ 70 }
+    ensures all { credit_when_met 100 (at_end 101) ≡ 0 }
+    ensures insert { credit_when_met 100 (anywhere 30) ≡ 0 }
+    ensures reserve { credit_when_met 100 (reserved 30) ≡ 30 }
+    ensures shrink { credit_when_met 100 tight ≡ 0 }
+    ensures other { credit_when_met 100 no_room ≡ 0 }
 {}
 
 /// Of 30 bytes that lie inline 26 are taken: what is met for four more bytes stays, for five more
 /// goes to the heap; on the heap it stays there but where it is shrunk.
 pub fn storage_once_a_need_is_met()
     ensures push { (t : List ℕ) → size t ≡ 26
-        → storage_when_met (inline_text t 30) (pushes 5) ≡ Storage.Heap }
+        → storage_when_met (inline_text t 30) (at_end 5) ≡ Storage.Heap }
     ensures insert { (t : List ℕ) → size t ≡ 26
-        → storage_when_met (inline_text t 30) (inserts 4) ≡ Storage.Inline }
+        → storage_when_met (inline_text t 30) (anywhere 4) ≡ Storage.Inline }
     ensures reserve { (t : List ℕ) → size t ≡ 26
-        → storage_when_met (inline_text t 30) (reserves 4) ≡ Storage.Inline }
+        → storage_when_met (inline_text t 30) (reserved 4) ≡ Storage.Inline }
     ensures shrink { (t : List ℕ) → size t ≡ 26
-        → storage_when_met (heap_text t 40) shrinks ≡ Storage.Inline }
+        → storage_when_met (heap_text t 40) tight ≡ Storage.Inline }
     ensures other { (t : List ℕ) → size t ≡ 26
-        → storage_when_met (heap_text t 40) nothing ≡ Storage.Heap }
-    ensures heap { (t : List ℕ) → storage_when_met (heap_text t 40) (pushes 0) ≡ Storage.Heap }
+        → storage_when_met (heap_text t 40) no_room ≡ Storage.Heap }
+    ensures heap { (t : List ℕ) → storage_when_met (heap_text t 40) (at_end 0) ≡ Storage.Heap }
 {}

@@ -1,4 +1,4 @@
-use Rattle.inlinable_string.proofs.Turns.{as_many_replies, legal_at}
+use Rattle.inlinable_string.proofs.RepliesInTurn.{as_many_replies, legal_at}
 use Rattle.inlinable_string.proofs.Runs.{text_of}
 use Rattle.inlinable_string.proofs.run.laws.each_reply_is_legal_in_its_turn.Goals as goal
 

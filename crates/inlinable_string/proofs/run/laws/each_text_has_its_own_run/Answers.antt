@@ -1,4 +1,4 @@
-use Rattle.inlinable_string.proofs.Turns.{run_at, own_reply_at, as_many_texts}
+use Rattle.inlinable_string.proofs.RepliesInTurn.{run_at, own_reply_at, as_many_texts}
 use Rattle.inlinable_string.proofs.run.laws.each_text_has_its_own_run.Goals as goal
 
 pub returns-clause-run : goal.returns-clause-run

@@ -1,4 +1,4 @@
-use Rattle.inlinable_string.proofs.Determined.{text_kept, storage_kept}
+use Rattle.inlinable_string.proofs.RefusalsDecide.{text_kept, storage_kept}
 use Rattle.inlinable_string.proofs.run.laws.refusals_change_nothing.Goals as goal
 
 pub returns-clause-text : goal.returns-clause-text

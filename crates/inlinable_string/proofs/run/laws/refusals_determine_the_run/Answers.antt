@@ -1,4 +1,4 @@
-use Rattle.inlinable_string.proofs.Determined.{same_replies, same_storage}
+use Rattle.inlinable_string.proofs.RefusalsDecide.{same_replies, same_storage}
 use Rattle.inlinable_string.proofs.run.laws.refusals_determine_the_run.Goals as goal
 
 pub returns-clause-replies : goal.returns-clause-replies

@@ -1,4 +1,4 @@
-use Rattle.inlinable_string.proofs.Free.{pushes_after_reserve, pushes_after_reserve_exact, pushes_from_start, pushes_anywhere, pushes_exact_anywhere}
+use Rattle.inlinable_string.proofs.ReservedPushes.{pushes_after_reserve, pushes_after_reserve_exact, pushes_from_start, pushes_anywhere, pushes_exact_anywhere}
 use Rattle.inlinable_string.proofs.run.laws.reserved_pushes_never_fail.Goals as goal
 
 pub returns-clause-reserve : goal.returns-clause-reserve

@@ -1,4 +1,4 @@
-use Rattle.inlinable_string.proofs.Joined.{text_joined, storage_joined, credit_joined, legal_joined, legal_parted}
+use Rattle.inlinable_string.proofs.RunsJoined.{text_joined, storage_joined, credit_joined, legal_joined, legal_parted}
 use Rattle.inlinable_string.proofs.run.laws.runs_join.Goals as goal
 
 pub returns-clause-text : goal.returns-clause-text

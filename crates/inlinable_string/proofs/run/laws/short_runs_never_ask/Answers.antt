@@ -1,4 +1,4 @@
-use Rattle.inlinable_string.proofs.Free.{short_run_never_asks, short_run_stays_inline}
+use Rattle.inlinable_string.proofs.ShortRuns.{short_run_never_asks, short_run_stays_inline}
 use Rattle.inlinable_string.proofs.run.laws.short_runs_never_ask.Goals as goal
 
 pub returns-clause-replies : goal.returns-clause-replies

@@ -2,7 +2,7 @@
 use Rattle.std.proofs.Common.{◌≡◌, ◌≢◌, ℕ, inl, inr, true, List, [], ◌∷◌, map, refl, sym, ap, ◌∙◌}
 use Rattle.inlinable_string.specs.State.{TextState}
 use Rattle.inlinable_string.specs.Edit.{edit, reply_of, text_after_step}
-use Rattle.inlinable_string.specs.Run.{Need, pushes, inserts, reserves, shrinks, nothing, need_of, storage_when_met, storage_after_step, state_after_step, storage_after, IsLegal, LegalReplies}
+use Rattle.inlinable_string.specs.Run.{Need, at_end, anywhere, reserved, tight, no_room, need_of, storage_when_met, storage_after_step, state_after_step, storage_after, IsLegal, LegalReplies}
 use Rattle.inlinable_string.specs.Laws.{is_refusal}
 use Rattle.inlinable_string.specs.declared.run.Command.{Command}
 use Rattle.inlinable_string.specs.declared.run.Reply.{Reply}
@@ -45,11 +45,11 @@ same_replies s t (c ∷ commands) (r ∷ replies) (o ∷ others) text a b marks 
 
 -- where a text lies has nothing to do with its capacity
 same_when_met : (s t : TextState) (need : Need) → s.text ≡ t.text → s.storage ≡ t.storage → s.policy ≡ t.policy → storage_when_met s need ≡ storage_when_met t need
-same_when_met s t (pushes n) text storage policy = rw (text, storage, policy)
-same_when_met s t (inserts n) text storage policy = rw (text, storage, policy)
-same_when_met s t (reserves n) text storage policy = rw (text, storage, policy)
-same_when_met s t shrinks text storage policy = rw (text, storage, policy)
-same_when_met s t nothing text storage policy = storage
+same_when_met s t (at_end n) text storage policy = rw (text, storage, policy)
+same_when_met s t (anywhere n) text storage policy = rw (text, storage, policy)
+same_when_met s t (reserved n) text storage policy = rw (text, storage, policy)
+same_when_met s t tight text storage policy = rw (text, storage, policy)
+same_when_met s t no_room text storage policy = storage
 
 -- nor has it after a step
 pub same_storage_step : (s t : TextState) (command : Command) (reply : Reply) → s.text ≡ t.text → s.storage ≡ t.storage → s.policy ≡ t.policy

@@ -2,14 +2,14 @@
 use Rattle.std.proofs.Common.{◌≡◌, ℕ, ◌≤◌, inl, inr, List, [], ◌∷◌, ◌++◌, length, sym, ap, ◌∙◌, arith}
 use Rattle.inlinable_string.specs.State.{TextState}
 use Rattle.inlinable_string.specs.Edit.{edit, reply_of, text_after, text_after_step}
-use Rattle.inlinable_string.specs.Run.{Need, pushes, inserts, reserves, shrinks, nothing, need_of, credit, credit_when_met, credit_after_step, credit_after, IsCounted, state_after, state_after_step, IsMet, IsLegal, LegalReplies, IsRun}
+use Rattle.inlinable_string.specs.Run.{Need, at_end, anywhere, reserved, tight, no_room, need_of, credit, credit_when_met, credit_after_step, credit_after, IsCounted, state_after, state_after_step, IsMet, IsLegal, LegalReplies, IsRun}
 use Rattle.inlinable_string.specs.declared.run.Command.{Command}
 use Rattle.inlinable_string.specs.declared.run.Reply.{Reply}
 use Rattle.inlinable_string.specs.declared.run.Reply.TheVariants.{Done, BadPlace}
 use Rattle.inlinable_string.proofs.Runs.{text_of, policy_of}
-use Rattle.inlinable_string.proofs.Turns.{as_many_replies}
-use Rattle.inlinable_string.proofs.Joined.{text_joined, storage_joined, credit_joined, legal_joined}
-use Rattle.inlinable_string.proofs.Determined.{same_storage, same_storage_step}
+use Rattle.inlinable_string.proofs.RepliesInTurn.{as_many_replies}
+use Rattle.inlinable_string.proofs.RunsJoined.{text_joined, storage_joined, credit_joined, legal_joined}
+use Rattle.inlinable_string.proofs.RefusalsDecide.{same_storage, same_storage_step}
 
 -- the same text in the same place, with at least the credit
 record IsRicher (s v : TextState) : Type 0 where
@@ -20,19 +20,19 @@ record IsRicher (s v : TextState) : Type 0 where
 
 -- more credit meets the more needs
 met_richer : (s v : TextState) (need : Need) → IsRicher s v → IsMet s need → IsMet v need
-met_richer s v (pushes n) h met = elim met [
+met_richer s v (at_end n) h met = elim met [
   | inl inside ↦ inl (sym h.storage ∙ inside.0, rw (h.text, h.policy) at inside.1)
   | inr enough ↦ inr (omega (arith, h.credit, enough))
 ]
-met_richer s v (inserts n) h met = (sym h.storage ∙ met.0, rw (h.text, h.policy) at met.1)
-met_richer s v (reserves n) h met = (sym h.storage ∙ met.0, rw (h.text, h.policy) at met.1)
-met_richer s v shrinks h met = (rw h.policy at met.0, rw (h.text, h.policy) at met.1)
-met_richer s v nothing h met = tt
+met_richer s v (anywhere n) h met = (sym h.storage ∙ met.0, rw (h.text, h.policy) at met.1)
+met_richer s v (reserved n) h met = (sym h.storage ∙ met.0, rw (h.text, h.policy) at met.1)
+met_richer s v tight h met = (rw h.policy at met.0, rw (h.text, h.policy) at met.1)
+met_richer s v no_room h met = tt
 
 -- and leaves no less
 credit_met : (k l : ℕ) (need : Need) → k ≤ l → credit_when_met k need ≤ credit_when_met l need
-credit_met k l (pushes n) h = omega (arith, h)
-credit_met k l (reserves n) h = omega arith
+credit_met k l (at_end n) h = omega (arith, h)
+credit_met k l (reserved n) h = omega arith
 credit_met k l need h = omega arith
 
 credit_step : (k l : ℕ) (command : Command) (reply : Reply) → k ≤ l → credit_after_step k command reply ≤ credit_after_step l command reply
@@ -54,7 +54,7 @@ credit_richer s v (c ∷ commands) [] h = h.credit
 credit_richer s v (c ∷ commands) (r ∷ replies) h = credit_richer (state_after_step s c r) (state_after_step v c r) commands replies (richer_step s v c r h)
 
 counted_same : (s v : TextState) (need : Need) (reply : Reply) → s.text ≡ v.text → IsCounted v need reply → IsCounted s need reply
-counted_same s v (reserves n) Done e h = rw e h
+counted_same s v (reserved n) Done e h = rw e h
 counted_same s v need reply e h = tt
 
 -- what is legal with more credit is legal with less
