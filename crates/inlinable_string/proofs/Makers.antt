@@ -13,6 +13,10 @@ bytes-string s = encodes-chars _ (IsUtf8-string_bytes s)
 pub bytes_made : {Z : Type 0} (s : String Z) (v : Vec ℕ Z) → string_vec s ≡ v → bytes_of (chars (string_bytes s)) ≡ v.items
 bytes_made s v e = bytes-string s ∙ ap (λ w. w.items) e
 
+pub chars_made : {Z : Type 0} (s : String Z) (v : Vec ℕ Z) → string_vec s ≡ v
+    → chars (string_bytes s) ≡ chars v.items
+chars_made s v e = ap (λ w. chars w.items) e
+
 pub utf8_made : {Z : Type 0} (s : String Z) (v : Vec ℕ Z) → string_vec s ≡ v → IsUtf8 v.items
 utf8_made s v e = subst (λ w. IsUtf8 w.items) e (IsUtf8-string_bytes s)
 

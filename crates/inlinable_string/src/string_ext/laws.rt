@@ -64,12 +64,11 @@ pub fn utf16_is_read_as_it_is()
         → units_of t ≡ units_of u → t ≡ u }
 {}
 
-/// The bytes of a text are UTF-8, and a text that has them is that text: so `from_utf8` of what
-/// `into_bytes` gave is not refused, and is the same text.
+/// The bytes of a text are UTF-8, and those of that text alone: so `from_utf8` of what `into_bytes`
+/// gave is not refused, and is the same text.
 pub fn bytes_give_the_text_back()
     ensures utf8 { (t bs : List ℕ) → all_scalars t ≡ true → bs ≡ bytes_of t → IsUtf8 bs }
-    ensures text { (t u bs : List ℕ) → all_scalars t ≡ true → bs ≡ bytes_of t → bytes_of u ≡ bs
-        → u ≡ t }
+    ensures text { (t : List ℕ) → all_scalars t ≡ true → chars (bytes_of t) ≡ t }
 {}
 
 /// What [`Utf16Error`] prints.

@@ -1,6 +1,7 @@
 //! Texts from bytes and from UTF-16, and back to bytes: code over the trait makes a `String`, a
 //! [`crate::InlinableStringN`] or a text of one's own.
 ghost use Rattle.std.specs.Prelude.{◌≡◌, ◌≤◌, ◌↔◌, [], Some, IsTrue, IfOk, IfErr, IsOk, Err, MatchResult, IsUtf8};
+ghost use Rattle.std.specs.Str.{chars};
 ghost use Rattle.std.specs.String.{from_utf8_error_vec};
 ghost use Rattle.std.specs.Cow.{cow_str_bytes, IsBorrowedStr};
 ghost use Rattle.inlinable_string.specs.Text.{bytes_of};
@@ -74,6 +75,7 @@ pub trait StringMake: StringExt {
     /// They are not copied: it takes no memory, and the text lies on the heap, however short.
     fn from_utf8(alloc: Global, vec: Vec<u8>) -> Result<Self, FromUtf8Error>
         ensures text { IfOk result (λ made. bytes_of (Self.state made).text ≡ vec.items) }
+        ensures chars { IfOk result (λ made. (Self.state made).text ≡ chars vec.items) }
         ensures err { IfErr result (λ error. from_utf8_error_vec error ≡ vec) }
         ensures well_formed { MatchResult result
             (λ _. IsUtf8 vec.items) (λ _. ¬ (IsUtf8 vec.items)) }
@@ -86,6 +88,7 @@ pub trait StringMake: StringExt {
     unsafe fn from_utf8_unchecked(alloc: Global, bytes: Vec<u8>) -> Self
         requires { IsUtf8 bytes.items }
         ensures text { bytes_of (Self.state result).text ≡ bytes.items }
+        ensures chars { (Self.state result).text ≡ chars bytes.items }
         ensures storage { (Self.state result).storage ≡ Storage.Heap }
         ensures policy { (Self.state result).policy ≡ policy };
 

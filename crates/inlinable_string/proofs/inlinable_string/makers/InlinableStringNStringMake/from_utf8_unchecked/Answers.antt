@@ -1,5 +1,9 @@
-use Rattle.inlinable_string.proofs.Makers.{bytes_made}
+use Rattle.inlinable_string.proofs.Makers.{bytes_made, chars_made}
 use Rattle.inlinable_string.proofs.inlinable_string.makers.InlinableStringNStringMake.from_utf8_unchecked.Goals as goal
 
 pub returns-clause-text : goal.returns-clause-text
 returns-clause-text g c = bytes_made c.from_utf8_unchecked-heap.result c.args.bytes c.from_utf8_unchecked-heap.ensures.value
+
+pub returns-clause-chars : goal.returns-clause-chars
+returns-clause-chars g c =
+    chars_made c.from_utf8_unchecked-heap.result c.args.bytes c.from_utf8_unchecked-heap.ensures.value
