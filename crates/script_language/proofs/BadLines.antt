@@ -27,8 +27,8 @@ as_many_kept ((b ∷ line) ∷ lines) (command ∷ commands) asked =
     ∙ ap (λ t. length (cond t ((b ∷ line) ∷ filter has_byte lines) (filter has_byte lines)))
     (sym (with_first_byte b line))
 
-pub as_many_commands : (lines : List (List ℕ)) (commands : List Command) → LinesAskFor lines commands
-    → length commands ≡ count_by (λ line. nat_lt 0 (length line)) lines
+pub as_many_commands : (lines : List (List ℕ)) (commands : List Command)
+    → LinesAskFor lines commands → length commands ≡ count_by (λ line. nat_lt 0 (length line)) lines
 as_many_commands lines commands asked =
     as_many_kept lines commands asked ∙ length-filter has_byte lines
 

@@ -1,4 +1,6 @@
 mod Pieces
+mod Fronts
+mod PrintedLines
 mod Cuts
 mod Words
 mod Decimals
@@ -9,5 +11,6 @@ mod Scripts
 mod PlainCommands
 mod BadLines
 mod Outputs
+mod WorkedLines
 mod WorkedScripts
 mod RefusedLines

@@ -131,9 +131,11 @@ pub two_outputs_of_one : {Z : Type 0} (words : List (String Z)) (input output : 
     {old new : TextState} {replies : List Reply} → IsNamed words begun
     → LinesAskFor (lines_of input) asked → IsMade begun old → IsRun old asked replies new
     → output ≡ printed replies new
-    → map string_bytes words ≡ word_of_start start ∷ [] → LinesAskFor (lines_of input) (command ∷ [])
+    → map string_bytes words ≡ word_of_start start ∷ []
+    → LinesAskFor (lines_of input) (command ∷ [])
     → ((room : ℕ) → printed (reply_of (edit [] (plain command)) ∷ [])
-    (state_after_step (made start room) (plain command) (reply_of (edit [] (plain command)))) ≡ done)
+    (state_after_step (made start room) (plain command) (reply_of (edit [] (plain command))))
+    ≡ done)
     → ((room : ℕ) → printed (NoMemory ∷ []) (state_after_step (made start room) (plain command)
     NoMemory) ≡ refused)
     → (output ≡ done) ⊎ (output ≡ refused)

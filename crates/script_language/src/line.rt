@@ -60,7 +60,8 @@ fn command_with<'a>(word: &str, rest: &'a str) -> Option<Command<'a>>
     ensures some { IfSome result (λ command.
         (word.now ≡ word_of command) × IsTail (arguments_of command) (space ∷ rest.now)) }
     ensures none { IfNone result (word.now ≢ codes "replace_bytes"
-        → (command : Command) → IsTail (arguments_of command) (space ∷ rest.now) → word.now ≢ word_of command) }
+        → (command : Command) → IsTail (arguments_of command) (space ∷ rest.now)
+        → word.now ≢ word_of command) }
 {
     match word {
         "push" => Some(Command::Push(char_of(rest)?)),

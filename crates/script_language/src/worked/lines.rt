@@ -35,7 +35,8 @@ pub fn arguments_of_commands(string: &str, replacement: &[u8])
     ensures pop { arguments_of Command.Pop ≡ nothing }
     ensures remove { arguments_of (Command.Remove 3) ≡ number 3 }
     ensures clear { arguments_of Command.Clear ≡ nothing }
-    ensures replace_bytes { arguments_of (Command.ReplaceBytes replacement.entry) ≡ bytes (200 ∷ 7 ∷ []) }
+    ensures replace_bytes { arguments_of (Command.ReplaceBytes replacement.entry)
+        ≡ bytes (200 ∷ 7 ∷ []) }
     ensures reserve { arguments_of (Command.Reserve 3) ≡ number 3 }
     ensures reserve_exact { arguments_of (Command.ReserveExact 3) ≡ number 3 }
     ensures shrink_to_fit { arguments_of Command.ShrinkToFit ≡ nothing }

@@ -1,0 +1,51 @@
+-- The lines that are printed of a run, one after the other.
+use Rattle.std.proofs.Common.{◌≡◌, refl, sym, ap, ◌∙◌, ℕ, ◌<◌, zero, suc, List, [], ◌∷◌, ◌++◌, append_assoc, arith, codes, decimal, drop, flat_map, get_or, length, take}
+use Rattle.inlinable_string.specs.State.{TextState}
+use Rattle.inlinable_string.specs.Text.{bytes_of, size}
+use Rattle.inlinable_string.specs.declared.run.Reply.{Reply}
+use Rattle.inlinable_string.specs.declared.run.Reply.TheVariants.{Done}
+use Rattle.script_language.specs.Output.{labelled_line, printed, reply_line, storage_name}
+
+-- the line of the reply at i stands behind those before it
+line_at : (rs : List Reply) (i : ℕ) → i < length rs
+    → flat_map reply_line rs ≡ (flat_map reply_line (take i rs)
+    ++ reply_line (get_or rs i Done)) ++ flat_map reply_line (drop (suc i) rs)
+line_at [] i h = absurd (omega (arith, h))
+line_at (r ∷ rs) zero h = refl
+line_at (r ∷ rs) (suc i) h =
+    let rest = line_at rs i (omega (arith, h)) in
+    let a = flat_map reply_line (take i rs) in
+    let l = reply_line (get_or rs i Done) in
+    let d = flat_map reply_line (drop (suc i) rs) in
+    ap (λ x. reply_line r ++ x) rest
+    ∙ sym (append_assoc (reply_line r) (a ++ l) d)
+    ∙ ap (λ x. x ++ d) (sym (append_assoc (reply_line r) a l))
+
+-- and before those of the others, and what follows all of them
+pub lines_from : (rs : List Reply) (i : ℕ) (last : List ℕ) → i < length rs
+    → (flat_map reply_line (take i rs) ++ reply_line (get_or rs i Done))
+    ++ (flat_map reply_line (drop (suc i) rs) ++ last)
+    ≡ flat_map reply_line rs ++ last
+lines_from rs i last within =
+    sym (append_assoc (flat_map reply_line (take i rs) ++ reply_line (get_or rs i Done))
+    (flat_map reply_line (drop (suc i) rs)) last)
+    ∙ ap (λ l. l ++ last) (sym (line_at rs i within))
+
+regroup : (f a b c : List ℕ) → ((f ++ a) ++ b) ++ c ≡ f ++ ((a ++ b) ++ c)
+regroup f a b c =
+    append_assoc (f ++ a) b c
+    ∙ append_assoc f a (b ++ c)
+    ∙ ap (λ l. f ++ l) (sym (append_assoc a b c))
+
+-- the replies' lines, and then the three of the text, are all that is printed
+pub printed_by_lines : (rs some : List Reply) (s : TextState) (bytes digits name : List ℕ)
+    → some ≡ rs → bytes ≡ bytes_of s.text → digits ≡ decimal (size s.text)
+    → name ≡ storage_name s.storage
+    → ((flat_map reply_line some ++ labelled_line (codes "text ") bytes)
+    ++ labelled_line (codes "length ") digits) ++ labelled_line (codes "storage ") name
+    ≡ printed rs s
+printed_by_lines rs some s bytes digits name all text size storage =
+    rw (all, text, size, storage) (regroup (flat_map reply_line rs)
+    (labelled_line (codes "text ") (bytes_of s.text))
+    (labelled_line (codes "length ") (decimal _))
+    (labelled_line (codes "storage ") (storage_name s.storage)))
