@@ -12,6 +12,7 @@ pub mod finds;
 pub mod growths;
 pub mod instances;
 pub mod joins;
+pub mod makers;
 pub mod makes;
 pub mod replacements;
 pub mod room;

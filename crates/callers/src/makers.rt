@@ -1,0 +1,128 @@
+//! Texts from bytes and from UTF-16, and taken apart again.
+ghost use Rattle.std.specs.Prelude.{◌≡◌, ◌≤◌, ◌<◌, ◌↔◌, [], ◌∷◌, length, IfOk, IfErr, IfSome, IfNone, IsOk, Err, IsUtf8, true};
+ghost use Rattle.std.specs.Str.{chars};
+ghost use Rattle.std.specs.String.{string_bytes};
+ghost use Rattle.std.specs.Cow.{IsBorrowedStr};
+ghost use Rattle.inlinable_string.specs.Text.{bytes_of, size};
+ghost use Rattle.inlinable_string.specs.Utf16.{units_of, HasUnpaired, lossy_utf16};
+ghost use Rattle.inlinable_string.specs.Values.{inlinable_state};
+
+use inlinable_string::string_ext::laws::{bytes_give_the_text_back, utf16_is_read_as_it_is};
+use inlinable_string::{
+    InlinableString, InlinableStringN, InlineStringN, Storage, StringExt, StringMake, Utf16Error,
+};
+use std::alloc::{AllocError, Global};
+use std::borrow::CowStr;
+
+/// A file name as Windows gives it, or none where it is no text; want of memory apart.
+pub fn file_name<S: StringMake + Drop>(
+    alloc: Global,
+    units: &[u16],
+) -> Result<Option<S>, AllocError>
+    ensures some { IfOk result (λ name. IfSome name
+        (λ made. units_of (S.state made).text ≡ units.now)) }
+    ensures none { IfOk result (λ name. IfNone name (HasUnpaired units.now)) }
+{
+    match S::from_utf16(alloc, units) {
+        Ok(name) => Ok(Some(name)),
+        Err(Utf16Error::Unpaired) => Ok(None),
+        Err(Utf16Error::NoMemory) => Err(AllocError),
+    }
+}
+
+/// "é" by its one unit.
+pub fn accent<S: StringMake + Drop>(alloc: Global) -> Result<S, Utf16Error>
+    ensures { IfOk result (λ made. (S.state made).text ≡ 0xE9 ∷ []) }
+{
+    S::from_utf16(alloc, &[0xE9])
+}
+
+/// A line of a log, whatever its units are, to be printed; a short one lies on the heap too.
+pub fn log_line(alloc: Global, units: &[u16]) -> Result<InlinableStringN<16>, AllocError>
+    ensures text { IfOk result (λ line. (inlinable_state 16 line).text ≡ lossy_utf16 units.now) }
+    ensures storage { IfOk result (λ line. (inlinable_state 16 line).storage ≡ Storage.Heap) }
+{
+    InlinableStringN::from_utf16_lossy(alloc, units)
+}
+
+/// The units of a text that is known are read as that text.
+pub fn same_name<S: StringMake + Drop>(
+    alloc: Global,
+    name: &S,
+    units: &[u16],
+) -> Result<S, Utf16Error>
+    requires { units.now ≡ units_of (S.state name.now).text }
+    ensures { IfOk result (λ made. (S.state made).text ≡ (S.state name.now).text) }
+{
+    utf16_is_read_as_it_is();
+    let _ = name.len();
+    S::from_utf16(alloc, units)
+}
+
+/// A body that is a text, or the bytes as they came. It is not copied.
+pub fn body(alloc: Global, bytes: Vec<u8>) -> Result<InlinableStringN<16>, Vec<u8>>
+    ensures ok { IfOk result (λ made. bytes_of (inlinable_state 16 made).text ≡ bytes.items) }
+    ensures err { IfErr result (λ back. back ≡ bytes) }
+    ensures utf8 { IsOk result ↔ IsUtf8 bytes.items }
+{
+    match InlinableStringN::from_utf8(alloc, bytes) {
+        Ok(made) => Ok(made),
+        Err(error) => Err(error.into_bytes()),
+    }
+}
+
+/// A text goes through its bytes and comes back, or stays as it was where memory is refused.
+pub fn through_bytes<S: StringMake + Drop>(alloc: Global, text: S) -> Result<S, S>
+    ensures ok { IfOk result (λ made. (S.state made).text ≡ (S.state text).text) }
+    ensures err { IfErr result (λ kept. S.state kept ≡ S.state text) }
+{
+    bytes_give_the_text_back();
+    let _ = text.len();
+    let bytes = text.into_bytes()?;
+    Ok(unsafe { S::from_utf8_unchecked(alloc, bytes) })
+}
+
+/// Bytes to be printed: they are copied only where they are not UTF-8.
+pub fn shown<'a>(alloc: Global, bytes: &'a [u8]) -> Result<CowStr<'a>, AllocError>
+    ensures borrowed { IfOk result (λ read. IsBorrowedStr read ↔ IsUtf8 bytes.now) }
+    ensures granted { IsUtf8 bytes.now → IsOk result }
+{
+    InlinableString::from_utf8_lossy(alloc, bytes)
+}
+
+/// A key, which takes no memory where it is short.
+pub fn key(alloc: Global, name: &str) -> Result<InlinableStringN<24>, AllocError>
+    ensures text { IfOk result (λ made. (inlinable_state 24 made).text ≡ chars name.now) }
+    ensures granted { length name.now ≤ 24 → IsOk result }
+{
+    InlinableStringN::from(alloc, name)
+}
+
+/// A `String` is kept where it is long, and put inline where it is not: neither takes memory.
+pub fn interned(alloc: Global, name: String) -> InlinableStringN<24>
+    ensures text { (inlinable_state 24 result).text ≡ chars (string_bytes name) }
+{
+    InlinableStringN::from_string(alloc, name)
+}
+
+/// A word of a command line, in an array; none where it is too long.
+pub fn word<const N: usize>(word: &str) -> Option<InlineStringN<N>>
+    ensures some { IfSome result (λ made. made ≡ chars word.now) }
+    ensures none { IfNone result (N < length word.now) }
+{
+    match word.parse::<InlineStringN<N>>() {
+        Ok(made) => Some(made),
+        Err(_) => None,
+    }
+}
+
+/// A text that has become short goes into an array; a longer one comes back as it was.
+pub fn settled<const N: usize>(
+    text: InlinableStringN<N>,
+) -> Result<InlineStringN<N>, InlinableStringN<N>>
+    ensures ok { IfOk result (λ made. made ≡ (inlinable_state N text.entry).text) }
+    ensures err { IfErr result (λ back. back ≡ text.entry) }
+    ensures fits { IsOk result ↔ (size (inlinable_state N text.entry).text ≤ N) }
+{
+    InlineStringN::try_from(text)
+}
