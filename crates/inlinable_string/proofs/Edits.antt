@@ -44,7 +44,8 @@ done_from t v o done text = cc
 
 char_from : (t v : List ℕ) (c : ℕ) (o : Outcome) → reply_of o ≡ Char c → text_left t o ≡ v
     → o ≡ yields c v
-char_from t v c (yields d w) char text = let same : d ≡ c = cc in ap (yields d) text ∙ ap (λ x. yields x v) same
+char_from t v c (yields d w) char text =
+    let same : d ≡ c = cc in ap (yields d) text ∙ ap (λ x. yields x v) same
 char_from t v c o char text = cc
 
 -- the laws on outcomes

@@ -1,5 +1,5 @@
 -- Commands to which no memory can be refused.
-use Rattle.std.proofs.Common.{◌≡◌, ◌≢◌, ℕ, zero, suc, ◌-◌, ◌<◌, inl, inr, List, [], ◌∷◌, length, sym, ◌∙◌, arith, Contains, slice_index_or}
+use Rattle.std.proofs.Common.{◌≡◌, ◌≢◌, ℕ, zero, suc, ◌<◌, inl, inr, List, [], ◌∷◌, length, sym, ◌∙◌, arith, Contains, slice_index_or}
 use Rattle.inlinable_string.specs.State.{TextState}
 use Rattle.inlinable_string.specs.Edit.{edit, reply_of}
 use Rattle.inlinable_string.specs.Run.{IsFree, IsLegal}
@@ -9,20 +9,25 @@ use Rattle.inlinable_string.specs.declared.run.Reply.TheVariants.{NoMemory}
 use Rattle.inlinable_string.proofs.Edits.{never_refused}
 
 -- a free command has the reply of `edit`
-pub granted : (s : TextState) (command : Command) (reply : Reply) → IsLegal s command reply → IsFree s command → reply ≡ reply_of (edit s.text command)
-granted s command reply legal free = elim legal.answer [ inl same ↦ same | inr refused ↦ absurd (refused.1 free) ]
+pub granted : (s : TextState) (command : Command) (reply : Reply) → IsLegal s command reply
+    → IsFree s command → reply ≡ reply_of (edit s.text command)
+granted s command reply legal free =
+    elim legal.answer [ inl same ↦ same | inr refused ↦ absurd (refused.1 free) ]
 
 -- which is no want of memory
-pub not_refused : (t : List ℕ) (command : Command) (reply : Reply) → reply ≡ reply_of (edit t command) → reply ≢ NoMemory
+pub not_refused : (t : List ℕ) (command : Command) (reply : Reply)
+    → reply ≡ reply_of (edit t command) → reply ≢ NoMemory
 not_refused t command reply same refusal = never_refused (edit t command) (sym same ∙ refusal)
 
 -- `NoMemory` is at no place of the replies, where it is not the first and not in the rest
-absent_at : (reply : Reply) (replies : List Reply) (k : ℕ) → reply ≢ NoMemory → ¬ Contains replies NoMemory → k < length (reply ∷ replies)
+absent_at : (reply : Reply) (replies : List Reply) (k : ℕ) → reply ≢ NoMemory
+    → ¬ Contains replies NoMemory → k < length (reply ∷ replies)
     → ¬ (slice_index_or (reply ∷ replies) k NoMemory ≡ NoMemory)
 absent_at reply replies zero here there lt = here
 absent_at reply replies (suc k) here there lt = λ is. there (k, omega (arith, lt), is)
 
-pub absent : (reply : Reply) (replies : List Reply) → reply ≢ NoMemory → ¬ Contains replies NoMemory → ¬ Contains (reply ∷ replies) NoMemory
+pub absent : (reply : Reply) (replies : List Reply) → reply ≢ NoMemory → ¬ Contains replies NoMemory
+    → ¬ Contains (reply ∷ replies) NoMemory
 absent reply replies here there has = absent_at reply replies has.0 here there has.1 has.2
 
 -- where there is no reply, none refuses

@@ -10,18 +10,22 @@ use Rattle.inlinable_string.specs.declared.run.Command.{Command}
 use Rattle.inlinable_string.specs.declared.run.Reply.{Reply}
 
 -- the commands so far
-pub record IsRunSoFar (old : TextState) (commands : List Command) (replies : List Reply) (new : TextState) : Type 0 where
+pub record IsRunSoFar (old : TextState) (commands : List Command) (replies : List Reply)
+    (new : TextState) : Type 0 where
   pub legal : LegalReplies old commands replies
   pub next : Covers (state_after old commands replies) new
 
-state_more : (s : TextState) (cs : List Command) (rs : List Reply) (c : Command) (r : Reply) → length cs ≡ length rs
+state_more : (s : TextState) (cs : List Command) (rs : List Reply) (c : Command) (r : Reply)
+    → length cs ≡ length rs
     → state_after s (cs ++ c ∷ []) (rs ++ r ∷ []) ≡ state_after_step (state_after s cs rs) c r
 state_more s [] [] c r h = refl
 state_more s [] (y ∷ rs) c r h = absurd (omega (arith, h))
 state_more s (x ∷ cs) [] c r h = absurd (omega (arith, h))
-state_more s (x ∷ cs) (y ∷ rs) c r h = state_more (state_after_step s x y) cs rs c r (omega (arith, h))
+state_more s (x ∷ cs) (y ∷ rs) c r h =
+    state_more (state_after_step s x y) cs rs c r (omega (arith, h))
 
-legal_more : (s : TextState) (cs : List Command) (rs : List Reply) (c : Command) (r : Reply) → LegalReplies s cs rs
+legal_more : (s : TextState) (cs : List Command) (rs : List Reply) (c : Command) (r : Reply)
+    → LegalReplies s cs rs
     → IsLegal (state_after s cs rs) c r → LegalReplies s (cs ++ c ∷ []) (rs ++ r ∷ [])
 legal_more s [] [] c r h a = (a, tt)
 legal_more s [] (y ∷ rs) c r h a = absurd h
@@ -29,17 +33,20 @@ legal_more s (x ∷ cs) [] c r h a = absurd h
 legal_more s (x ∷ cs) (y ∷ rs) c r h a = (h.0, legal_more (state_after_step s x y) cs rs c r h.1 a)
 
 -- the state follows the text and keeps the policy
-pub text_of : (s : TextState) (cs : List Command) (rs : List Reply) → (state_after s cs rs).text ≡ text_after s.text cs rs
+pub text_of : (s : TextState) (cs : List Command) (rs : List Reply)
+    → (state_after s cs rs).text ≡ text_after s.text cs rs
 text_of s [] rs = refl
 text_of s (x ∷ cs) [] = refl
 text_of s (x ∷ cs) (y ∷ rs) = text_of (state_after_step s x y) cs rs
 
-pub policy_of : (s : TextState) (cs : List Command) (rs : List Reply) → (state_after s cs rs).policy ≡ s.policy
+pub policy_of : (s : TextState) (cs : List Command) (rs : List Reply)
+    → (state_after s cs rs).policy ≡ s.policy
 policy_of s [] rs = refl
 policy_of s (x ∷ cs) [] = refl
 policy_of s (x ∷ cs) (y ∷ rs) = policy_of (state_after_step s x y) cs rs
 
-fits_in : (s : TextState) (cs : List Command) (rs : List Reply) → size s.text ≤ s.capacity → size (state_after s cs rs).text ≤ (state_after s cs rs).capacity
+fits_in : (s : TextState) (cs : List Command) (rs : List Reply) → size s.text ≤ s.capacity
+    → size (state_after s cs rs).text ≤ (state_after s cs rs).capacity
 fits_in s [] rs h = h
 fits_in s (x ∷ cs) [] h = h
 fits_in s (x ∷ cs) (y ∷ rs) h = fits_in (state_after_step s x y) cs rs (omega arith)
@@ -50,29 +57,43 @@ covered s value h = rw (h.text, h.storage, h.policy) refl
 
 -- the start of a run
 pub so_far_none : (s : TextState) → IsRunSoFar s [] [] s
-so_far_none s = record { legal = tt; next = record { text = refl; storage = refl; room = omega arith; policy = refl } }
+so_far_none s =
+    record {
+      legal = tt;
+      next =
+          record { text = refl; storage = refl; room = omega arith; policy = refl };
+    }
 
 -- the step of a loop over the commands
-pub so_far_more : (old mid new : TextState) (cs : List Command) (rs : List Reply) (i : ℕ) (d : Command) (r : Reply)
-    → length rs ≡ length cs → i < length cs → IsLawful old → IsRunSoFar old (take i cs) (take i rs) mid → IsStep mid (get_or cs i d) r new
+pub so_far_more : (old mid new : TextState) (cs : List Command) (rs : List Reply) (i : ℕ)
+    (d : Command) (r : Reply)
+    → length rs ≡ length cs → i < length cs → IsLawful old
+    → IsRunSoFar old (take i cs) (take i rs) mid → IsStep mid (get_or cs i d) r new
     → IsRunSoFar old (take (i + 1) cs) (take (i + 1) (set rs i r)) new
 so_far_more old mid new cs rs i d r long lt laws ran step =
     let c = get_or cs i d in
     let s : TextState = state_after old (take i cs) (take i rs) in
     let front : take (i + 1) cs ≡ take i cs ++ c ∷ [] = take_more cs i d lt in
-    let back : take (i + 1) (set rs i r) ≡ take i rs ++ r ∷ [] = take_more_set rs i r (omega (arith, long, lt)) in
-    let same : length (take i cs) ≡ length (take i rs) = length-take-le i cs (omega (arith, lt)) ∙ sym (length-take-le i rs (omega (arith, lt, long))) in
-    let within : size mid.text ≤ s.capacity = rw (ran.next.text) (fits_in old (take i cs) (take i rs) laws.within) in
+    let back : take (i + 1) (set rs i r) ≡ take i rs ++ r ∷ [] =
+    take_more_set rs i r (omega (arith, long, lt)) in
+    let same : length (take i cs) ≡ length (take i rs) =
+    length-take-le i cs (omega (arith, lt)) ∙ sym (length-take-le i rs (omega (arith, lt, long))) in
+    let within : size mid.text ≤ s.capacity =
+    rw (ran.next.text) (fits_in old (take i cs) (take i rs) laws.within) in
     let is : record mid { capacity = s.capacity } ≡ s = covered s mid ran.next in
-    let legal : IsLegal s c r = subst (λ (x : TextState). IsLegal x c r) is (step.legal s.capacity within ran.next.room) in
-    let next : Covers (state_after_step s c r) new = subst (λ (x : TextState). Covers (state_after_step x c r) new) is (step.next s.capacity within ran.next.room) in
+    let legal : IsLegal s c r =
+    subst (λ (x : TextState). IsLegal x c r) is (step.legal s.capacity within ran.next.room) in
+    let next : Covers (state_after_step s c r) new =
+    subst (λ (x : TextState). Covers (state_after_step x c r) new) is
+    (step.next s.capacity within ran.next.room) in
     rw (front, back) (record {
       legal = legal_more old (take i cs) (take i rs) c r ran.legal legal;
       next = rw (state_more old (take i cs) (take i rs) c r same) next;
     })
 
 -- the end of a run
-pub run_whole : (old new : TextState) (cs : List Command) (rs : List Reply) (i : ℕ) → length rs ≡ length cs → length cs ≤ i → IsLawful old
+pub run_whole : (old new : TextState) (cs : List Command) (rs : List Reply) (i : ℕ)
+    → length rs ≡ length cs → length cs ≤ i → IsLawful old
     → IsRunSoFar old (take i cs) (take i rs) new → IsRun old cs rs new
 run_whole old new cs rs i long past laws ran =
     let a : take i cs ≡ cs = take_all i cs past in
@@ -82,6 +103,7 @@ run_whole old new cs rs i long past laws ran =
       text = whole.next.text ∙ text_of old cs rs;
       storage = whole.next.storage;
       legal = whole.legal;
-      credit = omega (arith, ap size whole.next.text, whole.next.room, fits_in old cs rs laws.within);
+      credit =
+          omega (arith, ap size whole.next.text, whole.next.room, fits_in old cs rs laws.within);
       policy = whole.next.policy ∙ policy_of old cs rs;
     }

@@ -7,29 +7,41 @@ use Rattle.inlinable_string.specs.declared.run.Command.{Command}
 use Rattle.inlinable_string.specs.declared.run.Reply.{Reply}
 
 -- the text after both
-pub text_joined : (t : List ℕ) (first second : List Command) (replies others : List Reply) → length first ≡ length replies
-    → text_after t (first ++ second) (replies ++ others) ≡ text_after (text_after t first replies) second others
+pub text_joined : (t : List ℕ) (first second : List Command) (replies others : List Reply)
+    → length first ≡ length replies
+    → text_after t (first ++ second) (replies ++ others)
+    ≡ text_after (text_after t first replies) second others
 text_joined t [] second [] others h = refl
 text_joined t [] second (r ∷ replies) others h = absurd (omega (arith, h))
 text_joined t (c ∷ first) second [] others h = absurd (omega (arith, h))
-text_joined t (c ∷ first) second (r ∷ replies) others h = text_joined (text_after_step t c r) first second replies others (omega (arith, h))
+text_joined t (c ∷ first) second (r ∷ replies) others h =
+    text_joined (text_after_step t c r) first second replies others (omega (arith, h))
 
 -- the state after both
-state_joined : (s : TextState) (first second : List Command) (replies others : List Reply) → length first ≡ length replies
-    → state_after s (first ++ second) (replies ++ others) ≡ state_after (state_after s first replies) second others
+state_joined : (s : TextState) (first second : List Command) (replies others : List Reply)
+    → length first ≡ length replies
+    → state_after s (first ++ second) (replies ++ others)
+    ≡ state_after (state_after s first replies) second others
 state_joined s [] second [] others h = refl
 state_joined s [] second (r ∷ replies) others h = absurd (omega (arith, h))
 state_joined s (c ∷ first) second [] others h = absurd (omega (arith, h))
-state_joined s (c ∷ first) second (r ∷ replies) others h = state_joined (state_after_step s c r) first second replies others (omega (arith, h))
+state_joined s (c ∷ first) second (r ∷ replies) others h =
+    state_joined (state_after_step s c r) first second replies others (omega (arith, h))
 
 -- and so its storage and its credit
-pub storage_joined : (s : TextState) (first second : List Command) (replies others : List Reply) → length first ≡ length replies
-    → storage_after s (first ++ second) (replies ++ others) ≡ storage_after (state_after s first replies) second others
-storage_joined s first second replies others h = ap (λ (x : TextState). x.storage) (state_joined s first second replies others h)
+pub storage_joined : (s : TextState) (first second : List Command) (replies others : List Reply)
+    → length first ≡ length replies
+    → storage_after s (first ++ second) (replies ++ others)
+    ≡ storage_after (state_after s first replies) second others
+storage_joined s first second replies others h =
+    ap (λ (x : TextState). x.storage) (state_joined s first second replies others h)
 
-pub credit_joined : (s : TextState) (first second : List Command) (replies others : List Reply) → length first ≡ length replies
-    → credit_after s (first ++ second) (replies ++ others) ≡ credit_after (state_after s first replies) second others
-credit_joined s first second replies others h = ap credit (state_joined s first second replies others h)
+pub credit_joined : (s : TextState) (first second : List Command) (replies others : List Reply)
+    → length first ≡ length replies
+    → credit_after s (first ++ second) (replies ++ others)
+    ≡ credit_after (state_after s first replies) second others
+credit_joined s first second replies others h =
+    ap credit (state_joined s first second replies others h)
 
 -- the replies of both are legal where those of each are
 pub legal_joined : (s : TextState) (first second : List Command) (replies others : List Reply)
@@ -38,14 +50,18 @@ pub legal_joined : (s : TextState) (first second : List Command) (replies others
 legal_joined s [] second [] others h k = k
 legal_joined s [] second (r ∷ replies) others h k = absurd h
 legal_joined s (c ∷ first) second [] others h k = absurd h
-legal_joined s (c ∷ first) second (r ∷ replies) others h k = (h.0, legal_joined (state_after_step s c r) first second replies others h.1 k)
+legal_joined s (c ∷ first) second (r ∷ replies) others h k =
+    (h.0, legal_joined (state_after_step s c r) first second replies others h.1 k)
 
 -- and only there
-pub legal_parted : (s : TextState) (first second : List Command) (replies others : List Reply) → length first ≡ length replies
+pub legal_parted : (s : TextState) (first second : List Command) (replies others : List Reply)
+    → length first ≡ length replies
     → LegalReplies s (first ++ second) (replies ++ others)
     → LegalReplies s first replies × LegalReplies (state_after s first replies) second others
 legal_parted s [] second [] others h k = (tt, k)
 legal_parted s [] second (r ∷ replies) others h k = absurd (omega (arith, h))
 legal_parted s (c ∷ first) second [] others h k = absurd (omega (arith, h))
 legal_parted s (c ∷ first) second (r ∷ replies) others h k =
-    let rest = legal_parted (state_after_step s c r) first second replies others (omega (arith, h)) k.1 in ((k.0, rest.0), rest.1)
+    let rest =
+    legal_parted (state_after_step s c r) first second replies others (omega (arith, h)) k.1 in
+    ((k.0, rest.0), rest.1)

@@ -35,12 +35,14 @@ credit_met k l (at_end n) h = omega (arith, h)
 credit_met k l (reserved n) h = omega arith
 credit_met k l need h = omega arith
 
-credit_step : (k l : ℕ) (command : Command) (reply : Reply) → k ≤ l → credit_after_step k command reply ≤ credit_after_step l command reply
+credit_step : (k l : ℕ) (command : Command) (reply : Reply) → k ≤ l
+    → credit_after_step k command reply ≤ credit_after_step l command reply
 credit_step k l command Done h = credit_met k l (need_of command) h
 credit_step k l command BadPlace h = h
 credit_step k l command reply h = omega arith
 
-richer_step : (s v : TextState) (command : Command) (reply : Reply) → IsRicher s v → IsRicher (state_after_step s command reply) (state_after_step v command reply)
+richer_step : (s v : TextState) (command : Command) (reply : Reply) → IsRicher s v
+    → IsRicher (state_after_step s command reply) (state_after_step v command reply)
 richer_step s v command reply h = record {
   text = ap (λ t. text_after_step t command reply) h.text;
   storage = same_storage_step s v command reply h.text h.storage h.policy;
@@ -48,17 +50,22 @@ richer_step s v command reply h = record {
   credit = omega (arith, credit_step (credit s) (credit v) command reply h.credit);
 }
 
-credit_richer : (s v : TextState) (commands : List Command) (replies : List Reply) → IsRicher s v → credit_after s commands replies ≤ credit_after v commands replies
+credit_richer : (s v : TextState) (commands : List Command) (replies : List Reply) → IsRicher s v
+    → credit_after s commands replies ≤ credit_after v commands replies
 credit_richer s v [] replies h = h.credit
 credit_richer s v (c ∷ commands) [] h = h.credit
-credit_richer s v (c ∷ commands) (r ∷ replies) h = credit_richer (state_after_step s c r) (state_after_step v c r) commands replies (richer_step s v c r h)
+credit_richer s v (c ∷ commands) (r ∷ replies) h =
+    credit_richer (state_after_step s c r) (state_after_step v c r) commands replies
+    (richer_step s v c r h)
 
-counted_same : (s v : TextState) (need : Need) (reply : Reply) → s.text ≡ v.text → IsCounted v need reply → IsCounted s need reply
+counted_same : (s v : TextState) (need : Need) (reply : Reply) → s.text ≡ v.text
+    → IsCounted v need reply → IsCounted s need reply
 counted_same s v (reserved n) Done e h = rw e h
 counted_same s v need reply e h = tt
 
 -- what is legal with more credit is legal with less
-legal_poorer : (s v : TextState) (command : Command) (reply : Reply) → IsRicher s v → IsLegal v command reply → IsLegal s command reply
+legal_poorer : (s v : TextState) (command : Command) (reply : Reply) → IsRicher s v
+    → IsLegal v command reply → IsLegal s command reply
 legal_poorer s v command reply h legal =
     let again : s.text ≡ v.text = h.text in
     record {
@@ -67,7 +74,8 @@ legal_poorer s v command reply h legal =
         | inr refused ↦ inr (
           refused.0,
           λ free. refused.1 (elim free [
-            | inl none ↦ inl (λ asks. none (asks.0, ap (λ t. reply_of (edit t command)) again ∙ asks.1))
+            | inl none ↦ inl
+                (λ asks. none (asks.0, ap (λ t. reply_of (edit t command)) again ∙ asks.1))
             | inr met ↦ inr (met_richer s v (need_of command) h met)
           ]),
         )
@@ -75,16 +83,22 @@ legal_poorer s v command reply h legal =
       counted = counted_same s v (need_of command) reply again legal.counted;
     }
 
-all_legal_poorer : (s v : TextState) (commands : List Command) (replies : List Reply) → IsRicher s v → LegalReplies v commands replies → LegalReplies s commands replies
+all_legal_poorer : (s v : TextState) (commands : List Command) (replies : List Reply) → IsRicher s v
+    → LegalReplies v commands replies → LegalReplies s commands replies
 all_legal_poorer s v [] [] h legal = tt
 all_legal_poorer s v [] (r ∷ replies) h legal = absurd legal
 all_legal_poorer s v (c ∷ commands) [] h legal = absurd legal
-all_legal_poorer s v (c ∷ commands) (r ∷ replies) h legal =
-    (legal_poorer s v c r h legal.0, all_legal_poorer (state_after_step s c r) (state_after_step v c r) commands replies (richer_step s v c r h) legal.1)
+all_legal_poorer s v (c ∷ commands) (r ∷ replies) h legal = (
+  legal_poorer s v c r h legal.0,
+  all_legal_poorer (state_after_step s c r) (state_after_step v c r) commands replies
+      (richer_step s v c r h) legal.1,
+)
 
 -- one run after another of one value is a run of both
-pub runs_follow : (old mid new : TextState) (first second : List Command) (replies others : List Reply)
-    → IsRun old first replies mid → IsRun mid second others new → IsRun old (first ++ second) (replies ++ others) new
+pub runs_follow : (old mid new : TextState) (first second : List Command)
+    (replies others : List Reply)
+    → IsRun old first replies mid → IsRun mid second others new
+    → IsRun old (first ++ second) (replies ++ others) new
 runs_follow old mid new first second replies others a b =
     let s : TextState = state_after old first replies in
     let same : length first ≡ length replies = sym (as_many_replies old first replies a.legal) in
@@ -96,9 +110,22 @@ runs_follow old mid new first second replies others a b =
       credit = omega (arith, a.credit);
     } in
     record {
-      text = b.text ∙ ap (λ t. text_after t second others) a.text ∙ sym (text_joined old.text first second replies others same);
-      storage = b.storage ∙ sym (same_storage s mid second others richer.text richer.storage richer.policy) ∙ sym (storage_joined old first second replies others same);
-      legal = legal_joined old first second replies others a.legal (all_legal_poorer s mid second others richer b.legal);
-      credit = omega (arith, b.credit, credit_richer s mid second others richer, credit_joined old first second replies others same);
+      text =
+          b.text ∙ ap (λ t. text_after t second others) a.text
+          ∙ sym (text_joined old.text first second replies others same);
+      storage =
+          b.storage
+          ∙ sym (same_storage s mid second others richer.text richer.storage richer.policy)
+          ∙ sym (storage_joined old first second replies others same);
+      legal =
+          legal_joined old first second replies others a.legal
+          (all_legal_poorer s mid second others richer b.legal);
+      credit =
+          omega (
+            arith,
+            b.credit,
+            credit_richer s mid second others richer,
+            credit_joined old first second replies others same,
+          );
       policy = b.policy ∙ a.policy;
     }

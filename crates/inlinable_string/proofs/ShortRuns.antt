@@ -1,5 +1,5 @@
 -- Runs that stay within the inline room: no memory can be refused to them.
-use Rattle.std.proofs.Common.{◌≡◌, ◌≢◌, ℕ, ◌+◌, ◌-◌, ◌≤◌, inl, inr, ◌⊎◌, true, List, [], ◌∷◌, refl, sym, ap, ◌∙◌, arith, subst, nat_le, Contains}
+use Rattle.std.proofs.Common.{◌≡◌, ◌≢◌, ℕ, ◌+◌, ◌≤◌, inl, inr, ◌⊎◌, true, List, [], ◌∷◌, refl, sym, ap, ◌∙◌, arith, subst, nat_le, Contains}
 use Rattle.std.proofs.lemmas.Bool.Decides.{nat_tests}
 use Rattle.inlinable_string.specs.Text.{size}
 use Rattle.inlinable_string.specs.State.{TextState, IsLawful, storage_with_room, storage_when_shrunk}
@@ -24,7 +24,8 @@ Grows t tight v = v ≡ t
 Grows t no_room v = Unit {0}
 
 -- a command that is carried out adds what it needs
-grows : (t : List ℕ) (command : Command) → reply_of (edit t command) ≡ Done → Grows t (need_of command) (text_left t (edit t command))
+grows : (t : List ℕ) (command : Command) → reply_of (edit t command) ≡ Done
+    → Grows t (need_of command) (text_left t (edit t command))
 grows t (Push c) done = push_grows t c
 grows t (PushStr u) done = push_str_grows t u
 grows t (Insert p c) done = insert_grows t p c done
@@ -39,23 +40,31 @@ grows t (ReserveExact n) done = tt
 grows t ShrinkToFit done = refl
 
 -- with room inline a text stays there
-stays_with_room : (s : TextState) (n : ℕ) → s.storage ≡ Inline → size s.text + n ≤ s.policy.limit → storage_with_room s n ≡ Inline
+stays_with_room : (s : TextState) (n : ℕ) → s.storage ≡ Inline → size s.text + n ≤ s.policy.limit
+    → storage_with_room s n ≡ Inline
 stays_with_room s n inline room =
-    let few : nat_le (size s.text + n) s.policy.limit ≡ true = grind (arith, nat_tests, room) in rw (inline, few)
+    let few : nat_le (size s.text + n) s.policy.limit ≡ true = grind (arith, nat_tests, room) in
+    rw (inline, few)
 
 -- and when it is shrunk
 stays_shrunk : (s : TextState) → s.storage ≡ Inline → storage_when_shrunk s ≡ Inline
 stays_shrunk s inline = rw inline
 
 -- a need within the limit is met inline
-met_inline : (s : TextState) (need : Need) (v : List ℕ) → Grows s.text need v → s.policy.demotes ≡ true → s.storage ≡ Inline
-    → ReservesWithin s.policy.limit s.text need → size v ≤ s.policy.limit → IsMet s need × (storage_when_met s need ≡ Inline)
+met_inline : (s : TextState) (need : Need) (v : List ℕ) → Grows s.text need v
+    → s.policy.demotes ≡ true → s.storage ≡ Inline
+    → ReservesWithin s.policy.limit s.text need → size v ≤ s.policy.limit
+    → IsMet s need × (storage_when_met s need ≡ Inline)
 met_inline s (at_end n) v grown demotes inline held short =
-    let room : size s.text + n ≤ s.policy.limit = omega (arith, grown, short) in (inl (inline, room), stays_with_room s n inline room)
+    let room : size s.text + n ≤ s.policy.limit = omega (arith, grown, short) in
+    (inl (inline, room), stays_with_room s n inline room)
 met_inline s (anywhere n) v grown demotes inline held short =
-    let room : size s.text + n ≤ s.policy.limit = omega (arith, grown, short) in ((inline, room), stays_with_room s n inline room)
-met_inline s (reserved n) v grown demotes inline held short = ((inline, held), stays_with_room s n inline held)
-met_inline s tight v grown demotes inline held short = ((demotes, omega (arith, ap size grown, short)), stays_shrunk s inline)
+    let room : size s.text + n ≤ s.policy.limit = omega (arith, grown, short) in
+    ((inline, room), stays_with_room s n inline room)
+met_inline s (reserved n) v grown demotes inline held short =
+    ((inline, held), stays_with_room s n inline held)
+met_inline s tight v grown demotes inline held short =
+    ((demotes, omega (arith, ap size grown, short)), stays_shrunk s inline)
 met_inline s no_room v grown demotes inline held short = (tt, inline)
 
 -- carried out or not
@@ -64,22 +73,31 @@ done_or_not Done = inl refl
 done_or_not r = inr (λ h. cc)
 
 -- a command that stays within the limit is free, and leaves the text inline
-pub short_step : (s : TextState) (command : Command) (reply : Reply) → s.policy.demotes ≡ true → s.storage ≡ Inline
-    → ReservesWithin s.policy.limit s.text (need_of command) → size (text_left s.text (edit s.text command)) ≤ s.policy.limit → IsLegal s command reply
+pub short_step : (s : TextState) (command : Command) (reply : Reply) → s.policy.demotes ≡ true
+    → s.storage ≡ Inline
+    → ReservesWithin s.policy.limit s.text (need_of command)
+    → size (text_left s.text (edit s.text command)) ≤ s.policy.limit → IsLegal s command reply
     → (reply ≡ reply_of (edit s.text command)) × (storage_after_step s command reply ≡ Inline)
-short_step s command reply demotes inline held short legal = elim (done_or_not (reply_of (edit s.text command))) [
-  | inl done ↦
-      let met = met_inline s (need_of command) (text_left s.text (edit s.text command)) (grows s.text command done) demotes inline held short in
-      let same : reply ≡ reply_of (edit s.text command) = granted s command reply legal (inr met.0) in
-      (same, ap (storage_after_step s command) (same ∙ done) ∙ met.1)
-  | inr other ↦
-      let same : reply ≡ reply_of (edit s.text command) = granted s command reply legal (inl (λ asks. other asks.1)) in
-      (same, storage_kept s command reply (λ h. other (sym same ∙ h)) ∙ inline)
-]
+short_step s command reply demotes inline held short legal =
+    elim (done_or_not (reply_of (edit s.text command))) [
+      | inl done ↦
+          let met =
+          met_inline s (need_of command) (text_left s.text (edit s.text command))
+          (grows s.text command done) demotes inline held short in
+          let same : reply ≡ reply_of (edit s.text command) =
+          granted s command reply legal (inr met.0) in
+          (same, ap (storage_after_step s command) (same ∙ done) ∙ met.1)
+      | inr other ↦
+          let same : reply ≡ reply_of (edit s.text command) =
+          granted s command reply legal (inl (λ asks. other asks.1)) in
+          (same, storage_kept s command reply (λ h. other (sym same ∙ h)) ∙ inline)
+    ]
 
 -- so a run of such commands asks for nothing, and leaves it inline
-short_run : (s : TextState) (commands : List Command) (replies : List Reply) → s.policy.demotes ≡ true → s.storage ≡ Inline
-    → StaysWithin s.policy.limit s.text commands → LegalReplies s commands replies → (¬ Contains replies NoMemory) × (storage_after s commands replies ≡ Inline)
+short_run : (s : TextState) (commands : List Command) (replies : List Reply)
+    → s.policy.demotes ≡ true → s.storage ≡ Inline
+    → StaysWithin s.policy.limit s.text commands → LegalReplies s commands replies
+    → (¬ Contains replies NoMemory) × (storage_after s commands replies ≡ Inline)
 short_run s [] [] demotes inline within legal = (absent_nil, inline)
 short_run s [] (r ∷ replies) demotes inline within legal = absurd legal
 short_run s (c ∷ commands) [] demotes inline within legal = absurd legal
@@ -87,15 +105,22 @@ short_run s (c ∷ commands) (r ∷ replies) demotes inline within legal =
     let step = short_step s c r demotes inline within.0.0 within.0.1 legal.0 in
     let here : r ≢ NoMemory = not_refused s.text c r step.0 in
     let next : StaysWithin s.policy.limit (text_after_step s.text c r) commands =
-    subst (λ t. StaysWithin s.policy.limit t commands) (sym (text_granted s.text c r here)) within.1 in
+    subst (λ t. StaysWithin s.policy.limit t commands)
+    (sym (text_granted s.text c r here)) within.1 in
     let rest = short_run (state_after_step s c r) commands replies demotes step.1 next legal.1 in
     (absent r replies here rest.0, rest.1)
 
 -- the clauses on short runs
-pub short_run_never_asks : (s : TextState) (commands : List Command) (replies : List Reply) → IsLawful s → s.storage ≡ Inline
-    → StaysWithin s.policy.limit s.text commands → LegalReplies s commands replies → ¬ Contains replies NoMemory
-short_run_never_asks s commands replies laws inline within legal = (short_run s commands replies (laws.inline_demotes inline) inline within legal).0
+pub short_run_never_asks : (s : TextState) (commands : List Command) (replies : List Reply)
+    → IsLawful s → s.storage ≡ Inline
+    → StaysWithin s.policy.limit s.text commands → LegalReplies s commands replies
+    → ¬ Contains replies NoMemory
+short_run_never_asks s commands replies laws inline within legal =
+    (short_run s commands replies (laws.inline_demotes inline) inline within legal).0
 
-pub short_run_stays_inline : (s : TextState) (commands : List Command) (replies : List Reply) → IsLawful s → s.storage ≡ Inline
-    → StaysWithin s.policy.limit s.text commands → LegalReplies s commands replies → storage_after s commands replies ≡ Inline
-short_run_stays_inline s commands replies laws inline within legal = (short_run s commands replies (laws.inline_demotes inline) inline within legal).1
+pub short_run_stays_inline : (s : TextState) (commands : List Command) (replies : List Reply)
+    → IsLawful s → s.storage ≡ Inline
+    → StaysWithin s.policy.limit s.text commands → LegalReplies s commands replies
+    → storage_after s commands replies ≡ Inline
+short_run_stays_inline s commands replies laws inline within legal =
+    (short_run s commands replies (laws.inline_demotes inline) inline within legal).1

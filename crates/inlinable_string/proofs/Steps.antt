@@ -24,7 +24,8 @@ answered : (old new : TextState) (command : Command) (reply : Reply) → IsLawfu
     → reply ≡ reply_of (edit old.text command) → new.text ≡ text_after_step old.text command reply
     → ((n : ℕ) → new.storage ≡ storage_after_step (record old { capacity = n }) command reply)
     → ((n : ℕ) → IsCounted (record old { capacity = n }) (need_of command) reply)
-    → ((k : ℕ) → credit_after_step k command reply ≡ 0) → new.policy ≡ old.policy → IsStep old command reply new
+    → ((k : ℕ) → credit_after_step k command reply ≡ 0) → new.policy ≡ old.policy
+    → IsStep old command reply new
 answered old new command reply laws answer text storage counted none policy = record {
   legal = λ n fits most. record { answer = inl answer; counted = counted n };
   next = λ n fits most. record {
@@ -36,13 +37,17 @@ answered old new command reply laws answer text storage counted none policy = re
 }
 
 -- a command that memory was refused to
-refused : (old new : TextState) (command : Command) → IsLawful new → IsSameText old new → AsksMemory old.text command
-    → ((n : ℕ) → size old.text ≤ n → n ≤ old.capacity → ¬ (IsMet (record old { capacity = n }) (need_of command)))
-    → ((n : ℕ) → IsCounted (record old { capacity = n }) (need_of command) NoMemory) → new.policy ≡ old.policy
+refused : (old new : TextState) (command : Command) → IsLawful new → IsSameText old new
+    → AsksMemory old.text command
+    → ((n : ℕ) → size old.text ≤ n → n ≤ old.capacity
+    → ¬ (IsMet (record old { capacity = n }) (need_of command)))
+    → ((n : ℕ) → IsCounted (record old { capacity = n }) (need_of command) NoMemory)
+    → new.policy ≡ old.policy
     → IsStep old command NoMemory new
 refused old new command laws same asks unmet counted policy = record {
   legal = λ n fits most. record {
-    answer = inr (refl, λ free. elim free [ inl none ↦ none asks | inr met ↦ unmet n fits most met ]);
+    answer =
+        inr (refl, λ free. elim free [ inl none ↦ none asks | inr met ↦ unmet n fits most met ]);
     counted = counted n;
   };
   next = λ n fits most. record {
@@ -55,9 +60,11 @@ refused old new command laws same asks unmet counted policy = record {
 
 -- a command at a bad place
 misplaced : (old : TextState) (command : Command) → edit old.text command ≡ has_no_place
-    → ((n : ℕ) → IsCounted (record old { capacity = n }) (need_of command) BadPlace) → IsStep old command BadPlace old
+    → ((n : ℕ) → IsCounted (record old { capacity = n }) (need_of command) BadPlace)
+    → IsStep old command BadPlace old
 misplaced old command is counted =
-    let kept : text_left old.text (edit old.text command) ≡ old.text = ap (text_left old.text) is in record {
+    let kept : text_left old.text (edit old.text command) ≡ old.text = ap (text_left old.text) is in
+    record {
       legal = λ n fits most. record { answer = inl (sym (ap reply_of is)); counted = counted n };
       next = λ n fits most. record {
         text = sym kept;
@@ -68,38 +75,57 @@ misplaced old command is counted =
     }
 
 -- what pushes have left of a credit
-left : (t u : List ℕ) (a n old new : ℕ) → size u ≡ a → size (t ++ u) ≤ new → n ≤ old → old ≤ new → size (t ++ u) + (n - size t - a) ≤ new
-left t u a n old new width within most more = omega (arith, size-append t u, width, within, most, more)
+left : (t u : List ℕ) (a n old new : ℕ) → size u ≡ a → size (t ++ u) ≤ new → n ≤ old → old ≤ new
+    → size (t ++ u) + (n - size t - a) ≤ new
+left t u a n old new width within most more =
+    omega (arith, size-append t u, width, within, most, more)
 
-pushed : (old new : TextState) (command : Command) (u : List ℕ) (a : ℕ) → IsLawful new → size u ≡ a → edit old.text command ≡ becomes (old.text ++ u)
+pushed : (old new : TextState) (command : Command) (u : List ℕ) (a : ℕ) → IsLawful new → size u ≡ a
+    → edit old.text command ≡ becomes (old.text ++ u)
     → ((k : ℕ) → credit_after_step k command Done ≡ k - a)
     → ((n : ℕ) → IsCounted (record old { capacity = n }) (need_of command) Done)
-    → new.text ≡ old.text ++ u → ((n : ℕ) → new.storage ≡ storage_after_step (record old { capacity = n }) command Done)
+    → new.text ≡ old.text ++ u
+    → ((n : ℕ) → new.storage ≡ storage_after_step (record old { capacity = n }) command Done)
     → old.capacity ≤ new.capacity → new.policy ≡ old.policy → IsStep old command Done new
 pushed old new command u a laws width is credit counted text storage more policy =
-    let kept : text_left old.text (edit old.text command) ≡ old.text ++ u = ap (text_left old.text) is in
+    let kept : text_left old.text (edit old.text command) ≡ old.text ++ u =
+    ap (text_left old.text) is in
     let within : size (old.text ++ u) ≤ new.capacity = rw text at laws.within in record {
       legal = λ n fits most. record { answer = inl (sym (ap reply_of is)); counted = counted n };
       next = λ n fits most. record {
         text = text ∙ sym kept;
         storage = storage n;
-        room = omega (arith, ap size kept, credit (n - size old.text), left old.text u a n old.capacity new.capacity width within most more);
+        room =
+            omega (
+              arith,
+              ap size kept,
+              credit (n - size old.text),
+              left old.text u a n old.capacity new.capacity width within most more,
+            );
         policy = policy;
       };
     }
 
-pub push_done : (old new : TextState) (c : ℕ) → IsLawful new → new.text ≡ old.text ++ c ∷ [] → new.storage ≡ storage_with_room old (size (c ∷ []))
+pub push_done : (old new : TextState) (c : ℕ) → IsLawful new → new.text ≡ old.text ++ c ∷ []
+    → new.storage ≡ storage_with_room old (size (c ∷ []))
     → old.capacity ≤ new.capacity → new.policy ≡ old.policy → IsStep old (Push c) Done new
 push_done old new c laws text storage more policy =
-    pushed old new (Push c) (c ∷ []) (size (c ∷ [])) laws refl refl (λ k. refl) (λ n. tt) text (λ n. storage) more policy
+    pushed old new (Push c) (c ∷ []) (size (c ∷ [])) laws refl refl (λ k. refl) (λ n. tt) text
+    (λ n. storage) more policy
 
-pub push_str_done : (old new : TextState) (string : Bor (List ℕ)) → IsUtf8 string.now → IsLawful new → new.text ≡ old.text ++ chars string.now
-    → new.storage ≡ storage_with_room old (length string.now) → old.capacity ≤ new.capacity → new.policy ≡ old.policy → IsStep old (PushStr string) Done new
+pub push_str_done : (old new : TextState) (string : Bor (List ℕ)) → IsUtf8 string.now → IsLawful new
+    → new.text ≡ old.text ++ chars string.now
+    → new.storage ≡ storage_with_room old (length string.now) → old.capacity ≤ new.capacity
+    → new.policy ≡ old.policy → IsStep old (PushStr string) Done new
 push_str_done old new string u laws text storage more policy =
-    pushed old new (PushStr string) (chars string.now) (size (chars string.now)) laws refl refl (λ k. refl) (λ n. tt) text (λ n. storage ∙ ap (storage_with_room old) (sym (size-chars string.now u))) more policy
+    pushed old new (PushStr string) (chars string.now) (size (chars string.now)) laws refl refl
+    (λ k. refl) (λ n. tt) text (λ n. storage
+    ∙ ap (storage_with_room old) (sym (size-chars string.now u))) more policy
 
-pub push_str_refused : (old new : TextState) (string : Bor (List ℕ)) → IsUtf8 string.now → IsLawful new → IsSameText old new
-    → (HasRoom old (length string.now) → false ≡ true) → (HasInlineRoom old (length string.now) → false ≡ true) → new.policy ≡ old.policy
+pub push_str_refused : (old new : TextState) (string : Bor (List ℕ)) → IsUtf8 string.now
+    → IsLawful new → IsSameText old new
+    → (HasRoom old (length string.now) → false ≡ true)
+    → (HasInlineRoom old (length string.now) → false ≡ true) → new.policy ≡ old.policy
     → IsStep old (PushStr string) NoMemory new
 push_str_refused old new string u laws same out inline_out policy =
     let width : size (chars string.now) ≡ length string.now = size-chars string.now u in
@@ -117,78 +143,114 @@ insertion_done t u p at = ap (λ o. reply_of (insertion u o)) (cut_is t p at.0 a
 no_insertion : (t u : List ℕ) (p : ℕ) → (IsPlace t p → ⊥) → insertion u (cut t p) ≡ has_no_place
 no_insertion t u p none = ap (insertion u) (no_cut t p none)
 
-pub insert_done : (old new : TextState) (p c : ℕ) → IsLawful new → IsSplice old.text p (c ∷ []) new.text
-    → new.storage ≡ storage_with_room old (size (c ∷ [])) → new.policy ≡ old.policy → IsStep old (Insert p c) Done new
+pub insert_done : (old new : TextState) (p c : ℕ) → IsLawful new
+    → IsSplice old.text p (c ∷ []) new.text
+    → new.storage ≡ storage_with_room old (size (c ∷ [])) → new.policy ≡ old.policy
+    → IsStep old (Insert p c) Done new
 insert_done old new p c laws s storage policy =
     let is = insertion_is old.text (c ∷ []) new.text p s in
-    answered old new (Insert p c) Done laws (sym (ap reply_of is)) (sym (ap (text_left old.text) is)) (λ n. storage) (λ n. tt) (λ k. refl) policy
+    answered old new (Insert p c) Done laws (sym (ap reply_of is))
+    (sym (ap (text_left old.text) is)) (λ n. storage) (λ n. tt) (λ k. refl) policy
 
-pub insert_refused : (old new : TextState) (p c : ℕ) → IsLawful new → IsPlace old.text p → IsSameText old new
-    → (HasInlineRoom old (size (c ∷ [])) → false ≡ true) → new.policy ≡ old.policy → IsStep old (Insert p c) NoMemory new
+pub insert_refused : (old new : TextState) (p c : ℕ) → IsLawful new → IsPlace old.text p
+    → IsSameText old new
+    → (HasInlineRoom old (size (c ∷ [])) → false ≡ true) → new.policy ≡ old.policy
+    → IsStep old (Insert p c) NoMemory new
 insert_refused old new p c laws at same out policy =
-    refused old new (Insert p c) laws same ((λ e. cc), insertion_done old.text (c ∷ []) p at) (λ n fits most met. clash (out met)) (λ n. tt) policy
+    refused old new (Insert p c) laws same ((λ e. cc), insertion_done old.text (c ∷ []) p at)
+    (λ n fits most met. clash (out met)) (λ n. tt) policy
 
-pub insert_misplaced : (old : TextState) (p c : ℕ) → (IsPlace old.text p → ⊥) → IsStep old (Insert p c) BadPlace old
-insert_misplaced old p c none = misplaced old (Insert p c) (no_insertion old.text (c ∷ []) p none) (λ n. tt)
+pub insert_misplaced : (old : TextState) (p c : ℕ) → (IsPlace old.text p → ⊥)
+    → IsStep old (Insert p c) BadPlace old
+insert_misplaced old p c none =
+    misplaced old (Insert p c) (no_insertion old.text (c ∷ []) p none) (λ n. tt)
 
-pub insert_str_done : (old new : TextState) (p : ℕ) (string : Bor (List ℕ)) → IsUtf8 string.now → IsLawful new → IsSplice old.text p (chars string.now) new.text
-    → new.storage ≡ storage_with_room old (length string.now) → new.policy ≡ old.policy → IsStep old (InsertStr p string) Done new
+pub insert_str_done : (old new : TextState) (p : ℕ) (string : Bor (List ℕ)) → IsUtf8 string.now
+    → IsLawful new → IsSplice old.text p (chars string.now) new.text
+    → new.storage ≡ storage_with_room old (length string.now) → new.policy ≡ old.policy
+    → IsStep old (InsertStr p string) Done new
 insert_str_done old new p string u laws s storage policy =
     let is = insertion_is old.text (chars string.now) new.text p s in
-    answered old new (InsertStr p string) Done laws (sym (ap reply_of is)) (sym (ap (text_left old.text) is)) (λ n. storage ∙ ap (storage_with_room old) (sym (size-chars string.now u))) (λ n. tt) (λ k. refl) policy
+    answered old new (InsertStr p string) Done laws (sym (ap reply_of is))
+    (sym (ap (text_left old.text) is)) (λ n. storage
+    ∙ ap (storage_with_room old) (sym (size-chars string.now u))) (λ n. tt) (λ k. refl) policy
 
-pub insert_str_refused : (old new : TextState) (p : ℕ) (string : Bor (List ℕ)) → IsUtf8 string.now → IsLawful new → IsPlace old.text p → IsSameText old new
-    → (HasInlineRoom old (length string.now) → false ≡ true) → new.policy ≡ old.policy → IsStep old (InsertStr p string) NoMemory new
+pub insert_str_refused : (old new : TextState) (p : ℕ) (string : Bor (List ℕ)) → IsUtf8 string.now
+    → IsLawful new → IsPlace old.text p → IsSameText old new
+    → (HasInlineRoom old (length string.now) → false ≡ true) → new.policy ≡ old.policy
+    → IsStep old (InsertStr p string) NoMemory new
 insert_str_refused old new p string u laws at same out policy =
-    refused old new (InsertStr p string) laws same ((λ e. cc), insertion_done old.text (chars string.now) p at) (λ n fits most met. clash (out (subst (HasInlineRoom old) (size-chars string.now u) met))) (λ n. tt) policy
+    refused old new (InsertStr p string) laws same
+    ((λ e. cc), insertion_done old.text (chars string.now) p at)
+    (λ n fits most met. clash (out (subst (HasInlineRoom old) (size-chars string.now u) met)))
+    (λ n. tt) policy
 
-pub insert_str_misplaced : (old : TextState) (p : ℕ) (string : Bor (List ℕ)) → (IsPlace old.text p → ⊥) → IsStep old (InsertStr p string) BadPlace old
-insert_str_misplaced old p string none = misplaced old (InsertStr p string) (no_insertion old.text (chars string.now) p none) (λ n. tt)
+pub insert_str_misplaced : (old : TextState) (p : ℕ) (string : Bor (List ℕ))
+    → (IsPlace old.text p → ⊥) → IsStep old (InsertStr p string) BadPlace old
+insert_str_misplaced old p string none =
+    misplaced old (InsertStr p string) (no_insertion old.text (chars string.now) p none) (λ n. tt)
 
 -- cuts
 
-pub truncate_done : (old new : TextState) (rest : List ℕ) (p : ℕ) → IsLawful new → IsCut old.text p new.text rest
+pub truncate_done : (old new : TextState) (rest : List ℕ) (p : ℕ) → IsLawful new
+    → IsCut old.text p new.text rest
     → new.storage ≡ old.storage → new.policy ≡ old.policy → IsStep old (Truncate p) Done new
 truncate_done old new rest p laws at storage policy =
-    let is : truncation (cut old.text p) ≡ becomes new.text = ap truncation (cut_is old.text p new.text rest at) in
-    answered old new (Truncate p) Done laws (sym (ap reply_of is)) (sym (ap (text_left old.text) is)) (λ n. storage) (λ n. tt) (λ k. refl) policy
+    let is : truncation (cut old.text p) ≡ becomes new.text =
+    ap truncation (cut_is old.text p new.text rest at) in
+    answered old new (Truncate p) Done laws (sym (ap reply_of is))
+    (sym (ap (text_left old.text) is)) (λ n. storage) (λ n. tt) (λ k. refl) policy
 
-pub truncate_misplaced : (old : TextState) (p : ℕ) → (IsPlace old.text p → ⊥) → IsStep old (Truncate p) BadPlace old
-truncate_misplaced old p none = misplaced old (Truncate p) (ap truncation (no_cut old.text p none)) (λ n. tt)
+pub truncate_misplaced : (old : TextState) (p : ℕ) → (IsPlace old.text p → ⊥)
+    → IsStep old (Truncate p) BadPlace old
+truncate_misplaced old p none =
+    misplaced old (Truncate p) (ap truncation (no_cut old.text p none)) (λ n. tt)
 
 pub pop_char : (old new : TextState) (c : ℕ) → IsLawful new → old.text ≡ new.text ++ c ∷ []
     → new.storage ≡ old.storage → new.policy ≡ old.policy → IsStep old Pop (Char c) new
 pop_char old new c laws text storage policy =
     let is = pop_is old.text new.text c text in
-    answered old new Pop (Char c) laws (sym (ap reply_of is)) (sym (ap (text_left old.text) is)) (λ n. storage) (λ n. tt) (λ k. refl) policy
+    answered old new Pop (Char c) laws (sym (ap reply_of is)) (sym (ap (text_left old.text) is))
+    (λ n. storage) (λ n. tt) (λ k. refl) policy
 
 pub remove_char : (old new : TextState) (p c : ℕ) → IsLawful new → IsRemoval old.text p c new.text
     → new.storage ≡ old.storage → new.policy ≡ old.policy → IsStep old (Remove p) (Char c) new
 remove_char old new p c laws r storage policy =
     let is = removal_is old.text new.text p c r in
-    answered old new (Remove p) (Char c) laws (sym (ap reply_of is)) (sym (ap (text_left old.text) is)) (λ n. storage) (λ n. tt) (λ k. refl) policy
+    answered old new (Remove p) (Char c) laws (sym (ap reply_of is))
+    (sym (ap (text_left old.text) is)) (λ n. storage) (λ n. tt) (λ k. refl) policy
 
-pub remove_misplaced : (old : TextState) (p : ℕ) → (IsPlace old.text p → ⊥) → IsStep old (Remove p) BadPlace old
-remove_misplaced old p none = misplaced old (Remove p) (ap removal (no_cut old.text p none)) (λ n. tt)
+pub remove_misplaced : (old : TextState) (p : ℕ) → (IsPlace old.text p → ⊥)
+    → IsStep old (Remove p) BadPlace old
+remove_misplaced old p none =
+    misplaced old (Remove p) (ap removal (no_cut old.text p none)) (λ n. tt)
 
 -- no character begins at the end
-pub remove_at_end : (old : TextState) (p : ℕ) → IsPlace old.text p → size old.text ≤ p → IsStep old (Remove p) BadPlace old
+pub remove_at_end : (old : TextState) (p : ℕ) → IsPlace old.text p → size old.text ≤ p
+    → IsStep old (Remove p) BadPlace old
 remove_at_end old p at past =
-    let none : at.1 ≡ [] = nil_from_size at.1 (omega (arith, ap size at.2.joined, size-append at.0 at.1, at.2.before, past)) in
-    let is : cut old.text p ≡ Some (at.0, []) = cut_is old.text p at.0 at.1 at.2 ∙ ap (λ b. Some (at.0, b)) none in
+    let none : at.1 ≡ [] =
+    nil_from_size at.1
+    (omega (arith, ap size at.2.joined, size-append at.0 at.1, at.2.before, past)) in
+    let is : cut old.text p ≡ Some (at.0, []) =
+    cut_is old.text p at.0 at.1 at.2 ∙ ap (λ b. Some (at.0, b)) none in
     misplaced old (Remove p) (ap removal is) (λ n. tt)
 
 -- replacements
 
-pub replace_done : (old new : TextState) (bytes : Bor (List ℕ)) → IsLawful new → bytes_of new.text ≡ bytes.now → length bytes.now ≡ size old.text → IsUtf8 bytes.now
+pub replace_done : (old new : TextState) (bytes : Bor (List ℕ)) → IsLawful new
+    → bytes_of new.text ≡ bytes.now → length bytes.now ≡ size old.text → IsUtf8 bytes.now
     → new.storage ≡ old.storage → new.policy ≡ old.policy → IsStep old (ReplaceBytes bytes) Done new
 replace_done old new bytes laws text same u storage policy =
     let is = replacement_is old.text bytes.now same u in
     let now : new.text ≡ chars bytes.now = chars_from_encodes new.text bytes.now u text in
-    answered old new (ReplaceBytes bytes) Done laws (sym (ap reply_of is)) (now ∙ sym (ap (text_left old.text) is)) (λ n. storage) (λ n. tt) (λ k. refl) policy
+    answered old new (ReplaceBytes bytes) Done laws (sym (ap reply_of is)) (now
+    ∙ sym (ap (text_left old.text) is)) (λ n. storage) (λ n. tt) (λ k. refl) policy
 
-pub replace_not_utf8 : (old new : TextState) (bytes : Bor (List ℕ)) → IsLawful new → IsSameText old new → length bytes.now ≡ size old.text → ¬ (IsUtf8 bytes.now)
+pub replace_not_utf8 : (old new : TextState) (bytes : Bor (List ℕ)) → IsLawful new
+    → IsSameText old new → length bytes.now ≡ size old.text → ¬ (IsUtf8 bytes.now)
     → new.policy ≡ old.policy → IsStep old (ReplaceBytes bytes) NotUtf8 new
 replace_not_utf8 old new bytes laws same as_many not policy =
     let is = not_utf8 old.text bytes.now as_many not in
-    answered old new (ReplaceBytes bytes) NotUtf8 laws (sym (ap reply_of is)) (same.text ∙ sym (ap (text_left old.text) is)) (λ n. same.storage) (λ n. tt) (λ k. refl) policy
+    answered old new (ReplaceBytes bytes) NotUtf8 laws (sym (ap reply_of is)) (same.text
+    ∙ sym (ap (text_left old.text) is)) (λ n. same.storage) (λ n. tt) (λ k. refl) policy

@@ -38,7 +38,8 @@ unrefused_replies s (c ∷ commands) (r ∷ replies) legal given =
     let same : r ≡ reply_of (edit s.text c) = answered s c r legal.0 here in
     let rest = unrefused_replies (state_after_step s c r) commands replies legal.1
     (λ has. given (refused_later r replies has)) in
-    let text : text_after_step s.text c r ≡ text_left s.text (edit s.text c) = text_granted s.text c r here in
+    let text : text_after_step s.text c r ≡ text_left s.text (edit s.text c) =
+    text_granted s.text c r here in
     ap (λ x. x ∷ replies) same
     ∙ ap (λ l. reply_of (edit s.text c) ∷ l) (rest ∙ ap (λ t. replies_of t commands) text)
 
@@ -77,7 +78,8 @@ short_replies_are_legal s (c ∷ commands) demotes inline small within =
     text_granted s.text c r (never_refused (edit s.text c)) in
     let next : StaysWithin s.policy.limit (text_after_step s.text c r) commands =
     subst (λ t. StaysWithin s.policy.limit t commands) (sym text) within.1 in
-    let rest = short_replies_are_legal (state_after_step s c r) commands demotes step.1 small next in (
+    let rest =
+    short_replies_are_legal (state_after_step s c r) commands demotes step.1 small next in (
       legal,
       subst (λ t. LegalReplies (state_after_step s c r) commands (replies_of t commands)) text rest,
     )
@@ -96,7 +98,8 @@ short_replies s commands replies laws inline within = (
 
 pub short_text : (s : TextState) (commands : List Command) (replies : List Reply) → IsLawful s
     → s.storage ≡ Inline → StaysWithin s.policy.limit s.text commands
-    → LegalReplies s commands replies → text_after s.text commands replies ≡ text_after_edits s.text commands
+    → LegalReplies s commands replies
+    → text_after s.text commands replies ≡ text_after_edits s.text commands
 short_text s commands replies laws inline within legal =
     unrefused_text s commands replies legal
     (short_run_never_asks s commands replies laws inline within legal)

@@ -3,12 +3,17 @@ use Rattle.inlinable_string.proofs.Steps.{insert_str_done, insert_str_refused, i
 use Rattle.inlinable_string.proofs.run.insert_str.Goals as goal
 
 pub returns-in-Ok : goal.returns-in-Ok
-returns-in-Ok g c laws = let e = c.in-Ok.ensures in insert_str_done _ _ _ _ c.utf8.string laws e.text e.storage e.policy
+returns-in-Ok g c laws =
+    let e = c.in-Ok.ensures in
+    insert_str_done _ _ _ _ c.utf8.string laws e.text e.storage e.policy
 
 pub returns-in-Err : goal.returns-in-Err
 returns-in-Err g c laws =
     let place = c.is_char_boundary.ensures.0 c.if-is_char_boundary.true in
-    let e = c.in-Err.ensures in insert_str_refused _ _ _ _ c.utf8.string laws place e.err e.inline_granted e.policy
+    let e = c.in-Err.ensures in
+    insert_str_refused _ _ _ _ c.utf8.string laws place e.err e.inline_granted e.policy
 
 pub returns-else-is_char_boundary : goal.returns-else-is_char_boundary
-returns-else-is_char_boundary g c laws = insert_str_misplaced _ _ _ (not_from_test _ c.is_char_boundary.ensures c.if-is_char_boundary.false)
+returns-else-is_char_boundary g c laws =
+    let none = not_from_test _ c.is_char_boundary.ensures c.if-is_char_boundary.false in
+    insert_str_misplaced _ _ _ none

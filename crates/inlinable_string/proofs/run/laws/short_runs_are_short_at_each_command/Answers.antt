@@ -3,4 +3,5 @@ use Rattle.inlinable_string.proofs.run.laws.short_runs_are_short_at_each_command
 
 pub returns : goal.returns
 returns c =
-    λ n t commands. (λ within i command. stays_at n t commands i command within, stays_if n t commands)
+    λ n t commands.
+    (λ within i command. stays_at n t commands i command within, stays_if n t commands)
