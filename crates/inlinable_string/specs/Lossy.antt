@@ -1,5 +1,5 @@
--- What any list of bytes is read as where a text is wanted: U+FFFD for each maximal subpart that is no
--- character (the Unicode Standard, section 3.9, U+FFFD Substitution of Maximal Subparts).
+-- What any list of bytes is read as where a text is wanted: U+FFFD for each maximal subpart that is
+-- no character (the Unicode Standard, section 3.9, U+FFFD Substitution of Maximal Subparts).
 use Rattle.std.specs.Prelude.{ℕ, zero, suc, ◌+◌, ◌-◌, List, [], ◌∷◌, ◌++◌, take, ◌==◌, if◌then◌else◌}
 use Rattle.std.specs.Int.{is_in_range}
 use Rattle.std.specs.Str.{chars, is_utf8}

@@ -1,5 +1,5 @@
--- UTF-16: the units of a text, and what any list of units is read as (the Unicode Standard, sections
--- 3.8 and 3.9). A high surrogate directly before a low one is a pair, and they are partners.
+-- UTF-16: the units of a text, and what any list of units is read as (the Unicode Standard,
+-- sections 3.8 and 3.9). A high surrogate directly before a low one is a pair, and they are partners.
 use Rattle.std.specs.Prelude.{ℕ, zero, suc, ◌+◌, List, [], ◌∷◌, ◌++◌, length, Bool, false, not, ◌&&◌, ◌||◌, if◌then◌else◌, IsTrue, slice_index}
 use Rattle.std.specs.List.{flat_map}
 use Rattle.std.specs.Char.Escape.{encode_utf16}
@@ -31,8 +31,8 @@ is_unpaired v i =
 abbrev pub HasUnpaired : List ℕ → Type 0
 HasUnpaired v = (i : ℕ) × IsTrue (is_unpaired v i)
 
--- what the unit at i gives: U+FFFD where it is unpaired; a pair's character by its high surrogate, and
--- nothing by its low one; every other unit is a character
+-- what the unit at i gives: U+FFFD where it is unpaired; a pair's character by its high surrogate,
+-- and nothing by its low one; every other unit is a character
 abbrev pub lossy_unit : List ℕ → ℕ → List ℕ
 lossy_unit v i =
     if is_unpaired v i then 0xFFFD ∷ []

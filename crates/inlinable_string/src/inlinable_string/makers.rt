@@ -18,7 +18,8 @@ impl<const N: usize> InlinableStringN<N> {
         ensures text { IfOk result (λ made. (inlinable_state N made).text ≡ chars string.now) }
         ensures storage { IfOk result (λ made. (inlinable_state N made).storage
             ≡ storage_when_made (inlinable_policy N) (length string.now)) }
-        ensures policy { IfOk result (λ made. (inlinable_state N made).policy ≡ inlinable_policy N) }
+        ensures policy { IfOk result
+            (λ made. (inlinable_state N made).policy ≡ inlinable_policy N) }
         ensures granted { length string.now ≤ N → IsOk result }
     {
         if string.len() <= N {
@@ -34,7 +35,8 @@ impl<const N: usize> InlinableStringN<N> {
         ensures text { IfOk result (λ made. (inlinable_state N made).text ≡ chars s.now) }
         ensures storage { IfOk result (λ made. (inlinable_state N made).storage
             ≡ storage_when_made (inlinable_policy N) (length s.now)) }
-        ensures policy { IfOk result (λ made. (inlinable_state N made).policy ≡ inlinable_policy N) }
+        ensures policy { IfOk result
+            (λ made. (inlinable_state N made).policy ≡ inlinable_policy N) }
         ensures granted { length s.now ≤ N → IsOk result }
     {
         Self::from(alloc, s)

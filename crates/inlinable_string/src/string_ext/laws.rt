@@ -43,7 +43,8 @@ pub fn the_table_has_each_character()
 /// The maximal subpart, where it has more than one byte, begins the code of some character.
 pub fn a_subpart_begins_a_character()
     ensures { (bs : List ℕ) → 1 < subpart_len bs
-        → (c : ℕ) × (rest : List ℕ) × IsScalar c × (encode_utf8 c ≡ take (subpart_len bs) bs ++ rest) }
+        → (c : ℕ) × (rest : List ℕ) × IsScalar c
+        × (encode_utf8 c ≡ take (subpart_len bs) bs ++ rest) }
 {}
 
 /// No longer front of bytes than the maximal subpart begins the code of a character.

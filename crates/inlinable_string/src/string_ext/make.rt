@@ -94,8 +94,8 @@ pub trait StringMake: StringExt {
 
     /// The text of any bytes, with U+FFFD for each maximal subpart that is no character.
     ///
-    /// Bytes that are UTF-8 are borrowed: it takes no memory, and is not refused. Of others memory is
-    /// asked for once, for the exact size.
+    /// Bytes that are UTF-8 are borrowed: it takes no memory, and is not refused. Of others memory
+    /// is asked for once, for the exact size.
     final fn from_utf8_lossy(alloc: Global, v: &[u8]) -> Result<CowStr, AllocError>
         ensures text { IfOk result (λ read. cow_str_bytes read ≡ bytes_of (lossy_utf8 v.now)) }
         ensures borrowed { IfOk result (λ read. IsBorrowedStr read ↔ IsUtf8 v.now) }
@@ -107,8 +107,8 @@ pub trait StringMake: StringExt {
         Ok(CowStr::Owned(utf8::lossy(alloc, v)?))
     }
 
-    /// The text whose UTF-16 is `v`. Fails with [`Utf16Error::Unpaired`] exactly where a surrogate is
-    /// unpaired, which is found before memory is asked for.
+    /// The text whose UTF-16 is `v`. Fails with [`Utf16Error::Unpaired`] exactly where a surrogate
+    /// is unpaired, which is found before memory is asked for.
     ///
     /// Memory is asked for once, for the exact size. The text lies on the heap, however short.
     fn from_utf16(alloc: Global, v: &[u16]) -> Result<Self, Utf16Error>
@@ -137,8 +137,8 @@ pub trait StringMake: StringExt {
         Ok(unsafe { Self::from_utf8_unchecked(alloc, read.into_bytes()) })
     }
 
-    /// The UTF-8 bytes of the text. A refusal hands the text back as it was. On the heap it takes no
-    /// memory, and is not refused.
+    /// The UTF-8 bytes of the text. A refusal hands the text back as it was. On the heap it takes
+    /// no memory, and is not refused.
     fn into_bytes(self) -> Result<Vec<u8>, Self>
         ensures bytes { IfOk result (λ bytes. bytes.items ≡ bytes_of (Self.state self).text) }
         ensures err { IfErr result (λ kept. Self.state kept ≡ Self.state self) }

@@ -3,8 +3,8 @@ ghost use Rattle.std.specs.Prelude.{◌≡◌, ◌∷◌, [], true, false};
 ghost use Rattle.inlinable_string.specs.Utf16.{units_of, is_high_at, is_low_at, is_high_before, is_unpaired, HasUnpaired, lossy_unit, lossy_utf16_before, lossy_utf16};
 ghost use Rattle.inlinable_string.specs.Lossy.{following, count_in, subpart_len, char_len, lossy_utf8_past, lossy_utf8};
 
-/// A character below U+10000 is one unit, and each other one is two: the last of one unit, the first
-/// and the last of two.
+/// A character below U+10000 is one unit, and each other one is two: the last of one unit, the
+/// first and the last of two.
 pub fn units_of_each_width()
     ensures none { units_of [] ≡ [] }
     ensures music { units_of (0x1D11E ∷ 0x6D ∷ 0x75 ∷ 0x73 ∷ 0x69 ∷ 0x63 ∷ [])
@@ -54,7 +54,7 @@ pub fn what_each_unit_gives()
     ensures before_the_second { lossy_utf16_before (0x61 ∷ 0x62 ∷ []) 1 ≡ 0x61 ∷ [] }
 {}
 
-/// Units of which none is unpaired: the G clef and "music", and the first and last character of two.
+/// Units of which none is unpaired: the G clef and "music", and the first and last of two units.
 pub fn units_that_are_paired()
     ensures none { lossy_utf16 [] ≡ [] }
     ensures music { lossy_utf16

@@ -1,4 +1,4 @@
-use Rattle.std.proofs.Common.{◌≤◌, ◌^◌, ap, sym, arith}
+use Rattle.std.proofs.Common.{◌≤◌, ◌^◌, ap, arith}
 use Rattle.std.specs.Str.{chars}
 use Rattle.inlinable_string.specs.Text.{size}
 use Rattle.inlinable_string.specs.Lossy.{lossy_utf8}
