@@ -1,81 +1,13 @@
-//! Want of memory, for tests: all memory held, and a count of the requests that were refused.
+//! What tests share: all memory held, a count of the requests that were refused, and user-defined
+//! texts under the trait `StringExt`.
 #![tactic(auto)]
 
-ghost use Rattle.std.specs.Prelude.{◌↔◌, IsTrue};
+mod array_text;
+mod heap_text;
+mod hoard;
+mod refusals;
 
-use std::alloc::Global;
-
-/// How many blocks are held at most. Under the address sanitizer of `rt try` memory cannot be used
-/// up with so few.
-const MOST_BLOCKS: usize = 10_000;
-
-/// The first size that is asked for is 2 to this power.
-const LARGEST_SHIFT: u32 = 46;
-
-/// The C library keeps freed blocks of up to so many bytes for requests of about their own size.
-const MOST_KEPT: usize = 1040;
-
-/// All memory that can be had. While it stands, each request is refused.
-///
-/// `rt try` has too much memory to be held, so tests with a hoard run in the gate alone.
-#[derive(Drop)]
-pub struct Hoard {
-    blocks: Vec<Vec<u8>>,
-}
-
-impl Hoard {
-    /// Takes blocks of each size until one is refused, the largest first, down to one byte, and
-    /// then what is kept for requests of one small size. `None` where memory is not used up then.
-    pub fn take(alloc: Global) -> Option<Hoard> {
-        let mut blocks = Vec::with_capacity(alloc, MOST_BLOCKS).ok()?;
-        for smaller in 0..=LARGEST_SHIFT {
-            take_all(alloc, &mut blocks, 1usize << (LARGEST_SHIFT - smaller));
-        }
-        for size in 1..=MOST_KEPT {
-            take_all(alloc, &mut blocks, size);
-        }
-        let one_more: Result<Vec<u8>, _> = Vec::with_capacity(alloc, 1);
-        if blocks.len() < MOST_BLOCKS && one_more.is_err() {
-            Some(Hoard { blocks })
-        } else {
-            None
-        }
-    }
-}
-
-/// Takes blocks of this size until one is refused, as far as there are places for them.
-fn take_all(alloc: Global, blocks: &mut Vec<Vec<u8>>, size: usize) {
-    for _ in 0..MOST_BLOCKS {
-        let Ok(block) = Vec::with_capacity(alloc, size) else {
-            break;
-        };
-        if blocks.push(block).is_err() {
-            break;
-        }
-    }
-}
-
-/// Whether a test has met a refusal. One request is refused at most, so a second refusal is an
-/// answer for want of memory where there was none.
-#[derive(Drop)]
-pub struct Refusals {
-    pub has_met: bool,
-}
-
-impl Refusals {
-    pub fn none() -> Refusals
-        ensures { ¬ (IsTrue result.has_met) }
-    {
-        Refusals { has_met: false }
-    }
-
-    /// Whether this refusal is the first.
-    pub fn meet(&mut self) -> bool
-        ensures answer { IsTrue result ↔ ¬ (IsTrue self.old.has_met) }
-        ensures now { IsTrue self.new.has_met }
-    {
-        let is_first = !self.has_met;
-        self.has_met = true;
-        is_first
-    }
-}
+pub use array_text::ArrayText;
+pub use heap_text::HeapText;
+pub use hoard::Hoard;
+pub use refusals::Refusals;

@@ -1,0 +1,86 @@
+//! A `String` in a user-defined type.
+ghost use Rattle.inlinable_string.specs.Values.{string_state};
+
+use inlinable_string::inline_string::ReplaceError;
+use inlinable_string::{Storage, StringExt};
+use std::alloc::AllocError;
+
+/// A text that lies on the heap always, and that shrinking does not bring back.
+#[derive(Drop)]
+pub struct HeapText {
+    pub string: String,
+    /// Whether it can be shrunk: where it can't, it answers want of memory.
+    pub can_shrink: bool,
+}
+
+impl StringExt for HeapText {
+    ghost state = { λ s. string_state s.string };
+
+    fn push(&mut self, ch: char) -> Result<(), AllocError> {
+        StringExt::push(&mut self.string, ch)
+    }
+
+    fn push_str(&mut self, string: &str) -> Result<(), AllocError> {
+        StringExt::push_str(&mut self.string, string)
+    }
+
+    fn insert(&mut self, idx: usize, ch: char) -> Result<(), AllocError> {
+        StringExt::insert(&mut self.string, idx, ch)
+    }
+
+    fn insert_str(&mut self, idx: usize, string: &str) -> Result<(), AllocError> {
+        StringExt::insert_str(&mut self.string, idx, string)
+    }
+
+    fn reserve(&mut self, additional: usize) -> Result<(), AllocError> {
+        StringExt::reserve(&mut self.string, additional)
+    }
+
+    fn reserve_exact(&mut self, additional: usize) -> Result<(), AllocError> {
+        StringExt::reserve_exact(&mut self.string, additional)
+    }
+
+    fn shrink_to_fit(&mut self) -> Result<(), AllocError> {
+        if self.can_shrink {
+            StringExt::shrink_to_fit(&mut self.string)
+        } else {
+            Err(AllocError)
+        }
+    }
+
+    fn truncate(&mut self, new_len: usize) {
+        StringExt::truncate(&mut self.string, new_len);
+    }
+
+    fn pop(&mut self) -> Option<char> {
+        StringExt::pop(&mut self.string)
+    }
+
+    fn remove(&mut self, idx: usize) -> char {
+        StringExt::remove(&mut self.string, idx)
+    }
+
+    fn replace_bytes(&mut self, bytes: &[u8]) -> Result<(), ReplaceError> {
+        StringExt::replace_bytes(&mut self.string, bytes)
+    }
+
+    fn capacity(&self) -> usize {
+        StringExt::capacity(&self.string)
+    }
+
+    fn storage(&self) -> Storage {
+        StringExt::storage(&self.string)
+    }
+
+    fn len(&self) -> usize {
+        StringExt::len(&self.string)
+    }
+
+    fn as_bytes(&self) -> &[u8] {
+        StringExt::as_bytes(&self.string)
+    }
+
+    fn as_str(&self) -> &str {
+        StringExt::as_str(&self.string)
+    }
+}
