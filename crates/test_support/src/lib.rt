@@ -1,11 +1,14 @@
-//! What tests share: all memory held, a count of the requests that were refused, and user-defined
-//! texts under the trait `StringExt`.
+//! What tests share: all memory held, a count of the requests that were refused, user-defined texts
+//! under the trait `StringExt`, steps for tables, and what playing a table answers.
 #![tactic(auto)]
 
 mod array_text;
 mod heap_text;
 mod hoard;
+pub mod letters;
 mod refusals;
+pub mod step;
+pub mod tally;
 
 pub use array_text::ArrayText;
 pub use heap_text::HeapText;
