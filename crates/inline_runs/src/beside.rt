@@ -15,7 +15,7 @@ use std::alloc::Global;
 use std::process::Abort;
 
 /// The plain program's text at a text as it is before a run.
-pub fn before(rt: &impl Abort, alloc: Global, start: Seen<'_>, policy: Policy) -> PlainText {
+pub fn plain_start(rt: &impl Abort, alloc: Global, start: Seen<'_>, policy: Policy) -> PlainText {
     let made = plain_from(
         alloc,
         start.string,
@@ -42,27 +42,24 @@ pub enum Wrong {
     Room,
 }
 
-/// The first run of a table that is wrong: the number of its row, how many commands of that it had,
-/// and what is wrong after it.
-#[derive(Clone, Copy, Debug, PartialEq)]
-pub struct Fault {
-    pub row: usize,
-    pub count: usize,
-    pub wrong: Wrong,
+/// How many runs of a table were made, each of them right, or the first that was wrong: the number
+/// of its row as that of its list, and how many commands of the row it had as that of its step.
+pub type Tally = test_support::tally::Tally<Wrong>;
+
+/// Asserts that no step was wrong.
+pub fn assert_right(rt: &impl Abort, tally: Tally)
+    ensures { IsOk tally }
+{
+    assert!(rt; tally.is_ok(), "{tally:?}");
 }
 
-/// How many runs of a table were made, each of them right, or the first that was wrong.
-pub type Runs = Result<usize, Fault>;
-
-/// Asserts that no run of a table was wrong.
-pub fn assert_runs(rt: &impl Abort, runs: Runs)
-    ensures { IsOk runs }
-{
-    assert!(rt; runs.is_ok(), "{runs:?}");
+/// Asserts what a table gives that is wrong in one value.
+pub fn assert_tally(rt: &impl Abort, tally: Tally, wanted: Tally) {
+    assert!(rt; tally == wanted, "{tally:?}, and not {wanted:?}");
 }
 
 /// Asserts that nothing is wrong after a run, which is told by its start.
-pub fn assert_right(rt: &impl Abort, wrong: Option<Wrong>, start: &str)
+pub fn assert_agrees(rt: &impl Abort, wrong: Option<Wrong>, start: &str)
     ensures { IsNone wrong }
 {
     assert!(rt; wrong.is_none(), "{wrong:?} from {start}");
@@ -119,7 +116,7 @@ pub fn wrong_run<S: StringExt>(
 ) -> Option<Wrong>
     requires { length replies.old ≡ length commands.now }
 {
-    let start = before(rt, alloc, seen_of(text), policy);
+    let start = plain_start(rt, alloc, seen_of(text), policy);
     run(text, commands, replies);
     wrong_verdict(rt, alloc, start, commands, replies, seen_of(text))
 }
@@ -135,7 +132,7 @@ pub fn wrong_run_dyn(
 ) -> Option<Wrong>
     requires { length replies.old ≡ length commands.now }
 {
-    let start = before(rt, alloc, seen_of_dyn(text), policy);
+    let start = plain_start(rt, alloc, seen_of_dyn(text), policy);
     run_dyn(text, commands, replies);
     wrong_verdict(rt, alloc, start, commands, replies, seen_of_dyn(text))
 }
@@ -152,7 +149,7 @@ pub fn run_beside<S: StringExt>(
     requires { length replies.old ≡ length commands.now }
 {
     let wrong = wrong_run(rt, alloc, text, policy, commands, replies);
-    assert_right(rt, wrong, "a run");
+    assert_agrees(rt, wrong, "a run");
 }
 
 /// Runs one command on the text, with the plain program beside it. Answers the reply.

@@ -13,7 +13,6 @@ use inline_model::plain::plain_from;
 use inline_model::verdict::{Seen, Verdict, judged};
 use std::alloc::Global;
 use std::process::Abort;
-use std::test::Fail;
 
 /// To the command of this index another reply, where the text lies at the end then, and what the
 /// plain program says.
@@ -44,10 +43,9 @@ const THIRDS: &[Other] = &[
 ];
 
 #[test]
-fn follows_six_commands(rt: HostRuntime) -> Result<(), Fail> {
+fn six_commands_are_followed_to_their_end(rt: HostRuntime) {
     let (commands, replies) = (SIX_COMMANDS, SIX_REPLIES);
     assert_others(&rt, rt.alloc(), "", commands, replies, SIX_END, THIRDS);
-    Ok(())
 }
 
 /// Commands of each kind on the text "a", which lies inline.
@@ -133,7 +131,7 @@ const OTHERS: &[Other] = &[
 ];
 
 #[test]
-fn follows_all_commands(rt: HostRuntime) -> Result<(), Fail> {
+fn commands_of_each_kind_are_followed_to_their_end(rt: HostRuntime) {
     let alloc = rt.alloc();
     let (long, long_replies) = (&COMMANDS[..LONG], &REPLIES[..LONG]);
     let of_long = verdict_of(&rt, alloc, "a", long, long_replies, LONG_END);
@@ -143,7 +141,6 @@ fn follows_all_commands(rt: HostRuntime) -> Result<(), Fail> {
         "{of_long:?}, {of_whole:?}"
     );
     assert_others(&rt, alloc, "a", COMMANDS, REPLIES, WHOLE_END, OTHERS);
-    Ok(())
 }
 
 /// The first of the other replies of which the plain program says something else, and what.

@@ -2,43 +2,58 @@
 ghost use Rattle.std.specs.Prelude.{◌≤◌, length};
 
 use crate::beside::{
-    Fault, Runs, Wrong, assert_right, assert_runs, run_one_beside, wrong_end, wrong_run,
-    wrong_run_dyn,
+    Tally, Wrong, assert_agrees, assert_right, run_one_beside, wrong_end, wrong_run, wrong_run_dyn,
 };
-use inlinable_string::run::Command::{
-    self, Clear, Insert, InsertStr, Pop, Push, PushStr, Remove, ReplaceBytes, Reserve,
-    ReserveExact, ShrinkToFit, Truncate,
-};
-use inlinable_string::run::Reply::{
-    self, BadPlace, Char, Done, NoChar, NoMemory, NotUtf8, WrongLength,
-};
+use inlinable_string::run::Command::{self, Clear, Insert, InsertStr, Remove, Truncate};
+use inlinable_string::run::Reply::{self, BadPlace, Char, Done, NoMemory};
 use inlinable_string::{InlinableString, InlinableStringN, Storage, StringExt, StringMake};
 use inline_model::verdict::{HEAP, Policy, Seen, inlinable, seen_of, seen_of_dyn};
 use std::alloc::Global;
 use std::process::Abort;
-use std::test::Fail;
+use test_support::ArrayText;
+use test_support::step::{Home, Kind, Step, goes_on, step_on, storage_of, where_at};
+use test_support::tally::{and_list, fault_at};
 
 mod each;
 mod generated;
 mod memory;
-mod own;
 mod rows;
 mod wrong_rows;
 
 use Storage::{Heap, Inline};
-use rows::{AT_0, AT_3, AT_4, AT_30, MOST_STEPS, Row, Step};
+use rows::{AT_0, AT_3, AT_4, AT_30, MOST_STEPS, Row};
 
-/// The commands of at most so many steps, and the replies to them.
-fn parted(steps: &[Step]) -> ([Command<'static>; MOST_STEPS], [Reply; MOST_STEPS])
+/// A type of texts, and the limit that a row's places are told for.
+#[derive(Clone, Copy)]
+struct Setting {
+    home: Home,
+    row_limit: usize,
+}
+
+/// Texts of the limit that rows are told for, which lie inline or on the heap.
+const fn either(limit: usize) -> Setting {
+    Setting {
+        home: Home::Either(limit),
+        row_limit: limit,
+    }
+}
+
+fn policy_of(home: Home) -> Policy {
+    match home {
+        Home::Array(limit) | Home::Either(limit) => inlinable(limit),
+        Home::Heap => HEAP,
+    }
+}
+
+/// The commands of at most so many steps.
+fn commands_of(steps: &[Step<'static>]) -> [Command<'static>; MOST_STEPS]
     requires { length steps.now ≤ MOST_STEPS }
 {
     let mut commands = [Clear; MOST_STEPS];
-    let mut replies = [Done; MOST_STEPS];
-    for (i, &(command, reply, _)) in steps.iter().enumerate() {
-        commands[i] = command;
-        replies[i] = reply;
+    for (i, step) in steps.iter().enumerate() {
+        commands[i] = step.0;
     }
-    (commands, replies)
+    commands
 }
 
 fn made<S: StringMake + Drop>(rt: &impl Abort, alloc: Global, capacity: Option<usize>) -> S {
@@ -68,29 +83,22 @@ fn wrong_steps<S: StringExt>(
     rt: &impl Abort,
     alloc: Global,
     text: &mut S,
-    policy: Policy,
-    row_limit: usize,
+    setting: Setting,
     row: Row,
     count: usize,
 ) -> Option<Wrong> {
-    let (_, start, steps, _) = row;
+    let (_, start, steps) = row;
     assert!(rt; text.push_str(start).is_ok());
     assert!(rt; count <= steps.len() && steps.len() <= MOST_STEPS);
-    let (commands, wanted) = parted(steps);
+    let commands = commands_of(steps);
     let mut room = [NoMemory; MOST_STEPS];
     let replies = &mut room[..count];
+    let policy = policy_of(setting.home);
     let wrong = wrong_run(rt, alloc, text, policy, &commands[..count], replies);
     if wrong.is_some() {
         return wrong;
     }
-    wrong_after(
-        policy,
-        row_limit,
-        row,
-        &wanted[..count],
-        replies,
-        seen_of(text),
-    )
+    wrong_after(setting, row, &steps[..count], replies, seen_of(text))
 }
 
 /// Runs the whole of a row on an empty text behind a `dyn`, made for it.
@@ -98,162 +106,189 @@ fn wrong_row_dyn(
     rt: &impl Abort,
     alloc: Global,
     text: &mut dyn StringExt,
-    policy: Policy,
-    row_limit: usize,
+    setting: Setting,
     row: Row,
 ) -> Option<Wrong> {
-    let (_, start, steps, _) = row;
+    let (_, start, steps) = row;
     assert!(rt; text.push_str(start).is_ok());
     let count = steps.len();
     assert!(rt; count <= MOST_STEPS);
-    let (commands, wanted) = parted(steps);
+    let commands = commands_of(steps);
     let mut room = [NoMemory; MOST_STEPS];
     let replies = &mut room[..count];
+    let policy = policy_of(setting.home);
     let wrong = wrong_run_dyn(rt, alloc, text, policy, &commands[..count], replies);
     if wrong.is_some() {
         return wrong;
     }
-    let end = seen_of_dyn(text);
-    wrong_after(policy, row_limit, row, &wanted[..count], replies, end)
+    wrong_after(setting, row, steps, replies, seen_of_dyn(text))
 }
 
-/// Where a text lies after these steps of a row: what is not told is as it was seen.
-fn wanted_storage(policy: Policy, row_limit: usize, steps: &[Step], seen: Storage) -> Storage {
-    if !policy.demotes {
-        return Heap;
-    }
-    match steps.last() {
-        Some(step) if policy.limit == row_limit => step.2,
-        _ => seen,
+fn is_array(home: Home) -> bool {
+    match home {
+        Home::Array(_) => true,
+        _ => false,
     }
 }
 
-/// What is wrong with the replies to the first steps of a row, or with what it tells of a text
-/// after them.
+/// What is wrong with the replies to these steps, the first ones of a row, or with the text after
+/// them, as far as the row tells.
 fn wrong_after(
-    policy: Policy,
-    row_limit: usize,
+    setting: Setting,
     row: Row,
-    wanted: &[Reply],
+    steps: &[Step],
     replies: &[Reply],
     end: Seen<'_>,
 ) -> Option<Wrong> {
-    let (_, _, steps, last) = row;
-    if replies != wanted {
-        return Some(Wrong::Replies);
+    let Setting { home, row_limit } = setting;
+    let (room, start, _) = row;
+    // Of arrays, a row tells of those of its own limit alone.
+    let mut is_told = !is_array(home) || home == Home::Array(row_limit);
+    let (mut content, mut place) = (start, where_at(start.len(), home));
+    for (step, &reply) in steps.iter().zip(replies) {
+        if !is_told {
+            return None;
+        }
+        let (_, wanted, new_content, new_place) = step_on(home, content, *step);
+        if reply != wanted {
+            return Some(Wrong::Replies);
+        }
+        is_told = goes_on(home, step);
+        (content, place) = (new_content, new_place);
     }
-    let count = replies.len();
-    let string = if count == steps.len() {
-        last
-    } else {
-        end.string
+    let storage = match home {
+        Home::Either(limit) if limit != row_limit => end.storage,
+        _ => storage_of(Kind { home, room }, place),
     };
-    let steps = steps.get(..count).unwrap_or(steps);
-    let storage = wanted_storage(policy, row_limit, steps, end.storage);
-    wrong_end(policy, end, string, storage)
+    wrong_end(policy_of(home), end, content, storage)
 }
 
 /// Runs the first steps of a row on a text made for it, and then one more, and so on to the whole.
-/// Answers how many runs were right, and what is wrong after the next one.
-fn right_runs<S: StringMake + Drop>(
+fn run_row<S: StringMake + Drop>(
     rt: &impl Abort,
     alloc: Global,
-    policy: Policy,
-    row_limit: usize,
+    setting: Setting,
     row: Row,
-) -> (usize, Option<Wrong>) {
+) -> Tally {
     let mut right = 0usize;
     for count in 0..=row.2.len() {
         let mut text: S = made(rt, alloc, row.0);
-        let wrong = wrong_steps(rt, alloc, &mut text, policy, row_limit, row, count);
-        if wrong.is_some() {
-            return (right, wrong);
+        if let Some(wrong) = wrong_steps(rt, alloc, &mut text, setting, row, count) {
+            return fault_at(0, right, wrong);
         }
         right = right.saturating_add(1);
     }
-    (right, None)
+    Ok(right)
+}
+
+/// Whether a text of this type can be made for a row, and given its start.
+fn can_begin(home: Home, row: Row) -> bool {
+    match home {
+        Home::Array(limit) => row.0.unwrap_or(0).max(row.1.len()) <= limit,
+        _ => true,
+    }
 }
 
 /// Makes the runs of each row.
-fn runs_of<S: StringMake + Drop>(
+fn run_rows<S: StringMake + Drop>(
     rt: &impl Abort,
     alloc: Global,
-    policy: Policy,
-    row_limit: usize,
+    setting: Setting,
     rows: &[Row],
-) -> Runs {
-    let mut runs = 0usize;
+) -> Tally {
+    let mut count = 0usize;
     for (i, row) in rows.iter().enumerate() {
-        let (count, wrong) = right_runs::<S>(rt, alloc, policy, row_limit, *row);
-        if let Some(wrong) = wrong {
-            return Err(Fault {
-                row: i,
-                count,
-                wrong,
-            });
+        if can_begin(setting.home, *row) {
+            count = and_list(count, i, run_row::<S>(rt, alloc, setting, *row))?;
         }
-        runs = runs.saturating_add(count);
     }
-    Ok(runs)
+    Ok(count)
 }
 
 fn assert_rows<S: StringMake + Drop>(
     rt: &impl Abort,
     alloc: Global,
-    policy: Policy,
+    home: Home,
     row_limit: usize,
     rows: &[Row],
 ) {
-    assert_runs(rt, runs_of::<S>(rt, alloc, policy, row_limit, rows));
+    let setting = Setting { home, row_limit };
+    assert_right(rt, run_rows::<S>(rt, alloc, setting, rows));
+}
+
+/// Makes the runs of each row on texts that lie inline or on the heap, and on arrays.
+fn assert_rows_within<const N: usize>(
+    rt: &impl Abort,
+    alloc: Global,
+    row_limit: usize,
+    rows: &[Row],
+) {
+    assert_rows::<InlinableStringN<N>>(rt, alloc, Home::Either(N), row_limit, rows);
+    assert_rows::<ArrayText<N>>(rt, alloc, Home::Array(N), row_limit, rows);
 }
 
 fn assert_row_dyn(
     rt: &impl Abort,
     alloc: Global,
     text: &mut dyn StringExt,
-    policy: Policy,
-    row_limit: usize,
+    setting: Setting,
     row: Row,
 ) {
-    let wrong = wrong_row_dyn(rt, alloc, text, policy, row_limit, row);
-    assert_right(rt, wrong, row.1);
+    let wrong = wrong_row_dyn(rt, alloc, text, setting, row);
+    assert_agrees(rt, wrong, row.1);
 }
 
 #[test]
-fn each_row_on_every_kind_of_text(rt: HostRuntime) -> Result<(), Fail> {
+fn each_row_on_every_kind_of_text(rt: HostRuntime) {
     let alloc = rt.alloc();
-    let rows = AT_30;
-    assert_rows::<InlinableString>(&rt, alloc, inlinable(30), 30, rows);
-    assert_rows::<InlinableStringN<0>>(&rt, alloc, inlinable(0), 30, rows);
-    assert_rows::<InlinableStringN<8>>(&rt, alloc, inlinable(8), 30, rows);
-    assert_rows::<InlinableStringN<300>>(&rt, alloc, inlinable(300), 30, rows);
-    assert_rows::<String>(&rt, alloc, HEAP, 30, rows);
-    Ok(())
+    assert_rows_within::<30>(&rt, alloc, 30, AT_30);
+    assert_rows_within::<0>(&rt, alloc, 30, AT_30);
+    assert_rows_within::<8>(&rt, alloc, 30, AT_30);
+    assert_rows_within::<300>(&rt, alloc, 30, AT_30);
+    assert_rows::<String>(&rt, alloc, Home::Heap, 30, AT_30);
 }
 
+/// What a row tells of a `String`, whose places all are on the heap.
+const HEAP_SETTING: Setting = Setting {
+    home: Home::Heap,
+    row_limit: 0,
+};
+
 #[test]
-fn each_row_on_a_text_behind_a_dyn(rt: HostRuntime) -> Result<(), Fail> {
+fn each_row_on_a_text_behind_a_dyn(rt: HostRuntime) {
     let alloc = rt.alloc();
     for &row in AT_30 {
         let mut text: InlinableString = made(&rt, alloc, row.0);
-        assert_row_dyn(&rt, alloc, &mut text, inlinable(30), 30, row);
+        assert_row_dyn(&rt, alloc, &mut text, either(30), row);
         let mut text: String = made(&rt, alloc, row.0);
-        assert_row_dyn(&rt, alloc, &mut text, HEAP, 30, row);
+        assert_row_dyn(&rt, alloc, &mut text, HEAP_SETTING, row);
+        let home = Home::Array(30);
+        if can_begin(home, row) {
+            let mut text: ArrayText<30> = made(&rt, alloc, row.0);
+            assert_row_dyn(
+                &rt,
+                alloc,
+                &mut text,
+                Setting {
+                    home,
+                    row_limit: 30,
+                },
+                row,
+            );
+        }
     }
     for &row in AT_0 {
         let mut text: InlinableStringN<0> = made(&rt, alloc, row.0);
-        assert_row_dyn(&rt, alloc, &mut text, inlinable(0), 0, row);
+        assert_row_dyn(&rt, alloc, &mut text, either(0), row);
     }
-    Ok(())
 }
 
 #[test]
-fn small_limits_are_kept_to_the_byte(rt: HostRuntime) -> Result<(), Fail> {
+fn small_limits_are_kept_to_the_byte(rt: HostRuntime) {
     let alloc = rt.alloc();
-    assert_rows::<InlinableStringN<0>>(&rt, alloc, inlinable(0), 0, AT_0);
-    assert_rows::<InlinableStringN<3>>(&rt, alloc, inlinable(3), 3, AT_3);
-    assert_rows::<InlinableStringN<4>>(&rt, alloc, inlinable(4), 4, AT_4);
-    Ok(())
+    assert_rows_within::<0>(&rt, alloc, 0, AT_0);
+    assert_rows_within::<3>(&rt, alloc, 3, AT_3);
+    assert_rows_within::<4>(&rt, alloc, 4, AT_4);
 }
 
 /// The first so many of these insertions at the front leave a text there.
@@ -287,12 +322,11 @@ fn wrong_insertions<S: StringMake + Drop>(
 }
 
 #[test]
-fn a_hundred_insertions_at_the_front(rt: HostRuntime) -> Result<(), Fail> {
+fn a_hundred_insertions_at_the_front(rt: HostRuntime) {
     for row in INSERTED {
         let wrong = wrong_insertions::<InlinableString>(&rt, rt.alloc(), inlinable(30), *row);
-        assert_right(&rt, wrong, "insertions");
+        assert_agrees(&rt, wrong, "insertions");
     }
-    Ok(())
 }
 
 /// An offset, whether it is a place of "aé€𝄞", and what begins there.
@@ -368,10 +402,10 @@ fn assert_offsets<S: StringMake + Drop>(
 }
 
 #[test]
-fn a_place_is_taken_and_no_other_offset(rt: HostRuntime) -> Result<(), Fail> {
+fn a_place_is_taken_and_no_other_offset(rt: HostRuntime) {
     let alloc = rt.alloc();
     assert_offsets::<InlinableString>(&rt, alloc, inlinable(30), None);
     assert_offsets::<InlinableString>(&rt, alloc, inlinable(30), Some(31));
+    assert_offsets::<ArrayText<30>>(&rt, alloc, inlinable(30), None);
     assert_offsets::<String>(&rt, alloc, HEAP, None);
-    Ok(())
 }

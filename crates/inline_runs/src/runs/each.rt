@@ -1,11 +1,10 @@
-//! Rows by `run_each`, and by `run` and `run_dyn` on a text of a caller's own.
+//! Rows by `run_each`, and by `run` and `run_dyn` on a user-defined text.
 ghost use Rattle.std.specs.Prelude.{◌≡◌, ◌*◌, length};
 
 use super::memory::all_memory;
-use super::own::{EightBytes, OnHeap};
-use super::rows::{A30, Row};
-use super::{assert_row_dyn, made_of, wrong_steps};
-use crate::beside::{Wrong, assert_right, before, wrong_end, wrong_verdict};
+use super::rows::Row;
+use super::{HEAP_SETTING, assert_row_dyn, made_of, wrong_steps};
+use crate::beside::{Wrong, assert_agrees, plain_start, wrong_end, wrong_verdict};
 use Memory::{Ample, Refused};
 use Storage::{Heap, Inline};
 use inlinable_string::run::Command::{self, Pop, Push, PushStr, Remove, ShrinkToFit, Truncate};
@@ -16,7 +15,10 @@ use inline_model::plain::room::PlainText;
 use inline_model::verdict::{HEAP, Policy, inlinable, seen_of_dyn};
 use std::alloc::Global;
 use std::process::Abort;
-use std::test::Fail;
+use test_support::letters::{LETTERS_29, LETTERS_30};
+use test_support::step::Step;
+use test_support::step::Where::OnHeap;
+use test_support::{ArrayText, HeapText};
 
 type Text = Box<dyn StringExt + Drop>;
 
@@ -27,7 +29,8 @@ type Texts = Vec<Text>;
 pub enum Kind {
     String,
     Inlinable,
-    EightBytes,
+    /// An array of eight bytes.
+    Array,
     OnHeap,
 }
 
@@ -55,7 +58,7 @@ fn policy_of(kind: Kind) -> Policy {
     match kind {
         Kind::String | Kind::OnHeap => HEAP,
         Kind::Inlinable => inlinable(30),
-        Kind::EightBytes => inlinable(8),
+        Kind::Array => inlinable(8),
     }
 }
 
@@ -72,12 +75,12 @@ fn texts_of(rt: &impl Abort, alloc: Global, boxed: &[Boxed]) -> Texts {
                 let text = BoxableString(made_of(rt, alloc, capacity, start));
                 Box::new(alloc, text).expect(rt, "memory for a box")
             }
-            Kind::EightBytes => {
-                let text = EightBytes(made_of(rt, alloc, capacity, start));
+            Kind::Array => {
+                let text: ArrayText<8> = made_of(rt, alloc, capacity, start);
                 Box::new(alloc, text).expect(rt, "memory for a box")
             }
             Kind::OnHeap => {
-                let text = OnHeap {
+                let text = HeapText {
                     string: made_of(rt, alloc, capacity, start),
                     can_shrink: true,
                 };
@@ -111,7 +114,7 @@ pub fn right_lists(
 
 fn assert_boxed(rt: &impl Abort, alloc: Global, boxed: &[Boxed], lists: &[Given]) {
     let (right, wrong) = right_lists(rt, alloc, boxed, lists);
-    assert_right(rt, wrong, "boxed texts");
+    assert_agrees(rt, wrong, "boxed texts");
     assert!(rt; right == lists.len());
 }
 
@@ -142,7 +145,7 @@ fn wrong_list(
 fn starts_of(rt: &impl Abort, alloc: Global, texts: &Texts, boxed: &[Boxed]) -> Vec<PlainText> {
     let mut starts: Vec<PlainText> = Vec::new(alloc);
     for (text, made) in texts.iter().zip(boxed) {
-        let start = before(rt, alloc, seen_of_dyn(&**text), policy_of(made.0));
+        let start = plain_start(rt, alloc, seen_of_dyn(&**text), policy_of(made.0));
         assert!(rt; starts.push(start).is_ok());
     }
     starts
@@ -254,15 +257,14 @@ const EACH_STORAGE_LISTS: &[Given] = &[
 ];
 
 #[test]
-fn boxed_texts_of_each_storage_have_a_run_each(rt: HostRuntime) -> Result<(), Fail> {
+fn boxed_texts_of_each_storage_have_a_run_each(rt: HostRuntime) {
     assert_boxed(&rt, rt.alloc(), EACH_STORAGE, EACH_STORAGE_LISTS);
-    Ok(())
 }
 
 const UNLIKE: &[Boxed] = &[
     (Kind::String, None, "a"),
     (Kind::Inlinable, None, "é"),
-    (Kind::EightBytes, None, "hello"),
+    (Kind::Array, None, "hello"),
     (Kind::OnHeap, None, "€"),
 ];
 
@@ -297,14 +299,13 @@ const UNLIKE_LISTS: &[Given] = &[Given {
 }];
 
 #[test]
-fn unlike_texts_have_unlike_replies(rt: HostRuntime) -> Result<(), Fail> {
+fn unlike_texts_have_unlike_replies(rt: HostRuntime) {
     assert_boxed(&rt, rt.alloc(), UNLIKE, UNLIKE_LISTS);
-    Ok(())
 }
 
 const OWN: &[Boxed] = &[
-    (Kind::EightBytes, None, "x"),
-    (Kind::EightBytes, Some(9), "x"),
+    (Kind::Array, None, "x"),
+    (Kind::OnHeap, Some(9), "x"),
     (Kind::OnHeap, None, "x"),
 ];
 
@@ -316,15 +317,14 @@ const OWN_LISTS: &[Given] = &[Given {
 }];
 
 #[test]
-fn boxed_texts_of_a_callers_own_have_a_run_each(rt: HostRuntime) -> Result<(), Fail> {
+fn boxed_user_defined_texts_have_a_run_each(rt: HostRuntime) {
     assert_boxed(&rt, rt.alloc(), OWN, OWN_LISTS);
-    Ok(())
 }
 
 /// A `String`, a full text, a short one, and one on the heap with room.
 const REFUSED: &[Boxed] = &[
     (Kind::String, None, ""),
-    (Kind::Inlinable, None, A30),
+    (Kind::Inlinable, None, LETTERS_30),
     (Kind::Inlinable, None, "x"),
     (Kind::Inlinable, Some(31), "x"),
 ];
@@ -344,12 +344,7 @@ const REFUSED_LISTS: &[Given] = &[
             Done,
             Char('b'),
         ],
-        ends: &[
-            ("", Heap),
-            ("aaaaaaaaaaaaaaaaaaaaaaaaaaaaa", Inline),
-            ("x", Inline),
-            ("x", Heap),
-        ],
+        ends: &[("", Heap), (LETTERS_29, Inline), ("x", Inline), ("x", Heap)],
     },
     Given {
         memory: Ample,
@@ -365,9 +360,8 @@ const REFUSED_LISTS: &[Given] = &[
 ];
 
 #[test]
-fn each_text_is_refused_memory_by_itself(rt: HostRuntime) -> Result<(), Fail> {
+fn each_text_is_refused_memory_by_itself(rt: HostRuntime) {
     assert_boxed(&rt, rt.alloc(), REFUSED, REFUSED_LISTS);
-    Ok(())
 }
 
 /// Some commands, and no commands, without a text that they are for.
@@ -387,26 +381,22 @@ const NO_TEXTS_LISTS: &[Given] = &[
 ];
 
 #[test]
-fn no_texts_take_any_commands_and_no_replies(rt: HostRuntime) -> Result<(), Fail> {
+fn no_texts_take_any_commands_and_no_replies(rt: HostRuntime) {
     assert_boxed(&rt, rt.alloc(), &[], NO_TEXTS_LISTS);
-    Ok(())
 }
 
 /// The same commands on a text on the heap.
-const X: &Row = &(
-    None,
-    "x",
-    &[
-        (PushStr("y"), Done, Heap),
-        (Remove(0), Char('x'), Heap),
-        (Pop, Char('y'), Heap),
-        (Pop, NoChar, Heap),
-    ],
-    "",
-);
+const X: Row = (None, "x", X_STEPS);
 
-fn own_text(alloc: Global, can_shrink: bool) -> OnHeap {
-    OnHeap {
+const X_STEPS: &[Step] = &[
+    (PushStr("y"), Done, "xy", OnHeap),
+    (Remove(0), Char('x'), "y", OnHeap),
+    (Pop, Char('y'), "", OnHeap),
+    (Pop, NoChar, "", OnHeap),
+];
+
+fn own_text(alloc: Global, can_shrink: bool) -> HeapText {
+    HeapText {
         string: String::new(alloc),
         can_shrink,
     }
@@ -420,46 +410,35 @@ fn assert_steps<S: StringExt>(
     row: Row,
     count: usize,
 ) {
-    let wrong = wrong_steps(rt, alloc, text, HEAP, 0, row, count);
-    assert_right(rt, wrong, row.1);
+    let wrong = wrong_steps(rt, alloc, text, HEAP_SETTING, row, count);
+    assert_agrees(rt, wrong, row.1);
 }
 
 #[test]
-fn a_text_of_a_callers_own_has_the_replies_of_a_string(rt: HostRuntime) -> Result<(), Fail> {
+fn a_user_defined_text_has_the_replies_of_a_string(rt: HostRuntime) {
     let alloc = rt.alloc();
     let mut string = <String as StringMake>::new(alloc);
-    assert_steps(&rt, alloc, &mut string, *X, 4);
+    assert_steps(&rt, alloc, &mut string, X, 4);
     let mut text = own_text(alloc, true);
     for _ in 0..2u8 {
-        assert_steps(&rt, alloc, &mut text, *X, 4);
-        assert_row_dyn(&rt, alloc, &mut text, HEAP, 0, *X);
+        assert_steps(&rt, alloc, &mut text, X, 4);
+        assert_row_dyn(&rt, alloc, &mut text, HEAP_SETTING, X);
     }
-    Ok(())
 }
 
 /// Commands on a text that can't be shrunk.
-const NOT_SHRUNK: &Row = &(
-    None,
-    "x",
-    &[
-        (ShrinkToFit, NoMemory, Heap),
-        (PushStr("y"), Done, Heap),
-        (ShrinkToFit, NoMemory, Heap),
-    ],
-    "xy",
-);
+const NOT_SHRUNK: Row = (None, "x", NOT_SHRUNK_STEPS);
+
+const NOT_SHRUNK_STEPS: &[Step] = &[
+    (ShrinkToFit, NoMemory, "x", OnHeap),
+    (PushStr("y"), Done, "xy", OnHeap),
+    (ShrinkToFit, NoMemory, "xy", OnHeap),
+];
 
 #[test]
-fn a_shrink_that_a_callers_own_text_refuses_is_want_of_memory(rt: HostRuntime) -> Result<(), Fail> {
+fn a_shrink_that_a_user_defined_text_refuses_is_want_of_memory(rt: HostRuntime) {
     let alloc = rt.alloc();
-    assert_steps(&rt, alloc, &mut own_text(alloc, false), *NOT_SHRUNK, 3);
-    assert_row_dyn(
-        &rt,
-        alloc,
-        &mut own_text(alloc, false),
-        HEAP,
-        0,
-        *NOT_SHRUNK,
-    );
-    Ok(())
+    assert_steps(&rt, alloc, &mut own_text(alloc, false), NOT_SHRUNK, 3);
+    let mut text = own_text(alloc, false);
+    assert_row_dyn(&rt, alloc, &mut text, HEAP_SETTING, NOT_SHRUNK);
 }

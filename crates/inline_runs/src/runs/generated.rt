@@ -1,8 +1,8 @@
 //! Generated lists of commands, on texts of several limits, with the plain program beside each.
 ghost use Rattle.std.specs.Prelude.{◌<◌, ◌≤◌, length};
 
-use super::made;
-use crate::beside::{Wrong, before, wrong_verdict};
+use super::{is_array, made, policy_of};
+use crate::beside::{Wrong, plain_start, wrong_verdict};
 use inlinable_string::run::Command::{
     self, Clear, Insert, InsertStr, Pop, Push, PushStr, Remove, ReplaceBytes, Reserve,
     ReserveExact, ShrinkToFit, Truncate,
@@ -14,10 +14,12 @@ use inlinable_string::run::{run, run_dyn};
 use inlinable_string::{InlinableString, InlinableStringN, Storage, StringExt, StringMake};
 use inline_model::plain::room::PlainText;
 use inline_model::plain::text::{edit, size_of};
-use inline_model::verdict::{HEAP, Policy, Seen, inlinable, seen_of, seen_of_dyn};
+use inline_model::verdict::{Seen, seen_of, seen_of_dyn};
 use std::alloc::{AllocError, Global};
 use std::process::Abort;
 use std::test::Fail;
+use test_support::ArrayText;
+use test_support::step::Home;
 
 const SEED: u64 = 20_251_122;
 
@@ -71,6 +73,35 @@ const CAPACITIES: &[Option<usize>] = &[None, None, None, Some(8), Some(31), Some
 const NARROW: &str = "The quick brown fox jumps over the lazy dog, and the dog sleeps on and on.";
 
 const WIDE: &str = "éaé€é𝄞a€aéééaaa𝄞𝄞€a€éa€€aé𝄞éaé€é𝄞a€aéééaaa𝄞𝄞€a€éa€€aé𝄞";
+
+/// The commands that are drawn, each as often as it stands here. What one is given is drawn anew.
+/// One that isn't drawn fails the test, which counts each.
+const DRAWN: &[Command] = &[
+    Push('a'),
+    Push('a'),
+    Push('a'),
+    PushStr(""),
+    PushStr(""),
+    PushStr(""),
+    Insert(0, 'a'),
+    Insert(0, 'a'),
+    Insert(0, 'a'),
+    InsertStr(0, ""),
+    InsertStr(0, ""),
+    Truncate(0),
+    Truncate(0),
+    Pop,
+    Pop,
+    Remove(0),
+    Remove(0),
+    Remove(0),
+    Clear,
+    ReplaceBytes(&[]),
+    ReplaceBytes(&[]),
+    Reserve(0),
+    ReserveExact(0),
+    ShrinkToFit,
+];
 
 /// Numbers below bounds, by a linear congruence whose upper bits are taken.
 #[derive(Drop)]
@@ -157,19 +188,19 @@ impl Draws {
 
     /// A command, of which it is known what text it is given to.
     fn command(&mut self, text: &[char]) -> Command<'static> {
-        match self.below(24) {
-            0..=2 => Push(self.one_of(CHARS)),
-            3..=5 => PushStr(self.string(text)),
-            6..=8 => Insert(self.place(text), self.one_of(CHARS)),
-            9..=10 => InsertStr(self.place(text), self.string(text)),
-            11..=12 => Truncate(self.place(text)),
-            13..=14 => Pop,
-            15..=17 => Remove(self.place(text)),
-            18 => Clear,
-            19..=20 => ReplaceBytes(self.bytes(text)),
-            21 => Reserve(self.room(text)),
-            22 => ReserveExact(self.room(text)),
-            _ => ShrinkToFit,
+        match self.one_of(DRAWN) {
+            Push(_) => Push(self.one_of(CHARS)),
+            PushStr(_) => PushStr(self.string(text)),
+            Insert(_, _) => Insert(self.place(text), self.one_of(CHARS)),
+            InsertStr(_, _) => InsertStr(self.place(text), self.string(text)),
+            Truncate(_) => Truncate(self.place(text)),
+            Pop => Pop,
+            Remove(_) => Remove(self.place(text)),
+            Clear => Clear,
+            ReplaceBytes(_) => ReplaceBytes(self.bytes(text)),
+            Reserve(_) => Reserve(self.room(text)),
+            ReserveExact(_) => ReserveExact(self.room(text)),
+            ShrinkToFit => ShrinkToFit,
         }
     }
 }
@@ -210,17 +241,25 @@ impl List {
 fn end_of_list<S: StringMake + Drop>(
     rt: &impl Abort,
     alloc: Global,
-    policy: Policy,
+    home: Home,
     capacity: Option<usize>,
     list: &List,
 ) -> Result<Storage, Wrong> {
     let mut text: S = made(rt, alloc, capacity);
-    let start = before(rt, alloc, seen_of(&text), policy);
+    let start = plain_start(rt, alloc, seen_of(&text), policy_of(home));
     let mut replies = [BadPlace; MOST_COMMANDS];
     let count = list.commands.len();
     assert!(rt; count <= MOST_COMMANDS);
     run(&mut text, &list.commands, &mut replies[..count]);
-    end_of(rt, alloc, start, list, &replies[..count], seen_of(&text))
+    end_of(
+        rt,
+        alloc,
+        start,
+        home,
+        list,
+        &replies[..count],
+        seen_of(&text),
+    )
 }
 
 /// The same on a text behind a `dyn`.
@@ -228,27 +267,37 @@ fn end_of_list_dyn(
     rt: &impl Abort,
     alloc: Global,
     text: &mut dyn StringExt,
-    policy: Policy,
+    home: Home,
     list: &List,
 ) -> Result<Storage, Wrong> {
-    let start = before(rt, alloc, seen_of_dyn(text), policy);
+    let start = plain_start(rt, alloc, seen_of_dyn(text), policy_of(home));
     let mut replies = [BadPlace; MOST_COMMANDS];
     let count = list.commands.len();
     assert!(rt; count <= MOST_COMMANDS);
     run_dyn(text, &list.commands, &mut replies[..count]);
-    end_of(rt, alloc, start, list, &replies[..count], seen_of_dyn(text))
+    end_of(
+        rt,
+        alloc,
+        start,
+        home,
+        list,
+        &replies[..count],
+        seen_of_dyn(text),
+    )
 }
 
-/// Where a text lies that is seen so after these replies, or what is wrong with them or with it.
+/// Where a text lies that is seen so after these replies, or what is wrong with them or with it. To
+/// an array memory is refused, so the plain program alone tells its replies.
 fn end_of(
     rt: &impl Abort,
     alloc: Global,
     start: PlainText,
+    home: Home,
     list: &List,
     replies: &[Reply],
     end: Seen<'_>,
 ) -> Result<Storage, Wrong> {
-    if replies != list.replies.as_slice() {
+    if !is_array(home) && replies != list.replies.as_slice() {
         return Err(Wrong::Replies);
     }
     match wrong_verdict(rt, alloc, start, &list.commands, replies, end) {
@@ -258,7 +307,7 @@ fn end_of(
 }
 
 /// Which of the seven kinds a reply is.
-fn kind_of(reply: Reply) -> usize
+fn reply_kind(reply: Reply) -> usize
     ensures { result < 7 }
 {
     match reply {
@@ -272,36 +321,63 @@ fn kind_of(reply: Reply) -> usize
     }
 }
 
+/// Which of the twelve kinds a command is.
+fn command_kind(command: Command) -> usize
+    ensures { result < 12 }
+{
+    match command {
+        Push(_) => 0,
+        PushStr(_) => 1,
+        Insert(_, _) => 2,
+        InsertStr(_, _) => 3,
+        Truncate(_) => 4,
+        Pop => 5,
+        Remove(_) => 6,
+        Clear => 7,
+        ReplaceBytes(_) => 8,
+        Reserve(_) => 9,
+        ReserveExact(_) => 10,
+        ShrinkToFit => 11,
+    }
+}
+
+/// How often each reply and each command must have been drawn.
+const LEAST: u64 = 500;
+
 /// How many texts were given a list, how many lists left a text of 30 inline bytes on the heap, and
-/// how many replies there were of each kind.
-#[derive(Clone, Copy)]
+/// how many commands and replies there were of each kind.
+#[derive(Clone, Copy, Debug)]
 struct Counts {
     texts: usize,
     on_heap: usize,
-    kinds: [u64; 7],
+    commands: [u64; 12],
+    replies: [u64; 7],
 }
 
 impl Counts {
     /// Adds a list that so many texts were given.
-    fn add(&mut self, texts: usize, replies: &[Reply], end: Storage) {
+    fn add(&mut self, texts: usize, list: &List, end: Storage) {
         self.texts = self.texts.saturating_add(texts);
         if end == Storage::Heap {
             self.on_heap = self.on_heap.saturating_add(1);
         }
-        for reply in replies {
-            let kind = &mut self.kinds[kind_of(*reply)];
+        for command in &list.commands {
+            let kind = &mut self.commands[command_kind(*command)];
+            *kind = kind.wrapping_add(1);
+        }
+        for reply in &list.replies {
+            let kind = &mut self.replies[reply_kind(*reply)];
             *kind = kind.wrapping_add(1);
         }
     }
 
-    /// Asserts that each list was given to four texts, and that the lists were of every sort.
-    fn assert_all_sorts(&self, rt: &impl Abort) {
-        let (texts, on_heap) = (self.texts, self.on_heap);
-        assert!(rt; texts == 4 * LISTS, "{texts}");
-        assert!(rt; (LISTS / 5..LISTS / 5 * 4).contains(&on_heap), "{on_heap}");
-        for (kind, count) in self.kinds.iter().enumerate() {
-            assert!(rt; 500 <= *count, "replies of kind {kind}: {count}");
-        }
+    /// Whether each list was given to five texts, and the lists were of every sort.
+    fn are_all_sorts(&self) -> bool {
+        let (on_heap, least) = (self.on_heap, |count: &u64| LEAST <= *count);
+        self.texts == 5 * LISTS
+            && (LISTS / 5..LISTS / 5 * 4).contains(&on_heap)
+            && self.commands.iter().all(least)
+            && self.replies.iter().all(least)
     }
 }
 
@@ -313,12 +389,13 @@ pub fn ends_of(
     capacity: Option<usize>,
     list: &List,
 ) -> Result<(usize, Storage), Wrong> {
-    let none = end_of_list::<InlinableStringN<0>>(rt, alloc, inlinable(0), capacity, list)?;
-    let eight = end_of_list::<InlinableStringN<8>>(rt, alloc, inlinable(8), capacity, list)?;
+    let none = end_of_list::<InlinableStringN<0>>(rt, alloc, Home::Either(0), capacity, list)?;
+    let eight = end_of_list::<InlinableStringN<8>>(rt, alloc, Home::Either(8), capacity, list)?;
     let mut text: String = made(rt, alloc, capacity);
-    let string = end_of_list_dyn(rt, alloc, &mut text, HEAP, list)?;
-    let thirty = end_of_list::<InlinableString>(rt, alloc, inlinable(30), capacity, list)?;
-    Ok(([none, eight, string, thirty].len(), thirty))
+    let string = end_of_list_dyn(rt, alloc, &mut text, Home::Heap, list)?;
+    let array = end_of_list::<ArrayText<30>>(rt, alloc, Home::Array(30), None, list)?;
+    let thirty = end_of_list::<InlinableString>(rt, alloc, Home::Either(30), capacity, list)?;
+    Ok(([none, eight, string, array, thirty].len(), thirty))
 }
 
 /// Gives each list to a text of each kind. Answers of what sorts the lists were, or the number of
@@ -332,13 +409,14 @@ fn counts_of_lists(rt: &impl Abort, alloc: Global) -> Result<Counts, (usize, Wro
     let mut counts = Counts {
         texts: 0,
         on_heap: 0,
-        kinds: [0; 7],
+        commands: [0; 12],
+        replies: [0; 7],
     };
     for number in 0..LISTS {
         assert!(rt; list.draw(alloc, &mut draws).is_ok());
         let capacity = draws.one_of(CAPACITIES);
         match ends_of(rt, alloc, capacity, &list) {
-            Ok((texts, end)) => counts.add(texts, &list.replies, end),
+            Ok((texts, end)) => counts.add(texts, &list, end),
             Err(wrong) => return Err((number, wrong)),
         }
     }
@@ -354,10 +432,8 @@ fn generated_lists_have_the_replies_of_the_plain_program(rt: HostRuntime) -> Res
         "a list of seed {SEED}, and what is wrong: {wrong:?}"
     );
     if let Ok(counts) = &counts {
-        let Counts { on_heap, kinds, .. } = counts;
-        println!(rt; "{LISTS} lists from seed {SEED}")?;
-        println!(rt; "replies of each kind {kinds:?}, ends on the heap {on_heap}")?;
-        counts.assert_all_sorts(&rt);
+        println!(rt; "{LISTS} lists from seed {SEED}: {counts:?}")?;
+        assert!(rt; counts.are_all_sorts(), "{counts:?}");
     }
     Ok(())
 }

@@ -2,9 +2,10 @@
 ghost use Rattle.std.specs.Prelude.{◌≡◌, length};
 
 use super::made_of;
-use super::rows::{A26, A27, A28, A30, DIGITS};
+use super::rows::DIGITS;
 use crate::beside::{
-    Fault, Runs, Wrong, assert_right, assert_runs, before, run_one_beside, wrong_end, wrong_verdict,
+    Tally, Wrong, assert_agrees, assert_right, plain_start, run_one_beside, wrong_end,
+    wrong_verdict,
 };
 use Storage::{Heap, Inline};
 use inlinable_string::run::Command::{
@@ -18,8 +19,9 @@ use inline_model::plain::room::PlainText;
 use inline_model::verdict::{HEAP, Policy, inlinable, seen_of};
 use std::alloc::Global;
 use std::process::Abort;
-use std::test::Fail;
 use test_support::Hoard;
+use test_support::letters::{LETTERS_26, LETTERS_27, LETTERS_28, LETTERS_29, LETTERS_30};
+use test_support::tally::fault_at;
 
 /// All memory that can be had.
 pub fn all_memory(rt: &impl Abort, alloc: Global) -> Hoard {
@@ -45,54 +47,54 @@ pub struct Row {
 /// The most commands of a row.
 const MOST_COMMANDS: usize = 12;
 
+/// An inline text that is made new, and given no command.
+const NEW: Row = Row {
+    capacity: None,
+    start: "",
+    granted: None,
+    refused: &[],
+    replies: &[],
+    end: "",
+    storage: Inline,
+};
+
 const AT_30: &[Row] = &[
     Row {
-        capacity: None,
-        start: A26,
-        granted: None,
+        start: LETTERS_26,
         refused: &[Push('𝄞')],
         replies: &[Done],
         end: "aaaaaaaaaaaaaaaaaaaaaaaaaa𝄞",
-        storage: Inline,
+        ..NEW
     },
     Row {
-        capacity: None,
-        start: A27,
-        granted: None,
+        start: LETTERS_27,
         refused: &[Insert(27, '𝄞')],
         replies: &[NoMemory],
-        end: A27,
-        storage: Inline,
+        end: LETTERS_27,
+        ..NEW
     },
     Row {
-        capacity: None,
-        start: A30,
-        granted: None,
+        start: LETTERS_30,
         refused: &[PushStr(""), InsertStr(30, "")],
         replies: &[Done, Done],
-        end: A30,
-        storage: Inline,
+        end: LETTERS_30,
+        ..NEW
     },
     Row {
-        capacity: None,
         start: "a",
-        granted: None,
-        refused: &[Reserve(18446744073709551615)],
+        refused: &[Reserve(usize::MAX)],
         replies: &[NoMemory],
         end: "a",
-        storage: Inline,
+        ..NEW
     },
     Row {
-        capacity: None,
         start: "foo",
-        granted: None,
         refused: &[Reserve(27)],
         replies: &[Done],
         end: "foo",
-        storage: Inline,
+        ..NEW
     },
     Row {
-        capacity: None,
         start: "foo",
         granted: Some(Reserve(100)),
         refused: &[
@@ -109,22 +111,23 @@ const AT_30: &[Row] = &[
             ShrinkToFit,
         ],
         replies: &[Done; 10],
-        end: "foo0123456789012345678901234567890123456789012345678901234567890123456789012345678901234567890123456789",
+        end: "foo0123456789012345678901234567890123456789\
+            0123456789012345678901234567890123456789\
+            01234567890123456789",
         storage: Heap,
+        ..NEW
     },
     Row {
-        capacity: None,
-        start: A28,
+        start: LETTERS_28,
         granted: Some(ReserveExact(4)),
         refused: &[Push('𝄞')],
         replies: &[Done],
         end: "aaaaaaaaaaaaaaaaaaaaaaaaaaaa𝄞",
         storage: Heap,
+        ..NEW
     },
     Row {
         capacity: Some(40),
-        start: "",
-        granted: None,
         refused: &[
             PushStr(DIGITS),
             PushStr(DIGITS),
@@ -134,9 +137,9 @@ const AT_30: &[Row] = &[
         replies: &[Done; 4],
         end: "0123456789012345678901234567890123456789",
         storage: Heap,
+        ..NEW
     },
     Row {
-        capacity: None,
         start: "foo",
         granted: Some(Reserve(50)),
         refused: &[
@@ -149,11 +152,9 @@ const AT_30: &[Row] = &[
         replies: &[Done; 5],
         end: "foo01234567890123456789012345678901234567890123456789",
         storage: Heap,
+        ..NEW
     },
     Row {
-        capacity: None,
-        start: "",
-        granted: None,
         refused: &[
             Reserve(30),
             InsertStr(0, "abc"),
@@ -163,13 +164,9 @@ const AT_30: &[Row] = &[
             Clear,
         ],
         replies: &[Done, Done, Char('b'), Done, Done, Done],
-        end: "",
-        storage: Inline,
+        ..NEW
     },
     Row {
-        capacity: None,
-        start: "",
-        granted: None,
         refused: &[
             Reserve(30),
             InsertStr(0, "abc"),
@@ -179,32 +176,25 @@ const AT_30: &[Row] = &[
         ],
         replies: &[Done, Done, Char('b'), Done, Done],
         end: "acé",
-        storage: Inline,
+        ..NEW
     },
     Row {
-        capacity: None,
-        start: A27,
-        granted: None,
+        start: LETTERS_27,
         refused: &[Reserve(28)],
         replies: &[NoMemory],
-        end: A27,
-        storage: Inline,
+        end: LETTERS_27,
+        ..NEW
     },
     Row {
-        capacity: None,
-        start: "aaaaaaaaaaaaaaaaaaaaaaaaaaaaa",
-        granted: None,
+        start: LETTERS_29,
         refused: &[Push('€')],
         replies: &[NoMemory],
-        end: "aaaaaaaaaaaaaaaaaaaaaaaaaaaaa",
-        storage: Inline,
+        end: LETTERS_29,
+        ..NEW
     },
     Row {
-        capacity: None,
-        start: "",
-        granted: None,
         refused: &[
-            PushStr(A27),
+            PushStr(LETTERS_27),
             PushStr("€"),
             PushStr("b"),
             Truncate(28),
@@ -212,17 +202,16 @@ const AT_30: &[Row] = &[
             Pop,
         ],
         replies: &[Done, Done, NoMemory, BadPlace, Done, Char('a')],
-        end: A26,
-        storage: Inline,
+        end: LETTERS_26,
+        ..NEW
     },
     Row {
         capacity: Some(31),
         start: "he",
-        granted: None,
         refused: &[ShrinkToFit, Reserve(28), Push('€')],
         replies: &[Done, Done, Done],
         end: "he€",
-        storage: Inline,
+        ..NEW
     },
 ];
 
@@ -272,7 +261,7 @@ fn wrong_row<S: StringMake + Drop>(
     let (told, count) = (row.replies.len(), row.refused.len());
     assert!(rt; told <= count && count <= MOST_COMMANDS);
     let mut text: S = prepared(rt, alloc, policy, row);
-    let start = before(rt, alloc, seen_of(&text), policy);
+    let start = plain_start(rt, alloc, seen_of(&text), policy);
     let mut room = [NoMemory; MOST_COMMANDS];
     let replies = &mut room[..count];
     run_held(rt, alloc, &mut text, row.refused, replies);
@@ -288,21 +277,16 @@ fn wrong_row<S: StringMake + Drop>(
 }
 
 /// Makes the run of each row.
-pub fn runs_of<S: StringMake + Drop>(
+pub fn run_rows<S: StringMake + Drop>(
     rt: &impl Abort,
     alloc: Global,
     policy: Policy,
     rows: &[Row],
-) -> Runs {
+) -> Tally {
     let mut runs = 0usize;
     for (i, row) in rows.iter().enumerate() {
         if let Some(wrong) = wrong_row::<S>(rt, alloc, policy, *row) {
-            let count = row.refused.len();
-            return Err(Fault {
-                row: i,
-                count,
-                wrong,
-            });
+            return fault_at(i, row.refused.len(), wrong);
         }
         runs = runs.saturating_add(1);
     }
@@ -310,21 +294,17 @@ pub fn runs_of<S: StringMake + Drop>(
 }
 
 fn assert_rows<S: StringMake + Drop>(rt: &impl Abort, alloc: Global, policy: Policy, rows: &[Row]) {
-    assert_runs(rt, runs_of::<S>(rt, alloc, policy, rows));
+    assert_right(rt, run_rows::<S>(rt, alloc, policy, rows));
 }
 
 #[test]
-fn an_inline_or_heap_text_asks_for_no_memory_that_its_rules_spare(
-    rt: HostRuntime,
-) -> Result<(), Fail> {
+fn an_inline_or_heap_text_asks_for_no_memory_that_its_rules_spare(rt: HostRuntime) {
     assert_rows::<InlinableString>(&rt, rt.alloc(), inlinable(30), AT_30);
-    Ok(())
 }
 
 #[test]
-fn a_string_asks_for_no_memory_that_was_reserved(rt: HostRuntime) -> Result<(), Fail> {
+fn a_string_asks_for_no_memory_that_was_reserved(rt: HostRuntime) {
     assert_rows::<String>(&rt, rt.alloc(), HEAP, ON_A_STRING);
-    Ok(())
 }
 
 /// Asserts the reply to a push, how many bytes the text has after it, and where it lies.
@@ -339,13 +319,13 @@ fn assert_push<S: StringExt>(
 
 /// The first three of these are given while all memory is held, and the last one once it is given
 /// back.
-const HELD_AND_FREE: &[Command<'static>] = &[PushStr(A30), Push('b'), Pop, Push('€')];
+const HELD_AND_FREE: &[Command<'static>] = &[PushStr(LETTERS_30), Push('b'), Pop, Push('€')];
 
 const HELD_AND_FREE_REPLIES: &[Reply] = &[Done, NoMemory, Char('a'), Done];
 
 fn assert_held_and_free<S: StringMake + Drop>(rt: &impl Abort, alloc: Global, policy: Policy) {
     let mut text = S::new(alloc);
-    let start = before(rt, alloc, seen_of(&text), policy);
+    let start = plain_start(rt, alloc, seen_of(&text), policy);
     let mut replies = [BadPlace; 4];
     run_held(rt, alloc, &mut text, &HELD_AND_FREE[..3], &mut replies[..3]);
     let storage = text.storage();
@@ -355,13 +335,12 @@ fn assert_held_and_free<S: StringMake + Drop>(rt: &impl Abort, alloc: Global, po
     assert_push(rt, replies[3], &text, (Done, 32, Heap));
     let end = seen_of(&text);
     let wrong = wrong_verdict(rt, alloc, start, HELD_AND_FREE, &replies, end);
-    assert_right(rt, wrong, "");
+    assert_agrees(rt, wrong, "");
 }
 
 #[test]
-fn a_push_that_was_refused_is_done_once_memory_is_back(rt: HostRuntime) -> Result<(), Fail> {
+fn a_push_that_was_refused_is_done_once_memory_is_back(rt: HostRuntime) {
     assert_held_and_free::<InlinableString>(&rt, rt.alloc(), inlinable(30));
-    Ok(())
 }
 
 const PUSHES: &[Command<'static>] = &[Push('a'); 300];
@@ -370,7 +349,7 @@ const PUSHED: &[Reply] = &[Done; 300];
 
 fn assert_300_pushes<S: StringMake + Drop>(rt: &impl Abort, alloc: Global, policy: Policy) {
     let mut text = S::new(alloc);
-    let start = before(rt, alloc, seen_of(&text), policy);
+    let start = plain_start(rt, alloc, seen_of(&text), policy);
     let mut replies = [NoMemory; 300];
     run_held(rt, alloc, &mut text, PUSHES, &mut replies);
     assert!(rt; &replies[..] == PUSHED, "{replies:?}");
@@ -378,13 +357,12 @@ fn assert_300_pushes<S: StringMake + Drop>(rt: &impl Abort, alloc: Global, polic
     run_held(rt, alloc, &mut text, &[Push('a')], &mut last);
     assert_push(rt, last[0], &text, (NoMemory, 300, Inline));
     let wrong = wrong_verdict(rt, alloc, start, PUSHES, &replies, seen_of(&text));
-    assert_right(rt, wrong, "");
+    assert_agrees(rt, wrong, "");
     let last = run_one_beside(rt, alloc, &mut text, policy, Push('a'));
     assert_push(rt, last, &text, (Done, 301, Heap));
 }
 
 #[test]
-fn pushes_within_a_limit_of_300_ask_for_no_memory(rt: HostRuntime) -> Result<(), Fail> {
+fn pushes_within_a_limit_of_300_ask_for_no_memory(rt: HostRuntime) {
     assert_300_pushes::<InlinableStringN<300>>(&rt, rt.alloc(), inlinable(300));
-    Ok(())
 }

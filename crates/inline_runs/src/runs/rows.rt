@@ -1,339 +1,434 @@
-//! Rows: commands, their replies and what stands after them.
-use Storage::{Heap, Inline};
-use inlinable_string::Storage;
+//! Rows: commands on a text, their replies, and what stands after each of them.
 use inlinable_string::run::Command::{
-    self, Clear, Insert, InsertStr, Pop, Push, PushStr, Remove, ReplaceBytes, Reserve,
-    ReserveExact, ShrinkToFit, Truncate,
+    Clear, Insert, InsertStr, Pop, Push, PushStr, Remove, ReplaceBytes, Reserve, ReserveExact,
+    ShrinkToFit, Truncate,
 };
-use inlinable_string::run::Reply::{
-    self, BadPlace, Char, Done, NoChar, NoMemory, NotUtf8, WrongLength,
-};
+use inlinable_string::run::Reply::{BadPlace, Char, Done, NoChar, NoMemory, NotUtf8, WrongLength};
+use test_support::letters::{LETTERS_26, LETTERS_27, LETTERS_28, LETTERS_30, LETTERS_31};
+use test_support::step::Step;
+use test_support::step::Where::{AsMade, OnHeap, Shrunk};
 
-/// A command, the reply to it, and where a text of the row's limit lies after it.
-pub type Step = (Command<'static>, Reply, Storage);
-
-/// How a text is made, for so many bytes or by `new`, what is pushed to it, the steps, and the text
-/// after them.
-pub type Row = (Option<usize>, &'static str, &'static [Step], &'static str);
+/// How a text is made, for so many bytes or by `new`, what is pushed to it, and the steps.
+pub type Row = (Option<usize>, &'static str, &'static [Step<'static>]);
 
 /// The most steps of a row.
 pub const MOST_STEPS: usize = 16;
-
-pub const A26: &str = "aaaaaaaaaaaaaaaaaaaaaaaaaa";
-
-pub const A27: &str = "aaaaaaaaaaaaaaaaaaaaaaaaaaa";
-
-pub const A28: &str = "aaaaaaaaaaaaaaaaaaaaaaaaaaaa";
-
-pub const A30: &str = "aaaaaaaaaaaaaaaaaaaaaaaaaaaaaa";
-
-pub const A31: &str = "aaaaaaaaaaaaaaaaaaaaaaaaaaaaaaa";
 
 pub const DIGITS: &str = "0123456789";
 
 /// Rows on texts of which 30 bytes may lie inline.
 pub const AT_30: &[Row] = &[
-    (None, "", &[], ""),
+    (None, "", &[]),
     // Cuts and removals.
     (
         None,
         "aé",
         &[
-            (Remove(1), Char('é'), Inline),
-            (Remove(1), BadPlace, Inline),
+            (Remove(1), Char('é'), "a", AsMade),
+            (Remove(1), BadPlace, "a", AsMade),
         ],
-        "a",
     ),
     (
         None,
         "foo",
         &[
-            (Pop, Char('o'), Inline),
-            (Pop, Char('o'), Inline),
-            (Pop, Char('f'), Inline),
-            (Pop, NoChar, Inline),
+            (Pop, Char('o'), "fo", AsMade),
+            (Pop, Char('o'), "f", AsMade),
+            (Pop, Char('f'), "", AsMade),
+            (Pop, NoChar, "", AsMade),
         ],
-        "",
     ),
     (
         None,
         "é",
         &[
-            (Insert(1, 'x'), BadPlace, Inline),
-            (Truncate(1), BadPlace, Inline),
-            (Truncate(3), BadPlace, Inline),
-            (Truncate(2), Done, Inline),
+            (Insert(1, 'x'), BadPlace, "é", AsMade),
+            (Truncate(1), BadPlace, "é", AsMade),
+            (Truncate(3), BadPlace, "é", AsMade),
+            (Truncate(2), Done, "é", AsMade),
         ],
-        "é",
     ),
     (
         None,
         "x",
         &[
-            (PushStr("y"), Done, Inline),
-            (Remove(0), Char('x'), Inline),
-            (Pop, Char('y'), Inline),
-            (Pop, NoChar, Inline),
+            (PushStr("y"), Done, "xy", AsMade),
+            (Remove(0), Char('x'), "y", AsMade),
+            (Pop, Char('y'), "", AsMade),
+            (Pop, NoChar, "", AsMade),
         ],
-        "",
     ),
     // Insertions.
-    (None, "aé", &[(Insert(1, '€'), Done, Inline)], "a€é"),
+    (None, "aé", &[(Insert(1, '€'), Done, "a€é", AsMade)]),
     (
         None,
         "aé",
         &[
-            (Insert(1, '€'), Done, Inline),
-            (Remove(2), BadPlace, Inline),
-            (Remove(1), Char('€'), Inline),
+            (Insert(1, '€'), Done, "a€é", AsMade),
+            (Remove(2), BadPlace, "a€é", AsMade),
+            (Remove(1), Char('€'), "aé", AsMade),
         ],
-        "aé",
     ),
     (
         None,
         "inline",
-        &[(PushStr("it works!"), Done, Inline)],
-        "inlineit works!",
+        &[(PushStr("it works!"), Done, "inlineit works!", AsMade)],
     ),
     (
         None,
         "this is a plain std::string::String",
-        &[(PushStr("it works!"), Done, Heap)],
-        "this is a plain std::string::Stringit works!",
+        &[(
+            PushStr("it works!"),
+            Done,
+            "this is a plain std::string::Stringit works!",
+            OnHeap,
+        )],
     ),
     // Bytes in the place of others.
     (
         None,
         "é",
         &[
-            (ReplaceBytes(&[0xFF]), WrongLength, Inline),
-            (ReplaceBytes(&[0xC3, 0x61]), NotUtf8, Inline),
+            (ReplaceBytes(&[0xFF]), WrongLength, "é", AsMade),
+            (ReplaceBytes(&[0xC3, 0x61]), NotUtf8, "é", AsMade),
         ],
-        "é",
     ),
     (
         None,
         "é",
         &[
-            (ReplaceBytes(&[0xFF]), WrongLength, Inline),
-            (ReplaceBytes(&[0xC3, 0x61]), NotUtf8, Inline),
-            (ReplaceBytes(&[0x61, 0x62]), Done, Inline),
+            (ReplaceBytes(&[0xFF]), WrongLength, "é", AsMade),
+            (ReplaceBytes(&[0xC3, 0x61]), NotUtf8, "é", AsMade),
+            (ReplaceBytes(&[0x61, 0x62]), Done, "ab", AsMade),
         ],
-        "ab",
     ),
     (
         None,
         "hello",
-        &[(ReplaceBytes(&[111, 108, 108, 101, 104]), Done, Inline)],
-        "olleh",
+        &[(
+            ReplaceBytes(&[111, 108, 108, 101, 104]),
+            Done,
+            "olleh",
+            AsMade,
+        )],
     ),
     // The edge of the limit.
     (
         None,
-        A26,
-        &[(Push('𝄞'), Done, Inline)],
-        "aaaaaaaaaaaaaaaaaaaaaaaaaa𝄞",
+        LETTERS_26,
+        &[(Push('𝄞'), Done, "aaaaaaaaaaaaaaaaaaaaaaaaaa𝄞", AsMade)],
     ),
     (
         None,
-        A27,
-        &[(Insert(27, '𝄞'), Done, Heap)],
-        "aaaaaaaaaaaaaaaaaaaaaaaaaaa𝄞",
+        LETTERS_27,
+        &[(
+            Insert(27, '𝄞'),
+            Done,
+            "aaaaaaaaaaaaaaaaaaaaaaaaaaa𝄞",
+            OnHeap,
+        )],
     ),
     (
         None,
-        A30,
+        LETTERS_30,
         &[
-            (PushStr(""), Done, Inline),
-            (InsertStr(30, ""), Done, Inline),
+            (PushStr(""), Done, LETTERS_30, AsMade),
+            (InsertStr(30, ""), Done, LETTERS_30, AsMade),
         ],
-        A30,
     ),
     (
         None,
         "",
         &[
-            (PushStr(A27), Done, Inline),
-            (PushStr("€"), Done, Inline),
-            (PushStr("b"), Done, Heap),
-            (Truncate(28), BadPlace, Heap),
-            (Truncate(27), Done, Heap),
-            (Pop, Char('a'), Heap),
+            (PushStr(LETTERS_27), Done, LETTERS_27, AsMade),
+            (PushStr("€"), Done, "aaaaaaaaaaaaaaaaaaaaaaaaaaa€", AsMade),
+            (PushStr("b"), Done, "aaaaaaaaaaaaaaaaaaaaaaaaaaa€b", OnHeap),
+            (
+                Truncate(28),
+                BadPlace,
+                "aaaaaaaaaaaaaaaaaaaaaaaaaaa€b",
+                OnHeap,
+            ),
+            (Truncate(27), Done, LETTERS_27, OnHeap),
+            (Pop, Char('a'), LETTERS_26, OnHeap),
         ],
-        A26,
     ),
     (
         None,
         "",
         &[
-            (PushStr("hello world"), Done, Inline),
-            (Truncate(5), Done, Inline),
-            (Pop, Char('o'), Inline),
-            (Truncate(9), BadPlace, Inline),
-            (PushStr("abcdefghijklmnopqrstuvwxyz0"), Done, Heap),
-            (Pop, Char('0'), Heap),
+            (PushStr("hello world"), Done, "hello world", AsMade),
+            (Truncate(5), Done, "hello", AsMade),
+            (Pop, Char('o'), "hell", AsMade),
+            (Truncate(9), BadPlace, "hell", AsMade),
+            (
+                PushStr("abcdefghijklmnopqrstuvwxyz0"),
+                Done,
+                "hellabcdefghijklmnopqrstuvwxyz0",
+                OnHeap,
+            ),
+            (Pop, Char('0'), "hellabcdefghijklmnopqrstuvwxyz", OnHeap),
         ],
-        "hellabcdefghijklmnopqrstuvwxyz",
     ),
     // Texts that come back from the heap, and texts that stay.
     (
         Some(31),
-        A31,
-        &[(Pop, Char('a'), Heap), (ShrinkToFit, Done, Inline)],
-        A30,
+        LETTERS_31,
+        &[
+            (Pop, Char('a'), LETTERS_30, AsMade),
+            (ShrinkToFit, Done, LETTERS_30, Shrunk),
+        ],
     ),
-    (Some(31), A31, &[(ShrinkToFit, Done, Heap)], A31),
+    (
+        Some(31),
+        LETTERS_31,
+        &[(ShrinkToFit, Done, LETTERS_31, AsMade)],
+    ),
     (
         None,
         "",
         &[
-            (PushStr(A31), Done, Heap),
-            (Pop, Char('a'), Heap),
-            (ShrinkToFit, Done, Inline),
-            (Push('b'), Done, Heap),
+            (PushStr(LETTERS_31), Done, LETTERS_31, OnHeap),
+            (Pop, Char('a'), LETTERS_30, OnHeap),
+            (ShrinkToFit, Done, LETTERS_30, Shrunk),
+            (Push('b'), Done, "aaaaaaaaaaaaaaaaaaaaaaaaaaaaaab", OnHeap),
         ],
-        "aaaaaaaaaaaaaaaaaaaaaaaaaaaaaab",
     ),
     // Room.
-    (
-        None,
-        "a",
-        &[(Reserve(18446744073709551615), NoMemory, Inline)],
-        "a",
-    ),
+    (None, "a", &[(Reserve(usize::MAX), NoMemory, "a", AsMade)]),
     (
         None,
         "a",
         &[
-            (ReserveExact(18446744073709551615), NoMemory, Inline),
-            (Push('b'), Done, Inline),
+            (ReserveExact(usize::MAX), NoMemory, "a", AsMade),
+            (Push('b'), Done, "ab", AsMade),
         ],
-        "ab",
     ),
-    (None, "foo", &[(Reserve(27), Done, Inline)], "foo"),
-    (None, "foo", &[(Reserve(28), Done, Heap)], "foo"),
+    (None, "foo", &[(Reserve(27), Done, "foo", AsMade)]),
+    (None, "foo", &[(Reserve(28), Done, "foo", OnHeap)]),
     (
         None,
         "foo",
         &[
-            (ReserveExact(27), Done, Inline),
-            (ReserveExact(28), Done, Heap),
+            (ReserveExact(27), Done, "foo", AsMade),
+            (ReserveExact(28), Done, "foo", OnHeap),
         ],
-        "foo",
     ),
     (
         None,
         "foo",
         &[
-            (Reserve(100), Done, Heap),
-            (PushStr(DIGITS), Done, Heap),
-            (PushStr(DIGITS), Done, Heap),
-            (PushStr(DIGITS), Done, Heap),
-            (PushStr(DIGITS), Done, Heap),
-            (PushStr(DIGITS), Done, Heap),
-            (PushStr(DIGITS), Done, Heap),
-            (PushStr(DIGITS), Done, Heap),
-            (PushStr(DIGITS), Done, Heap),
-            (PushStr(DIGITS), Done, Heap),
-            (PushStr(DIGITS), Done, Heap),
-            (ShrinkToFit, Done, Heap),
+            (Reserve(100), Done, "foo", OnHeap),
+            (PushStr(DIGITS), Done, "foo0123456789", OnHeap),
+            (PushStr(DIGITS), Done, "foo01234567890123456789", OnHeap),
+            (
+                PushStr(DIGITS),
+                Done,
+                "foo012345678901234567890123456789",
+                OnHeap,
+            ),
+            (
+                PushStr(DIGITS),
+                Done,
+                "foo0123456789012345678901234567890123456789",
+                OnHeap,
+            ),
+            (
+                PushStr(DIGITS),
+                Done,
+                "foo01234567890123456789012345678901234567890123456789",
+                OnHeap,
+            ),
+            (
+                PushStr(DIGITS),
+                Done,
+                "foo0123456789012345678901234567890123456789\
+01234567890123456789",
+                OnHeap,
+            ),
+            (
+                PushStr(DIGITS),
+                Done,
+                "foo0123456789012345678901234567890123456789\
+012345678901234567890123456789",
+                OnHeap,
+            ),
+            (
+                PushStr(DIGITS),
+                Done,
+                "foo0123456789012345678901234567890123456789\
+0123456789012345678901234567890123456789",
+                OnHeap,
+            ),
+            (
+                PushStr(DIGITS),
+                Done,
+                "foo0123456789012345678901234567890123456789\
+0123456789012345678901234567890123456789\
+0123456789",
+                OnHeap,
+            ),
+            (
+                PushStr(DIGITS),
+                Done,
+                "foo0123456789012345678901234567890123456789\
+0123456789012345678901234567890123456789\
+01234567890123456789",
+                OnHeap,
+            ),
+            (
+                ShrinkToFit,
+                Done,
+                "foo0123456789012345678901234567890123456789\
+0123456789012345678901234567890123456789\
+01234567890123456789",
+                OnHeap,
+            ),
         ],
-        "foo0123456789012345678901234567890123456789012345678901234567890123456789012345678901234567890123456789",
     ),
     (
         None,
-        A28,
-        &[(ReserveExact(4), Done, Heap), (Push('𝄞'), Done, Heap)],
-        "aaaaaaaaaaaaaaaaaaaaaaaaaaaa𝄞",
+        LETTERS_28,
+        &[
+            (ReserveExact(4), Done, LETTERS_28, OnHeap),
+            (Push('𝄞'), Done, "aaaaaaaaaaaaaaaaaaaaaaaaaaaa𝄞", OnHeap),
+        ],
     ),
     (
         Some(40),
         "",
         &[
-            (PushStr(DIGITS), Done, Heap),
-            (PushStr(DIGITS), Done, Heap),
-            (PushStr(DIGITS), Done, Heap),
-            (PushStr(DIGITS), Done, Heap),
+            (PushStr(DIGITS), Done, DIGITS, AsMade),
+            (PushStr(DIGITS), Done, "01234567890123456789", AsMade),
+            (
+                PushStr(DIGITS),
+                Done,
+                "012345678901234567890123456789",
+                AsMade,
+            ),
+            (
+                PushStr(DIGITS),
+                Done,
+                "0123456789012345678901234567890123456789",
+                AsMade,
+            ),
         ],
-        "0123456789012345678901234567890123456789",
     ),
     (
         None,
         "foo",
         &[
-            (Reserve(50), Done, Heap),
-            (PushStr(DIGITS), Done, Heap),
-            (PushStr(DIGITS), Done, Heap),
-            (PushStr(DIGITS), Done, Heap),
-            (PushStr(DIGITS), Done, Heap),
-            (PushStr(DIGITS), Done, Heap),
+            (Reserve(50), Done, "foo", OnHeap),
+            (PushStr(DIGITS), Done, "foo0123456789", OnHeap),
+            (PushStr(DIGITS), Done, "foo01234567890123456789", OnHeap),
+            (
+                PushStr(DIGITS),
+                Done,
+                "foo012345678901234567890123456789",
+                OnHeap,
+            ),
+            (
+                PushStr(DIGITS),
+                Done,
+                "foo0123456789012345678901234567890123456789",
+                OnHeap,
+            ),
+            (
+                PushStr(DIGITS),
+                Done,
+                "foo01234567890123456789012345678901234567890123456789",
+                OnHeap,
+            ),
         ],
-        "foo01234567890123456789012345678901234567890123456789",
     ),
     (
         None,
         "",
         &[
-            (Reserve(30), Done, Inline),
-            (InsertStr(0, "abc"), Done, Inline),
-            (Remove(1), Char('b'), Inline),
-            (Insert(2, 'é'), Done, Inline),
-            (ShrinkToFit, Done, Inline),
-            (Clear, Done, Inline),
+            (Reserve(30), Done, "", AsMade),
+            (InsertStr(0, "abc"), Done, "abc", AsMade),
+            (Remove(1), Char('b'), "ac", AsMade),
+            (Insert(2, 'é'), Done, "acé", AsMade),
+            (ShrinkToFit, Done, "acé", AsMade),
+            (Clear, Done, "", AsMade),
         ],
-        "",
     ),
     (
         None,
         "",
         &[
-            (Reserve(10), Done, Inline),
-            (Truncate(5), BadPlace, Inline),
-            (PushStr(DIGITS), Done, Inline),
-            (Pop, Char('9'), Inline),
+            (Reserve(10), Done, "", AsMade),
+            (Truncate(5), BadPlace, "", AsMade),
+            (PushStr(DIGITS), Done, DIGITS, AsMade),
+            (Pop, Char('9'), "012345678", AsMade),
         ],
-        "012345678",
     ),
     (
         Some(31),
-        A31,
+        LETTERS_31,
         &[
-            (Insert(0, 'c'), Done, Heap),
-            (Push('b'), Done, Heap),
-            (PushStr(DIGITS), Done, Heap),
-            (InsertStr(0, DIGITS), Done, Heap),
-            (Reserve(100), Done, Heap),
-            (ReserveExact(1000), Done, Heap),
-            (ShrinkToFit, Done, Heap),
+            (
+                Insert(0, 'c'),
+                Done,
+                "caaaaaaaaaaaaaaaaaaaaaaaaaaaaaaa",
+                AsMade,
+            ),
+            (Push('b'), Done, "caaaaaaaaaaaaaaaaaaaaaaaaaaaaaaab", AsMade),
+            (
+                PushStr(DIGITS),
+                Done,
+                "caaaaaaaaaaaaaaaaaaaaaaaaaaaaaaab0123456789",
+                AsMade,
+            ),
+            (
+                InsertStr(0, DIGITS),
+                Done,
+                "0123456789caaaaaaaaaaaaaaaaaaaaaaaaaaaaaaab0123456789",
+                AsMade,
+            ),
+            (
+                Reserve(100),
+                Done,
+                "0123456789caaaaaaaaaaaaaaaaaaaaaaaaaaaaaaab0123456789",
+                AsMade,
+            ),
+            (
+                ReserveExact(1000),
+                Done,
+                "0123456789caaaaaaaaaaaaaaaaaaaaaaaaaaaaaaab0123456789",
+                AsMade,
+            ),
+            (
+                ShrinkToFit,
+                Done,
+                "0123456789caaaaaaaaaaaaaaaaaaaaaaaaaaaaaaab0123456789",
+                AsMade,
+            ),
         ],
-        "0123456789caaaaaaaaaaaaaaaaaaaaaaaaaaaaaaab0123456789",
     ),
-    (Some(30), "", &[(Pop, NoChar, Inline)], ""),
+    (Some(30), "", &[(Pop, NoChar, "", AsMade)]),
     (
         Some(31),
         "",
-        &[(Pop, NoChar, Heap), (ShrinkToFit, Done, Inline)],
-        "",
+        &[(Pop, NoChar, "", AsMade), (ShrinkToFit, Done, "", Shrunk)],
     ),
     (
         Some(31),
         "he",
         &[
-            (Clear, Done, Heap),
-            (PushStr("llo"), Done, Heap),
-            (ShrinkToFit, Done, Inline),
+            (Clear, Done, "", AsMade),
+            (PushStr("llo"), Done, "llo", AsMade),
+            (ShrinkToFit, Done, "llo", Shrunk),
         ],
-        "llo",
     ),
     (
         Some(31),
         "",
         &[
-            (PushStr("he"), Done, Heap),
-            (ShrinkToFit, Done, Inline),
-            (Reserve(28), Done, Inline),
+            (PushStr("he"), Done, "he", AsMade),
+            (ShrinkToFit, Done, "he", Shrunk),
+            (Reserve(28), Done, "he", Shrunk),
         ],
-        "he",
     ),
 ];
 
@@ -343,23 +438,24 @@ pub const AT_0: &[Row] = &[
         None,
         "",
         &[
-            (Push('a'), Done, Heap),
-            (Pop, Char('a'), Heap),
-            (ShrinkToFit, Done, Inline),
+            (Push('a'), Done, "a", OnHeap),
+            (Pop, Char('a'), "", OnHeap),
+            (ShrinkToFit, Done, "", Shrunk),
         ],
-        "",
     ),
-    (Some(0), "", &[(PushStr(""), Done, Inline)], ""),
-    (Some(1), "", &[(PushStr(""), Done, Heap)], ""),
+    (Some(0), "", &[(PushStr(""), Done, "", AsMade)]),
+    (Some(1), "", &[(PushStr(""), Done, "", AsMade)]),
 ];
 
 /// A row on texts of which three bytes may lie inline.
-pub const AT_3: &[Row] = &[(None, "", &[(Push('𝄞'), Done, Heap)], "𝄞")];
+pub const AT_3: &[Row] = &[(None, "", &[(Push('𝄞'), Done, "𝄞", OnHeap)])];
 
 /// A row on texts of which four bytes may lie inline.
 pub const AT_4: &[Row] = &[(
     None,
     "",
-    &[(Push('𝄞'), Done, Inline), (Push('a'), Done, Heap)],
-    "𝄞a",
+    &[
+        (Push('𝄞'), Done, "𝄞", AsMade),
+        (Push('a'), Done, "𝄞a", OnHeap),
+    ],
 )];

@@ -4,10 +4,12 @@ use super::each::Kind::{Inlinable, String as OfString};
 use super::each::Memory::Ample;
 use super::each::{Given, right_lists};
 use super::generated::{List, ends_of};
-use super::rows::{A30, Row};
-use super::{Offset, memory, runs_of, wrong_insertions, wrong_offset, wrong_row_dyn};
+use super::rows::Row;
+use super::{
+    Offset, Setting, either, memory, run_rows, wrong_insertions, wrong_offset, wrong_row_dyn,
+};
 use crate::beside::Wrong::{self, Replies, Room, Text};
-use crate::beside::{Fault, Runs, wrong_end, wrong_run};
+use crate::beside::{assert_tally, wrong_end, wrong_run};
 use Storage::{Heap, Inline};
 use inlinable_string::run::Command::{self, Pop, Push, PushStr};
 use inlinable_string::run::Reply::{self, Char, Done, NoChar, NoMemory};
@@ -15,33 +17,26 @@ use inlinable_string::{InlinableString, Storage, StringMake};
 use inline_model::verdict::Verdict::OtherEnd;
 use inline_model::verdict::{HEAP, Seen, inlinable};
 use std::process::Abort;
+use test_support::ArrayText;
+use test_support::letters::{LETTERS_29, LETTERS_30};
+use test_support::step::Where::{AsMade, OnHeap};
+use test_support::step::{Home, Step};
+use test_support::tally::fault_at;
 
 /// A row of which each value is right.
-const RIGHT: Row = (
-    None,
-    "ab",
-    &[
-        (Push('c'), Done, Inline),
-        (Pop, Char('c'), Inline),
-        (PushStr("d"), Done, Inline),
-    ],
-    "abd",
-);
+const RIGHT: Row = (None, "ab", RIGHT_STEPS);
 
-/// The same row with one other value: the reply or the storage after the first step, the middle one
-/// or the last, or the text at the end. With it how many steps are run, and what is wrong then.
+const RIGHT_STEPS: &[Step] = &[
+    (Push('c'), Done, "abc", AsMade),
+    (Pop, Char('c'), "ab", AsMade),
+    (PushStr("d"), Done, "abd", AsMade),
+];
+
+/// The same row with one other value: the reply, the text or the place after one step. With it how
+/// many steps are run, and what is wrong then.
 const WRONG: &[(Row, usize, Wrong)] = &[
     (
-        (
-            None,
-            "ab",
-            &[
-                (Push('c'), NoMemory, Inline),
-                (Pop, Char('c'), Inline),
-                (PushStr("d"), Done, Inline),
-            ],
-            "abd",
-        ),
+        (None, "ab", &[(Push('c'), NoMemory, "abc", AsMade)]),
         1,
         Replies,
     ),
@@ -50,11 +45,9 @@ const WRONG: &[(Row, usize, Wrong)] = &[
             None,
             "ab",
             &[
-                (Push('c'), Done, Inline),
-                (Pop, Char('b'), Inline),
-                (PushStr("d"), Done, Inline),
+                (Push('c'), Done, "abc", AsMade),
+                (Pop, Char('b'), "ab", AsMade),
             ],
-            "abd",
         ),
         2,
         Replies,
@@ -64,77 +57,71 @@ const WRONG: &[(Row, usize, Wrong)] = &[
             None,
             "ab",
             &[
-                (Push('c'), Done, Inline),
-                (Pop, Char('c'), Inline),
-                (PushStr("d"), NoChar, Inline),
+                (Push('c'), Done, "abc", AsMade),
+                (Pop, Char('c'), "ab", AsMade),
+                (PushStr("d"), NoChar, "abd", AsMade),
             ],
-            "abd",
         ),
         3,
         Replies,
     ),
+    ((None, "ab", &[(Push('c'), Done, "ab", AsMade)]), 1, Text),
     (
         (
             None,
             "ab",
             &[
-                (Push('c'), Done, Heap),
-                (Pop, Char('c'), Inline),
-                (PushStr("d"), Done, Inline),
+                (Push('c'), Done, "abc", AsMade),
+                (Pop, Char('c'), "abc", AsMade),
             ],
-            "abd",
-        ),
-        1,
-        Wrong::Storage,
-    ),
-    (
-        (
-            None,
-            "ab",
-            &[
-                (Push('c'), Done, Inline),
-                (Pop, Char('c'), Heap),
-                (PushStr("d"), Done, Inline),
-            ],
-            "abd",
         ),
         2,
-        Wrong::Storage,
+        Text,
     ),
     (
         (
             None,
             "ab",
             &[
-                (Push('c'), Done, Inline),
-                (Pop, Char('c'), Inline),
-                (PushStr("d"), Done, Heap),
+                (Push('c'), Done, "abc", AsMade),
+                (Pop, Char('c'), "ab", AsMade),
+                (PushStr("d"), Done, "abc", AsMade),
             ],
-            "abd",
-        ),
-        3,
-        Wrong::Storage,
-    ),
-    (
-        (
-            None,
-            "ab",
-            &[
-                (Push('c'), Done, Inline),
-                (Pop, Char('c'), Inline),
-                (PushStr("d"), Done, Inline),
-            ],
-            "abc",
         ),
         3,
         Text,
     ),
+    (
+        (None, "ab", &[(Push('c'), Done, "abc", OnHeap)]),
+        1,
+        Wrong::Storage,
+    ),
+    (
+        (
+            None,
+            "ab",
+            &[
+                (Push('c'), Done, "abc", AsMade),
+                (Pop, Char('c'), "ab", OnHeap),
+            ],
+        ),
+        2,
+        Wrong::Storage,
+    ),
+    (
+        (
+            None,
+            "ab",
+            &[
+                (Push('c'), Done, "abc", AsMade),
+                (Pop, Char('c'), "ab", AsMade),
+                (PushStr("d"), Done, "abd", OnHeap),
+            ],
+        ),
+        3,
+        Wrong::Storage,
+    ),
 ];
-
-/// Asserts what the runs of a table answered.
-fn assert_answer(rt: &impl Abort, answer: Runs, wanted: Runs) {
-    assert!(rt; answer == wanted, "{answer:?}, and not {wanted:?}");
-}
 
 /// Asserts what a run answered.
 fn assert_wrong(rt: &impl Abort, answer: Option<Wrong>, wanted: Wrong) {
@@ -143,30 +130,38 @@ fn assert_wrong(rt: &impl Abort, answer: Option<Wrong>, wanted: Wrong) {
 
 #[test]
 fn a_wrong_step_of_a_row_is_found_wherever_it_stands(rt: HostRuntime) {
-    let (alloc, policy) = (rt.alloc(), inlinable(30));
-    let answer = runs_of::<InlinableString>(&rt, alloc, policy, 30, &[RIGHT, RIGHT]);
-    assert_answer(&rt, answer, Ok(8));
+    let (alloc, setting) = (rt.alloc(), either(30));
+    let tally = run_rows::<InlinableString>(&rt, alloc, setting, &[RIGHT, RIGHT]);
+    assert_tally(&rt, tally, Ok(8));
     for &(row, count, wrong) in WRONG {
-        let answer = runs_of::<InlinableString>(&rt, alloc, policy, 30, &[RIGHT, row]);
-        let fault = Fault {
-            row: 1,
-            count,
-            wrong,
-        };
-        assert_answer(&rt, answer, Err(fault));
+        let tally = run_rows::<InlinableString>(&rt, alloc, setting, &[RIGHT, row]);
+        assert_tally(&rt, tally, fault_at(1, count, wrong));
+        let mut text = InlinableString::new(alloc);
+        let answer = wrong_row_dyn(&rt, alloc, &mut text, setting, row);
+        assert_wrong(&rt, answer, wrong);
     }
 }
 
+/// Rows that are wrong on an array alone: the first is no row of its limit's own, the second has a
+/// room that no array has, and the others tell of its first two commands.
+const ON_ARRAYS: &[Row] = &[
+    RIGHT,
+    (Some(31), "ab", RIGHT_STEPS),
+    (None, "ab", &[(Push('c'), Done, "abc", OnHeap)]),
+];
+
 #[test]
-fn a_wrong_end_of_a_row_is_found_behind_a_dyn(rt: HostRuntime) {
-    for &(row, count, wrong) in WRONG {
-        // Behind a `dyn` the whole of a row is run.
-        if count == 3 {
-            let mut text = InlinableString::new(rt.alloc());
-            let answer = wrong_row_dyn(&rt, rt.alloc(), &mut text, inlinable(30), 30, row);
-            assert_wrong(&rt, answer, wrong);
-        }
-    }
+fn a_row_that_goes_to_the_heap_is_to_be_refused_on_an_array(rt: HostRuntime) {
+    let (alloc, home) = (rt.alloc(), Home::Array(30));
+    let told = Setting {
+        home,
+        row_limit: 30,
+    };
+    let tally = run_rows::<ArrayText<30>>(&rt, alloc, told, ON_ARRAYS);
+    assert_tally(&rt, tally, fault_at(2, 1, Replies));
+    let untold = Setting { home, row_limit: 8 };
+    let tally = run_rows::<ArrayText<30>>(&rt, alloc, untold, ON_ARRAYS);
+    assert_tally(&rt, tally, Ok(6));
 }
 
 /// What is seen of a text that is to be "ab", inline at a limit of 30, and what is wrong with it.
@@ -254,11 +249,11 @@ fn a_generated_list_with_another_reply_is_found(rt: HostRuntime) {
 /// A row of a run while memory is refused, each value of it right.
 const REFUSED: memory::Row = memory::Row {
     capacity: None,
-    start: A30,
+    start: LETTERS_30,
     granted: None,
     refused: &[Push('b'), Pop],
     replies: &[NoMemory, Char('a')],
-    end: "aaaaaaaaaaaaaaaaaaaaaaaaaaaaa",
+    end: LETTERS_29,
     storage: Inline,
 };
 
@@ -280,7 +275,7 @@ const WRONG_REFUSED: &[(memory::Row, Wrong)] = &[
     ),
     (
         memory::Row {
-            end: A30,
+            end: LETTERS_30,
             ..REFUSED
         },
         Text,
@@ -297,16 +292,11 @@ const WRONG_REFUSED: &[(memory::Row, Wrong)] = &[
 #[test]
 fn a_wrong_row_of_a_run_without_memory_is_found(rt: HostRuntime) {
     let (alloc, policy) = (rt.alloc(), inlinable(30));
-    let answer = memory::runs_of::<InlinableString>(&rt, alloc, policy, &[REFUSED, REFUSED]);
-    assert_answer(&rt, answer, Ok(2));
+    let tally = memory::run_rows::<InlinableString>(&rt, alloc, policy, &[REFUSED, REFUSED]);
+    assert_tally(&rt, tally, Ok(2));
     for &(row, wrong) in WRONG_REFUSED {
-        let answer = memory::runs_of::<InlinableString>(&rt, alloc, policy, &[REFUSED, row]);
-        let fault = Fault {
-            row: 1,
-            count: 2,
-            wrong,
-        };
-        assert_answer(&rt, answer, Err(fault));
+        let tally = memory::run_rows::<InlinableString>(&rt, alloc, policy, &[REFUSED, row]);
+        assert_tally(&rt, tally, fault_at(1, 2, wrong));
     }
 }
 
