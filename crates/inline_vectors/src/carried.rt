@@ -1,15 +1,16 @@
 //! The tests and the examples of the crate `inlinable_string`, with the values that it gives.
-use crate::steps::Lies::{AsMade, OnHeap, Shrunk};
-use crate::steps::{Step, assert_each, assert_repeated_everywhere};
+use crate::steps::{List, assert_each, assert_repeated_everywhere};
 use crate::texts::LONG;
 use inlinable_string::run::Command::{
     Clear, Insert, InsertStr, Pop, Push, PushStr, Remove, ReplaceBytes, Reserve, ReserveExact,
     ShrinkToFit, Truncate,
 };
 use inlinable_string::run::Reply::{Char, Done, NoChar};
+use test_support::step::Step;
+use test_support::step::Where::{AsMade, OnHeap, Shrunk};
 
 /// That a text is made empty and with room is asserted of each that is made.
-const NEW: &[(&str, &[Step])] = &[
+const NEW: &[List] = &[
     ("", &[(Push('a'), Done, "a", AsMade)]),
     ("", &[(Reserve(100), Done, "", OnHeap)]),
     ("", &[(ReserveExact(100), Done, "", OnHeap)]),
@@ -20,7 +21,7 @@ fn new_texts_are_empty_and_have_the_room_that_was_asked_for(rt: HostRuntime) {
     assert_each(&rt, rt.alloc(), NEW);
 }
 
-const CUT: &[(&str, &[Step])] = &[
+const CUT: &[List] = &[
     ("foo", &[(Truncate(1), Done, "f", AsMade)]),
     ("hello", &[(Truncate(2), Done, "he", AsMade)]),
     (
@@ -57,7 +58,7 @@ fn texts_are_cut_and_replaced(rt: HostRuntime) {
     assert_each(&rt, rt.alloc(), CUT);
 }
 
-const GROWN: &[(&str, &[Step])] = &[
+const GROWN: &[List] = &[
     (
         "abc",
         &[
@@ -82,7 +83,24 @@ fn texts_grow(rt: HostRuntime) {
 const SMALL_AND_LONG: &str = "smallthis is a really long string that is much larger than
                         INLINE_STRING_CAPACITY and so cannot be stored inline.";
 
-const OUTGROWN: &[(&str, &[Step])] = &[("small", &[(PushStr(LONG), Done, SMALL_AND_LONG, OnHeap)])];
+/// "hi world" and `LONG`.
+const HI_WORLD_AND_LONG: &str = "hi worldthis is a really long string that is much larger than
+                        INLINE_STRING_CAPACITY and so cannot be stored inline.";
+
+const OUTGROWN: &[List] = &[
+    (
+        "",
+        &[
+            (PushStr("small"), Done, "small", AsMade),
+            (PushStr(LONG), Done, SMALL_AND_LONG, OnHeap),
+        ],
+    ),
+    ("small", &[(PushStr(LONG), Done, SMALL_AND_LONG, OnHeap)]),
+    (
+        "hi world",
+        &[(PushStr(LONG), Done, HI_WORLD_AND_LONG, OnHeap)],
+    ),
+];
 
 #[test]
 fn a_small_text_becomes_a_large_one(rt: HostRuntime) {
@@ -95,7 +113,7 @@ fn thirty_one_letters_are_pushed_or_inserted(rt: HostRuntime) {
     assert_repeated_everywhere(&rt, rt.alloc(), Insert(0, 'a'), "a", 31);
 }
 
-const SHRUNK: &[(&str, &[Step])] = &[
+const SHRUNK: &[List] = &[
     // Some of these are made with room for 100 bytes.
     ("foo", &[(ShrinkToFit, Done, "foo", Shrunk)]),
     (

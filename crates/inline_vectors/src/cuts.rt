@@ -1,11 +1,12 @@
 //! Cuts and replacements: what they answer and leave, and that the text stays where it lies.
-use crate::steps::Lies::{AsMade, OnHeap};
-use crate::steps::{Step, assert_each};
-use crate::texts::{LETTERS_29, LETTERS_30, LETTERS_31};
+use crate::steps::{List, assert_each};
 use inlinable_string::run::Command::{Clear, Insert, Pop, Remove, ReplaceBytes, Truncate};
 use inlinable_string::run::Reply::{BadPlace, Char, Done, NoChar, NotUtf8, WrongLength};
+use test_support::letters::{LETTERS_29, LETTERS_30, LETTERS_31};
+use test_support::step::Step;
+use test_support::step::Where::{AsMade, OnHeap};
 
-const AT_THE_END: &[(&str, &[Step])] = &[(
+const AT_THE_END: &[List] = &[(
     "aé",
     &[
         (Remove(1), Char('é'), "a", AsMade),
@@ -18,7 +19,7 @@ fn the_end_is_no_place_to_remove_from(rt: HostRuntime) {
     assert_each(&rt, rt.alloc(), AT_THE_END);
 }
 
-const IN_THE_MIDDLE: &[(&str, &[Step])] = &[(
+const IN_THE_MIDDLE: &[List] = &[(
     "é",
     &[
         (Insert(1, 'x'), BadPlace, "é", AsMade),
@@ -33,7 +34,7 @@ fn the_middle_of_a_character_is_no_place(rt: HostRuntime) {
     assert_each(&rt, rt.alloc(), IN_THE_MIDDLE);
 }
 
-const PUT_IN_AND_TAKEN_OUT: &[(&str, &[Step])] = &[(
+const PUT_IN_AND_TAKEN_OUT: &[List] = &[(
     "aé",
     &[
         (Insert(1, '€'), Done, "a€é", AsMade),
@@ -47,7 +48,7 @@ fn what_is_put_in_is_taken_out_whole(rt: HostRuntime) {
     assert_each(&rt, rt.alloc(), PUT_IN_AND_TAKEN_OUT);
 }
 
-const REPLACED: &[(&str, &[Step])] = &[
+const REPLACED: &[List] = &[
     (
         "é",
         &[
@@ -67,6 +68,33 @@ const REPLACED: &[(&str, &[Step])] = &[
         )],
     ),
     ("", &[(ReplaceBytes(&[]), Done, "", AsMade)]),
+    // The number of bytes is tested before they are.
+    (
+        "",
+        &[
+            (ReplaceBytes(b"a"), WrongLength, "", AsMade),
+            (ReplaceBytes(b"\xFF"), WrongLength, "", AsMade),
+        ],
+    ),
+    (
+        "a",
+        &[
+            (ReplaceBytes(b""), WrongLength, "a", AsMade),
+            (ReplaceBytes(b"\xC3\xA9"), WrongLength, "a", AsMade),
+        ],
+    ),
+    (
+        "é",
+        &[
+            (ReplaceBytes(b"a"), WrongLength, "é", AsMade),
+            (ReplaceBytes(b"\xC3"), WrongLength, "é", AsMade),
+            (ReplaceBytes(b"\xFF\xFF\xFF"), WrongLength, "é", AsMade),
+        ],
+    ),
+    (
+        "aé€𝄞",
+        &[(ReplaceBytes(b"0123456789a"), WrongLength, "aé€𝄞", AsMade)],
+    ),
 ];
 
 #[test]
@@ -75,7 +103,7 @@ fn bytes_are_replaced_by_as_many_that_are_utf_8(rt: HostRuntime) {
 }
 
 /// Each cut leaves 30 bytes or fewer of 31.
-const CUT_ON_THE_HEAP: &[(&str, &[Step])] = &[(
+const CUT_ON_THE_HEAP: &[List] = &[(
     LETTERS_31,
     &[
         (Pop, Char('a'), LETTERS_30, OnHeap),

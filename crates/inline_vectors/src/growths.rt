@@ -1,15 +1,18 @@
 //! Growths: what they make of a text, and when it goes to the heap.
-use crate::steps::Lies::{AsMade, OnHeap};
-use crate::steps::{Step, assert_each, assert_each_alone, assert_repeated_everywhere, whole_of};
-use crate::texts::{LETTERS_26, LETTERS_27, LETTERS_28, LETTERS_29, LETTERS_30, LETTERS_31};
+use crate::steps::{List, assert_each, assert_each_alone, assert_repeated_everywhere, whole_of};
 use inlinable_string::run::Command::{
     Insert, InsertStr, Push, PushStr, Reserve, ReserveExact, ShrinkToFit,
 };
 use inlinable_string::run::Reply::Done;
+use test_support::letters::{
+    LETTERS_26, LETTERS_27, LETTERS_28, LETTERS_29, LETTERS_30, LETTERS_31,
+};
+use test_support::step::Step;
+use test_support::step::Where::{AsMade, OnHeap};
 
 /// A character behind so many letters, before them, and put in at their end. It fills the room
 /// inline.
-pub const CHARACTERS_THAT_FIT: &[(&str, &[Step])] = &[
+pub const CHARACTERS_THAT_FIT: &[List] = &[
     (
         LETTERS_29,
         &[
@@ -60,7 +63,7 @@ pub const CHARACTERS_THAT_FIT: &[(&str, &[Step])] = &[
 ];
 
 /// The same with a letter more, so that there is no room inline.
-const CHARACTERS_TOO_LONG: &[(&str, &[Step])] = &[
+const CHARACTERS_TOO_LONG: &[List] = &[
     (
         LETTERS_30,
         &[
@@ -131,7 +134,7 @@ fn a_hundred_insertions_at_the_front_pass_from_inline_to_the_heap(rt: HostRuntim
     assert_repeated_everywhere(&rt, rt.alloc(), InsertStr(0, "foo"), "foo", 100);
 }
 
-const NOTHING_ADDED: &[(&str, &[Step])] = &[(
+const NOTHING_ADDED: &[List] = &[(
     LETTERS_30,
     &[
         (PushStr(""), Done, LETTERS_30, AsMade),
@@ -147,7 +150,7 @@ fn the_empty_text_fits_a_full_one(rt: HostRuntime) {
 /// 28 bytes.
 const ADDED: &str = "0123456789012345678901234567";
 
-const OUTGROWN: &[(&str, &[Step])] = &[
+const OUTGROWN: &[List] = &[
     (
         "foo",
         &[(
@@ -186,7 +189,7 @@ fn texts_outgrow_the_limit_in_the_middle_and_at_the_end(rt: HostRuntime) {
 const LONG: &str = "0123456789caaaaaaaaaaaaaaaaaaaaaaaaaaaaaaab0123456789";
 
 /// Growths past the room at hand, one after the other.
-const GROWN_ON_THE_HEAP: &[(&str, &[Step])] = &[(
+const GROWN_ON_THE_HEAP: &[List] = &[(
     LETTERS_31,
     &[
         (

@@ -18,7 +18,7 @@ mod objects;
 #[cfg(test)]
 mod places;
 #[cfg(test)]
-mod played;
+mod replacements;
 #[cfg(test)]
 mod room;
 #[cfg(test)]

@@ -1,49 +1,63 @@
-//! Limits other than 30: none at all, some of few bytes, and one past a byte's range.
-use crate::played::assert_right;
-use crate::steps::Lies::{AsMade, OnHeap, Shrunk};
-use crate::steps::{Kind, Step, assert_each_within, assert_repeated_within, played_on_new};
+//! Limits other than 30 and 30 itself: none at all, some of few bytes, and one past a byte's range.
+use crate::places;
+use crate::steps::{
+    List, Tally, assert_right, play_alone_within, play_each_alone_within, play_each_within,
+    play_on, play_repeated_within, whole_of,
+};
 use inlinable_string::InlinableStringN;
-use inlinable_string::run::Command::{Pop, Push, Reserve, ReserveExact, ShrinkToFit};
-use inlinable_string::run::Reply::{Char, Done};
+use inlinable_string::run::Command::{
+    Insert, InsertStr, Pop, Push, PushStr, ReplaceBytes, Reserve, ReserveExact, ShrinkToFit,
+};
+use inlinable_string::run::Reply::{Char, Done, WrongLength};
 use std::alloc::Global;
 use std::process::Abort;
+use test_support::step::Where::{AsMade, OnHeap, Shrunk};
+use test_support::step::{Home, Kind};
+use test_support::tally::and_list;
 
-const WITHIN_0: &[(&str, &[Step])] = &[(
-    "",
-    &[
-        (Push('a'), Done, "a", OnHeap),
-        (ShrinkToFit, Done, "a", OnHeap),
-        (Pop, Char('a'), "", OnHeap),
-        (ShrinkToFit, Done, "", Shrunk),
-    ],
-)];
+const WITHIN_0: &[List] = &[
+    (
+        "",
+        &[
+            (Push('a'), Done, "a", OnHeap),
+            (ShrinkToFit, Done, "a", OnHeap),
+            (Pop, Char('a'), "", OnHeap),
+            (ShrinkToFit, Done, "", Shrunk),
+        ],
+    ),
+    (
+        "",
+        &[
+            (ReplaceBytes(b"a"), WrongLength, "", AsMade),
+            (ReplaceBytes(b""), Done, "", AsMade),
+        ],
+    ),
+];
 
 #[test]
 fn with_no_room_inline_only_the_empty_text_comes_back(rt: HostRuntime) {
-    assert_each_within::<InlinableStringN<0>>(&rt, rt.alloc(), 0, WITHIN_0);
+    assert_right(&rt, play_each_within::<0>(&rt, rt.alloc(), WITHIN_0));
 }
 
 /// Makes a text with this room.
-fn assert_made_within_0(rt: &impl Abort, alloc: Global, room: usize) {
+fn play_made_within_0(rt: &impl Abort, alloc: Global, room: usize) -> Tally {
     let kind = Kind {
-        limit: Some(0),
+        home: Home::Either(0),
         room: Some(room),
     };
-    assert_right(
-        rt,
-        played_on_new::<InlinableStringN<0>>(rt, alloc, kind, "", &[]),
-    );
+    play_on::<InlinableStringN<0>>(rt, alloc, kind, "", &[])
 }
 
 #[test]
 fn with_no_room_inline_a_text_is_made_inline_for_no_bytes_alone(rt: HostRuntime) {
-    assert_made_within_0(&rt, rt.alloc(), 0);
-    assert_made_within_0(&rt, rt.alloc(), 1);
+    for room in 0..=1usize {
+        assert_right(&rt, play_made_within_0(&rt, rt.alloc(), room));
+    }
 }
 
-const WITHIN_3: &[(&str, &[Step])] = &[("", &[(Push('𝄞'), Done, "𝄞", OnHeap)])];
+const WITHIN_3: &[List] = &[("", &[(Push('𝄞'), Done, "𝄞", OnHeap)])];
 
-const WITHIN_4: &[(&str, &[Step])] = &[(
+const WITHIN_4: &[List] = &[(
     "",
     &[
         (Push('𝄞'), Done, "𝄞", AsMade),
@@ -53,11 +67,11 @@ const WITHIN_4: &[(&str, &[Step])] = &[(
 
 #[test]
 fn a_character_of_four_bytes_is_inline_at_4_and_on_the_heap_at_3(rt: HostRuntime) {
-    assert_each_within::<InlinableStringN<4>>(&rt, rt.alloc(), 4, WITHIN_4);
-    assert_each_within::<InlinableStringN<3>>(&rt, rt.alloc(), 3, WITHIN_3);
+    assert_right(&rt, play_each_within::<4>(&rt, rt.alloc(), WITHIN_4));
+    assert_right(&rt, play_each_within::<3>(&rt, rt.alloc(), WITHIN_3));
 }
 
-const WITHIN_8: &[(&str, &[Step])] = &[
+const WITHIN_8: &[List] = &[
     ("1234", &[(Reserve(4), Done, "1234", AsMade)]),
     ("1234", &[(ReserveExact(4), Done, "1234", AsMade)]),
     ("1234", &[(Reserve(5), Done, "1234", OnHeap)]),
@@ -66,10 +80,101 @@ const WITHIN_8: &[(&str, &[Step])] = &[
 
 #[test]
 fn reservations_go_by_the_limit_of_the_type(rt: HostRuntime) {
-    assert_each_within::<InlinableStringN<8>>(&rt, rt.alloc(), 8, WITHIN_8);
+    assert_right(&rt, play_each_within::<8>(&rt, rt.alloc(), WITHIN_8));
+}
+
+/// Gives growths to a text of as many letters as its limit, at its front and its end.
+fn play_full<const N: usize>(rt: &impl Abort, alloc: Global) -> Tally {
+    let full = whole_of(rt, alloc, "a", N);
+    let longer = whole_of(rt, alloc, "a", N.saturating_add(1));
+    let (full, longer) = (full.as_str(), longer.as_str());
+    let steps = [
+        (Push('a'), Done, longer, OnHeap),
+        (PushStr("a"), Done, longer, OnHeap),
+        (Insert(0, 'a'), Done, longer, OnHeap),
+        (InsertStr(N, "a"), Done, longer, OnHeap),
+        (PushStr(""), Done, full, AsMade),
+        (InsertStr(N, ""), Done, full, AsMade),
+    ];
+    play_alone_within::<N>(rt, alloc, full, &steps)
+}
+
+/// Fills the empty text and goes past its limit, by an edit that adds a letter, and gives growths
+/// to the full one.
+fn play_limit<const N: usize>(rt: &impl Abort, alloc: Global) -> Tally {
+    let times = N.saturating_add(1);
+    let pushed = play_repeated_within::<N>(rt, alloc, Push('a'), "a", times)?;
+    let inserted = play_repeated_within::<N>(rt, alloc, Insert(0, 'a'), "a", times)?;
+    let full = play_full::<N>(rt, alloc)?;
+    Ok(pushed.saturating_add(inserted).saturating_add(full))
+}
+
+/// Each test of a limit at each of six limits; a fault has the limit as the number of its list.
+fn play_limits(rt: &impl Abort, alloc: Global) -> Tally {
+    let mut count = and_list(0, 30, play_limit::<30>(rt, alloc))?;
+    count = and_list(count, 0, play_limit::<0>(rt, alloc))?;
+    count = and_list(count, 1, play_limit::<1>(rt, alloc))?;
+    count = and_list(count, 3, play_limit::<3>(rt, alloc))?;
+    count = and_list(count, 4, play_limit::<4>(rt, alloc))?;
+    and_list(count, 300, play_limit::<300>(rt, alloc))
 }
 
 #[test]
-fn at_300_the_first_300_bytes_are_inline(rt: HostRuntime) {
-    assert_repeated_within::<InlinableStringN<300>>(&rt, rt.alloc(), 300, Push('a'), "a", 301);
+fn as_many_letters_as_the_limit_are_inline_and_no_more(rt: HostRuntime) {
+    assert_right(&rt, play_limits(&rt, rt.alloc()));
+}
+
+/// A character of each length.
+const CHARACTERS: &[char] = &['a', 'é', '€', '𝄞'];
+
+/// Puts a character in at both ends of so many letters.
+fn play_character<const N: usize>(rt: &impl Abort, alloc: Global, ch: char, count: usize) -> Tally {
+    let letters = whole_of(rt, alloc, "a", count);
+    let mut back = whole_of(rt, alloc, "a", count);
+    back.push(ch).expect(rt, "memory");
+    let mut front = String::new(alloc);
+    front.push(ch).expect(rt, "memory");
+    front.push_str(letters.as_str()).expect(rt, "memory");
+    let place = if back.len() <= N { AsMade } else { OnHeap };
+    let steps = [
+        (Push(ch), Done, back.as_str(), place),
+        (Insert(0, ch), Done, front.as_str(), place),
+    ];
+    play_alone_within::<N>(rt, alloc, letters.as_str(), &steps)
+}
+
+/// Characters that just fit, and those of which one byte finds no room.
+fn play_edge<const N: usize>(rt: &impl Abort, alloc: Global) -> Tally {
+    let mut count = 0usize;
+    for &ch in CHARACTERS {
+        for whole in N..=N.saturating_add(1) {
+            if let Some(letters) = whole.checked_sub(ch.len_utf8()) {
+                count = and_list(count, whole, play_character::<N>(rt, alloc, ch, letters))?;
+            }
+        }
+    }
+    Ok(count)
+}
+
+fn play_edges(rt: &impl Abort, alloc: Global) -> Tally {
+    let mut count = and_list(0, 30, play_edge::<30>(rt, alloc))?;
+    count = and_list(count, 0, play_edge::<0>(rt, alloc))?;
+    count = and_list(count, 1, play_edge::<1>(rt, alloc))?;
+    count = and_list(count, 3, play_edge::<3>(rt, alloc))?;
+    count = and_list(count, 4, play_edge::<4>(rt, alloc))?;
+    and_list(count, 300, play_edge::<300>(rt, alloc))
+}
+
+#[test]
+fn a_character_is_inline_where_its_bytes_just_fit(rt: HostRuntime) {
+    assert_right(&rt, play_edges(&rt, rt.alloc()));
+}
+
+/// Each place of a text of 10 bytes, where it has no room left or much.
+#[test]
+fn places_are_the_same_at_each_limit(rt: HostRuntime) {
+    for list in places::ALL {
+        assert_right(&rt, play_each_alone_within::<13>(&rt, rt.alloc(), list));
+        assert_right(&rt, play_each_alone_within::<300>(&rt, rt.alloc(), list));
+    }
 }

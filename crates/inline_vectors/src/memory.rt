@@ -1,27 +1,28 @@
 //! Calls while every request for memory is refused: a test holds all memory that can be had, makes
-//! its calls, gives the memory back, and then asserts. One gives a block back before its calls, so
-//! that one request of that size is granted and the next one is refused.
+//! its calls, gives the memory back, and then asserts.
 use crate::growths::CHARACTERS_THAT_FIT;
-use crate::played::{and_list, and_step, assert_right};
-use crate::steps::Lies::{AsMade, OnHeap, Shrunk};
-use crate::steps::{Kind, Played, Step, called, played, whole_of};
-use crate::texts::{
-    HEAP_ROOM, LETTERS_26, LETTERS_27, LETTERS_28, LETTERS_29, LETTERS_30, LETTERS_31, assert_text,
-    is_text, letters, text_of,
-};
+use crate::steps::{Tally, assert_right, play, whole_of};
+use crate::texts::{assert_text, is_text, letters, text_of};
 use inlinable_string::run::Command::{
-    self, Clear, Insert, InsertStr, Pop, Push, PushStr, Remove, ReplaceBytes, Reserve,
-    ReserveExact, ShrinkToFit, Truncate,
+    Clear, Insert, InsertStr, Pop, Push, PushStr, Remove, ReplaceBytes, Reserve, ReserveExact,
+    ShrinkToFit, Truncate,
 };
-use inlinable_string::run::Reply::{self, BadPlace, Char, Done, NoMemory, NotUtf8, WrongLength};
+use inlinable_string::run::Reply::{BadPlace, Char, Done, NoMemory, NotUtf8, WrongLength};
 use inlinable_string::{
     BoxableString, InlinableString, InlinableStringN, Storage, StringExt, StringMake,
 };
 use std::alloc::Global;
 use std::process::Abort;
 use test_support::Hoard;
+use test_support::letters::{
+    LETTERS_26, LETTERS_27, LETTERS_28, LETTERS_29, LETTERS_30, LETTERS_31,
+};
+use test_support::step::Where::{AsMade, OnHeap, Shrunk};
+use test_support::step::{HEAP_ROOM, Home, Kind, Step, new_kind};
+use test_support::tally::{and_list, and_step};
 
 mod filled;
+mod one_block;
 mod wrong_tables;
 
 /// All memory that can be had.
@@ -30,15 +31,15 @@ fn all_memory(rt: &impl Abort, alloc: Global) -> Hoard {
 }
 
 /// Plays the steps while no memory can be had.
-fn played_without_memory<S: StringExt>(
+fn play_without_memory<S: StringExt>(
     rt: &impl Abort,
     alloc: Global,
     text: &mut S,
     kind: Kind,
     steps: &[Step],
-) -> Played {
+) -> Tally {
     let hoard = all_memory(rt, alloc);
-    let answer = played(text, kind, steps);
+    let answer = play(text, kind, "", steps);
     drop(hoard);
     answer
 }
@@ -63,38 +64,38 @@ pub const NEW: Shortage<'static> = Shortage {
     after: &[],
 };
 
-/// The limit of `InlinableString`.
-pub const LIMIT: Option<usize> = Some(30);
+/// What decides where an `InlinableString` lies.
+pub const INLINABLE: Home = Home::Either(30);
 
 /// Goes through a shortage with this text.
-fn shortage_played<S: StringExt>(
+fn play_shortage<S: StringExt>(
     rt: &impl Abort,
     alloc: Global,
     text: &mut S,
-    limit: Option<usize>,
+    home: Home,
     shortage: &Shortage,
-) -> Played {
+) -> Tally {
     let kind = Kind {
-        limit,
+        home,
         room: shortage.room,
     };
-    let before = played(text, kind, shortage.before)?;
-    let during = played_without_memory(rt, alloc, text, kind, shortage.during)?;
-    let after = played(text, kind, shortage.after)?;
+    let before = play(text, kind, "", shortage.before)?;
+    let during = play_without_memory(rt, alloc, text, kind, shortage.during)?;
+    let after = play(text, kind, "", shortage.after)?;
     Ok(before.saturating_add(during).saturating_add(after))
 }
 
 /// Goes through each shortage with a text of its own, of a type with this limit.
-pub fn shortages_played<S: StringMake + Drop>(
+pub fn play_shortages<S: StringMake + Drop>(
     rt: &impl Abort,
     alloc: Global,
-    limit: Option<usize>,
+    home: Home,
     shortages: &[Shortage],
-) -> Played {
+) -> Tally {
     let mut count = 0usize;
     for (i, shortage) in shortages.iter().enumerate() {
         let mut text: S = text_of(rt, alloc, shortage.room, shortage.start);
-        let answer = shortage_played(rt, alloc, &mut text, limit, shortage);
+        let answer = play_shortage(rt, alloc, &mut text, home, shortage);
         count = and_list(count, i, answer)?;
     }
     Ok(count)
@@ -102,13 +103,16 @@ pub fn shortages_played<S: StringMake + Drop>(
 
 /// Goes through each shortage with an inline-or-heap text of its own.
 fn assert_inline_shortages(rt: &impl Abort, alloc: Global, shortages: &[Shortage]) {
-    let answer = shortages_played::<InlinableString>(rt, alloc, LIMIT, shortages);
+    let answer = play_shortages::<InlinableString>(rt, alloc, INLINABLE, shortages);
     assert_right(rt, answer);
 }
 
 /// Goes through each shortage with a `String` of its own.
 fn assert_string_shortages(rt: &impl Abort, alloc: Global, shortages: &[Shortage]) {
-    assert_right(rt, shortages_played::<String>(rt, alloc, None, shortages));
+    assert_right(
+        rt,
+        play_shortages::<String>(rt, alloc, Home::Heap, shortages),
+    );
 }
 
 /// Goes through each shortage with both.
@@ -121,41 +125,35 @@ fn assert_shortages_on_both(rt: &impl Abort, alloc: Global, shortages: &[Shortag
 fn assert_boxable_shortages(rt: &impl Abort, alloc: Global, shortages: &[Shortage]) {
     for shortage in shortages {
         let mut text = BoxableString(text_of(rt, alloc, shortage.room, shortage.start));
-        assert_right(rt, shortage_played(rt, alloc, &mut text, LIMIT, shortage));
+        assert_right(rt, play_shortage(rt, alloc, &mut text, INLINABLE, shortage));
     }
 }
 
-/// An inline-or-heap text, made new.
-const NEW_INLINE: Kind = Kind {
-    limit: LIMIT,
-    room: None,
-};
-
 /// Plays each step on a text of its own, made new, while no memory can be had.
-fn played_alone_without_memory<S: StringMake + Drop>(
+fn play_alone_without_memory<S: StringMake + Drop>(
     rt: &impl Abort,
     alloc: Global,
     start: &str,
     steps: &[Step],
-) -> Played {
+) -> Tally {
     let mut count = 0usize;
     for (i, step) in steps.iter().enumerate() {
         let mut text: S = text_of(rt, alloc, None, start);
-        let answer = played_without_memory(rt, alloc, &mut text, NEW_INLINE, &[*step]);
+        let answer = play_without_memory(rt, alloc, &mut text, new_kind(INLINABLE), &[*step]);
         count = and_step(count, i, answer)?;
     }
     Ok(count)
 }
 
 /// Plays each step of each list on a text of its own, made new, while no memory can be had.
-pub fn each_played_alone_without_memory<S: StringMake + Drop>(
+pub fn play_each_alone_without_memory<S: StringMake + Drop>(
     rt: &impl Abort,
     alloc: Global,
     lists: &[(&str, &[Step])],
-) -> Played {
+) -> Tally {
     let mut count = 0usize;
     for (i, &(start, steps)) in lists.iter().enumerate() {
-        let answer = played_alone_without_memory::<S>(rt, alloc, start, steps);
+        let answer = play_alone_without_memory::<S>(rt, alloc, start, steps);
         count = and_list(count, i, answer)?;
     }
     Ok(count)
@@ -164,7 +162,7 @@ pub fn each_played_alone_without_memory<S: StringMake + Drop>(
 #[test]
 fn a_character_up_to_30_bytes_takes_no_memory(rt: HostRuntime) {
     let (alloc, lists) = (rt.alloc(), CHARACTERS_THAT_FIT);
-    let answer = each_played_alone_without_memory::<InlinableString>(&rt, alloc, lists);
+    let answer = play_each_alone_without_memory::<InlinableString>(&rt, alloc, lists);
     assert_right(&rt, answer);
 }
 
@@ -471,108 +469,4 @@ fn assert_filled_inline<S: StringMake + Drop>(rt: &impl Abort, alloc: Global, li
 fn as_many_bytes_as_the_limit_take_no_memory(rt: HostRuntime) {
     assert_filled_inline::<InlinableString>(&rt, rt.alloc(), 30);
     assert_filled_inline::<InlinableStringN<300>>(&rt, rt.alloc(), 300);
-}
-
-/// The calls that add four bytes, or room for them, to a text of 36.
-const GROWTHS: &[Command] = &[
-    Push('𝄞'),
-    PushStr("𝄞"),
-    Insert(0, '𝄞'),
-    InsertStr(36, "𝄞"),
-    Reserve(4),
-    ReserveExact(4),
-];
-
-/// All memory that can be had but for one block of `size` bytes.
-fn all_but_one_block(rt: &impl Abort, alloc: Global, size: usize) -> Hoard {
-    let block: Result<Vec<u8>, _> = Vec::with_capacity(alloc, size);
-    let block = block.expect(rt, "memory");
-    let hoard = all_memory(rt, alloc);
-    drop(block);
-    hoard
-}
-
-/// Gives a growth to a text of 36 letters, made new, while one block of `size` bytes can be had.
-fn reply_with_one_block<S: StringMake + Drop>(
-    rt: &impl Abort,
-    alloc: Global,
-    size: usize,
-    growth: Command,
-) -> Reply {
-    let mut text: S = letters(rt, alloc, None, 36);
-    let hoard = all_but_one_block(rt, alloc, size);
-    let reply = called(&mut text, growth);
-    drop(hoard);
-    reply
-}
-
-/// How many of the growths have this reply, or the first that has another one.
-pub fn replies_with_one_block<S: StringMake + Drop>(
-    rt: &impl Abort,
-    alloc: Global,
-    size: usize,
-    wanted: Reply,
-) -> Result<usize, (usize, Reply)> {
-    let mut count = 0usize;
-    for (i, &growth) in GROWTHS.iter().enumerate() {
-        let reply = reply_with_one_block::<S>(rt, alloc, size, growth);
-        if reply != wanted {
-            return Err((i, reply));
-        }
-        count = count.saturating_add(1);
-    }
-    Ok(count)
-}
-
-fn assert_promotions<S: StringMake + Drop>(
-    rt: &impl Abort,
-    alloc: Global,
-    size: usize,
-    wanted: Reply,
-) {
-    let replies = replies_with_one_block::<S>(rt, alloc, size, wanted);
-    assert!(rt; replies == Ok(6), "{replies:?}");
-}
-
-// The C library has blocks of 24 bytes, of 40, of 56 and so on, so a request of 41 bytes would not
-// be granted.
-#[test]
-fn a_promotion_asks_once_and_for_no_more_than_its_size(rt: HostRuntime) {
-    assert_promotions::<InlinableStringN<39>>(&rt, rt.alloc(), 40, Done);
-    assert_promotions::<InlinableStringN<39>>(&rt, rt.alloc(), 24, NoMemory);
-}
-
-/// So many letters 'a'.
-const LETTERS_36: &str = "aaaaaaaaaaaaaaaaaaaaaaaaaaaaaaaaaaaa";
-
-/// Steps on 36 letters, of a text of which 39 may lie inline: it goes to the heap and comes back.
-const THERE_AND_BACK: &[Step] = &[
-    (
-        Push('𝄞'),
-        Done,
-        "aaaaaaaaaaaaaaaaaaaaaaaaaaaaaaaaaaaa𝄞",
-        OnHeap,
-    ),
-    (Pop, Char('𝄞'), LETTERS_36, OnHeap),
-    (ShrinkToFit, Done, LETTERS_36, Shrunk),
-    (
-        Push('𝄞'),
-        Done,
-        "aaaaaaaaaaaaaaaaaaaaaaaaaaaaaaaaaaaa𝄞",
-        OnHeap,
-    ),
-    (Pop, Char('𝄞'), LETTERS_36, OnHeap),
-    (ShrinkToFit, Done, LETTERS_36, Shrunk),
-];
-
-/// A second promotion finds the block that the first one took and a shrink gave back.
-#[test]
-fn a_text_that_comes_back_inline_gives_its_block_back(rt: HostRuntime) {
-    let (alloc, limit) = (rt.alloc(), Some(39));
-    let kind = Kind { limit, room: None };
-    let mut text: InlinableStringN<39> = letters(&rt, alloc, None, 36);
-    let hoard = all_but_one_block(&rt, alloc, 40);
-    let answer = played(&mut text, kind, THERE_AND_BACK);
-    drop(hoard);
-    assert_right(&rt, answer);
 }

@@ -1,92 +1,18 @@
-//! Texts as objects: through a reference to the trait, in a box, and a type of a caller's own.
-ghost use Rattle.inlinable_string.specs.Values.{string_state};
-
-use crate::steps::Lies::{AsMade, OnHeap, Shrunk};
-use crate::steps::{Kind, Step, assert_steps, called};
-use crate::texts::{HEAP_ROOM, assert_text, text_of};
-use inlinable_string::inline_string::ReplaceError;
+//! Texts as objects: through a reference to the trait, in a box, and user-defined types.
+use crate::steps::{Tally, Wrong, assert_right, play, reply_by_call};
+use crate::texts::text_of;
 use inlinable_string::run::Command::{
     self, Clear, Insert, InsertStr, Pop, Push, PushStr, Remove, ReplaceBytes, Reserve,
     ReserveExact, ShrinkToFit, Truncate,
 };
 use inlinable_string::run::Reply::{Char, Done, NotUtf8, WrongLength};
 use inlinable_string::{BoxableString, InlinableString, Storage, StringExt};
-use std::alloc::{AllocError, Global};
+use std::alloc::Global;
 use std::process::Abort;
-
-/// A text of a caller's own: a `String`, on the heap always.
-#[derive(Drop)]
-struct Plain {
-    inner: String,
-}
-
-impl StringExt for Plain {
-    ghost state = { λ s. string_state s.inner };
-
-    fn push(&mut self, ch: char) -> Result<(), AllocError> {
-        StringExt::push(&mut self.inner, ch)
-    }
-
-    fn push_str(&mut self, string: &str) -> Result<(), AllocError> {
-        StringExt::push_str(&mut self.inner, string)
-    }
-
-    fn insert(&mut self, idx: usize, ch: char) -> Result<(), AllocError> {
-        StringExt::insert(&mut self.inner, idx, ch)
-    }
-
-    fn insert_str(&mut self, idx: usize, string: &str) -> Result<(), AllocError> {
-        StringExt::insert_str(&mut self.inner, idx, string)
-    }
-
-    fn reserve(&mut self, additional: usize) -> Result<(), AllocError> {
-        StringExt::reserve(&mut self.inner, additional)
-    }
-
-    fn reserve_exact(&mut self, additional: usize) -> Result<(), AllocError> {
-        StringExt::reserve_exact(&mut self.inner, additional)
-    }
-
-    fn shrink_to_fit(&mut self) -> Result<(), AllocError> {
-        StringExt::shrink_to_fit(&mut self.inner)
-    }
-
-    fn truncate(&mut self, new_len: usize) {
-        StringExt::truncate(&mut self.inner, new_len);
-    }
-
-    fn pop(&mut self) -> Option<char> {
-        StringExt::pop(&mut self.inner)
-    }
-
-    fn remove(&mut self, idx: usize) -> char {
-        StringExt::remove(&mut self.inner, idx)
-    }
-
-    fn replace_bytes(&mut self, bytes: &[u8]) -> Result<(), ReplaceError> {
-        self.inner.replace_bytes(bytes)
-    }
-
-    fn capacity(&self) -> usize {
-        StringExt::capacity(&self.inner)
-    }
-
-    fn storage(&self) -> Storage {
-        self.inner.storage()
-    }
-
-    fn len(&self) -> usize {
-        StringExt::len(&self.inner)
-    }
-
-    fn as_bytes(&self) -> &[u8] {
-        StringExt::as_bytes(&self.inner)
-    }
-
-    fn as_str(&self) -> &str {
-        StringExt::as_str(&self.inner)
-    }
-}
+use test_support::step::Where::{AsMade, OnHeap, Shrunk};
+use test_support::step::{HEAP_ROOM, Home, Kind, Step, new_kind};
+use test_support::tally::fault_at;
+use test_support::{ArrayText, HeapText};
 
 /// Each call of the trait, given to an empty text, and past 30 bytes.
 const EVERY_CALL: &[Step] = &[
@@ -126,91 +52,102 @@ const GROWTHS: &[Command] = &[
     ReserveExact(50),
 ];
 
-/// Gives each of the growths.
-fn assert_grown<S: StringExt>(rt: &impl Abort, text: &mut S) {
+/// Gives each of the growths to a text, which is to have this length then, on the heap.
+fn play_growths<S: StringExt>(text: &mut S, round: usize, len: usize) -> Tally {
     for (i, &command) in GROWTHS.iter().enumerate() {
-        assert!(rt; called(text, command) == Done, "growth {i}");
+        let reply = reply_by_call(text, command);
+        if reply != Done {
+            return fault_at(round, i, Wrong::Reply(reply));
+        }
+    }
+    if text.len() == len && text.storage() == Storage::Heap {
+        Ok(GROWTHS.len())
+    } else {
+        fault_at(round, GROWTHS.len(), Wrong::Storage)
     }
 }
 
 /// Begins with the empty text.
-fn assert_grows_without_room<S: StringExt>(rt: &impl Abort, text: &mut S) {
+fn play_every_call<S: StringExt>(text: &mut S, kind: Kind) -> Tally {
+    let mut count = play(text, kind, "", EVERY_CALL)?;
     for round in 1..=4usize {
-        assert_grown(rt, text);
-        let len = round.saturating_mul(19);
-        assert!(rt;
-            text.len() == len && text.storage() == Storage::Heap,
-            "round {round}"
-        );
+        count = count.saturating_add(play_growths(text, round, round.saturating_mul(19))?);
+    }
+    Ok(count)
+}
+
+fn heap_text(rt: &impl Abort, alloc: Global, content: &str) -> HeapText {
+    HeapText {
+        string: text_of(rt, alloc, None, content),
+        can_shrink: true,
     }
 }
 
-fn assert_every_call<S: StringExt>(rt: &impl Abort, text: &mut S, kind: Kind) {
-    assert_steps(rt, text, kind, EVERY_CALL);
-    assert_grows_without_room(rt, text);
-}
-
 #[test]
-fn a_type_of_a_callers_own_is_edited_as_a_string_is(rt: HostRuntime) {
-    let alloc = rt.alloc();
-    let kind = Kind {
-        limit: None,
-        room: None,
-    };
-    assert_every_call(&rt, &mut own_text(&rt, alloc, ""), kind);
-    assert_every_call(&rt, &mut String::new(alloc), kind);
+fn a_user_defined_type_is_edited_as_a_string_is(rt: HostRuntime) {
+    let (alloc, kind) = (rt.alloc(), new_kind(Home::Heap));
+    assert_right(&rt, play_every_call(&mut heap_text(&rt, alloc, ""), kind));
+    assert_right(&rt, play_every_call(&mut String::new(alloc), kind));
 }
 
-fn assert_boxable_edited(rt: &impl Abort, alloc: Global, room: Option<usize>) {
-    let kind = Kind {
-        limit: Some(30),
-        room,
-    };
-    let mut text = boxable(rt, alloc, room, "");
-    assert_every_call(rt, &mut text, kind);
+/// An array is edited by all calls up to that which is refused.
+#[test]
+fn an_array_is_edited_as_a_text_that_is_refused_memory(rt: HostRuntime) {
+    let mut text: ArrayText<30> = text_of(&rt, rt.alloc(), None, "");
+    let tally = play(&mut text, new_kind(Home::Array(30)), "", EVERY_CALL);
+    assert!(rt;
+        tally == Ok(13) && text.shrink_to_fit().is_ok(),
+        "{tally:?}"
+    );
 }
 
 #[test]
 fn a_boxable_text_is_edited_as_the_text_in_it_is(rt: HostRuntime) {
-    assert_boxable_edited(&rt, rt.alloc(), None);
-    assert_boxable_edited(&rt, rt.alloc(), HEAP_ROOM);
+    let home = Home::Either(30);
+    for room in [None, HEAP_ROOM] {
+        let mut text = boxable(&rt, rt.alloc(), room, "");
+        assert_right(&rt, play_every_call(&mut text, Kind { home, room }));
+    }
 }
 
-/// Pushes through a reference to the trait.
-fn say_that_it_works(rt: &impl Abort, text: &mut dyn StringExt) {
-    let is_said = text.push_str("it work").is_ok()
+/// Whether the text is this, and lies there, by all calls that look at it.
+fn is_seen(text: &dyn StringExt, content: &str, storage: Storage) -> bool {
+    text.as_str() == content
+        && text.as_bytes() == content.as_bytes()
+        && text.len() == content.len()
+        && text.is_empty() == content.is_empty()
+        && text.storage() == storage
+        && text.capacity() >= content.len()
+}
+
+/// Pushes through a reference to the trait. Whether the text is this then, and lies there.
+fn is_said(text: &mut dyn StringExt, content: &str, storage: Storage) -> bool {
+    let is_pushed = text.push_str("it work").is_ok()
         && text.push('s').is_ok()
         && text.push_str("!").is_ok();
-    assert!(rt; is_said);
+    is_pushed && is_seen(text, content, storage)
 }
 
 #[test]
 fn a_string_grows_through_a_reference_to_the_trait(rt: HostRuntime) {
     let start = "this is a plain std::string::String";
     let mut string: String = text_of(&rt, rt.alloc(), None, start);
-    say_that_it_works(&rt, &mut string);
     let wanted = "this is a plain std::string::Stringit works!";
-    assert_text(&rt, &string, wanted, Storage::Heap);
+    assert!(rt; is_said(&mut string, wanted, Storage::Heap));
 }
 
 #[test]
 fn an_inline_text_grows_through_a_reference_to_the_trait(rt: HostRuntime) {
     let mut inline: InlinableString = text_of(&rt, rt.alloc(), None, "inline");
-    say_that_it_works(&rt, &mut inline);
-    assert_text(&rt, &inline, "inlineit works!", Storage::Inline);
-}
-
-fn own_text(rt: &impl Abort, alloc: Global, content: &str) -> Plain {
-    Plain {
-        inner: text_of(rt, alloc, None, content),
-    }
+    assert!(rt; is_said(&mut inline, "inlineit works!", Storage::Inline));
 }
 
 #[test]
-fn a_type_of_a_callers_own_grows_through_a_reference_to_the_trait(rt: HostRuntime) {
-    let mut text = own_text(&rt, rt.alloc(), "plain");
-    say_that_it_works(&rt, &mut text);
-    assert_text(&rt, &text, "plainit works!", Storage::Heap);
+fn user_defined_types_grow_through_a_reference_to_the_trait(rt: HostRuntime) {
+    let mut text = heap_text(&rt, rt.alloc(), "plain");
+    assert!(rt; is_said(&mut text, "plainit works!", Storage::Heap));
+    let mut array: ArrayText<16> = text_of(&rt, rt.alloc(), None, "plain");
+    assert!(rt; is_said(&mut array, "plainit works!", Storage::Inline));
 }
 
 /// A text of any type.
@@ -229,57 +166,55 @@ fn boxed<S: StringExt + Drop>(rt: &impl Abort, alloc: Global, text: S) -> Box<S>
 fn boxed_texts_of_several_types_stand_in_one_list(rt: HostRuntime) {
     let alloc = rt.alloc();
     let mut texts: Vec<Boxed> = Vec::new(alloc);
-    let string: String = text_of(&rt, alloc, None, "x");
+    let string = String::new(alloc);
     texts.push(boxed(&rt, alloc, string)).expect(&rt, "memory");
-    let inline = boxable(&rt, alloc, None, "x");
+    let inline = boxable(&rt, alloc, None, "");
     texts.push(boxed(&rt, alloc, inline)).expect(&rt, "memory");
-    let heap = boxable(&rt, alloc, HEAP_ROOM, "x");
+    let heap = boxable(&rt, alloc, HEAP_ROOM, "");
     texts.push(boxed(&rt, alloc, heap)).expect(&rt, "memory");
-    let own = own_text(&rt, alloc, "x");
+    let own = heap_text(&rt, alloc, "");
     texts.push(boxed(&rt, alloc, own)).expect(&rt, "memory");
-    assert_edited_in_boxes(&rt, texts.as_mut_slice());
+    let count = count_edited(texts.as_mut_slice());
+    assert!(rt; count == 4 && texts.len() == 4, "{count}");
 }
 
-/// Where a `String`, a boxable text made new and one made on the heap, and a caller's own text lie.
+/// Where a `String`, a boxable text made new and one made on the heap, and a user-defined text lie.
 const STORAGES: &[Storage] = &[Storage::Heap, Storage::Inline, Storage::Heap, Storage::Heap];
 
-fn assert_edited_in_boxes(rt: &impl Abort, texts: &mut [Boxed]) {
-    assert!(rt; texts.len() == STORAGES.len());
+/// How many of the texts are edited as they must be, up to the first that is not.
+fn count_edited(texts: &mut [Boxed]) -> usize {
+    let mut count = 0usize;
     for (text, &storage) in texts.iter_mut().zip(STORAGES) {
-        assert_emptied_in_a_box(rt, text, storage);
-        assert_filled_in_a_box(rt, text);
+        if !is_edited_in_box(text, storage) {
+            return count;
+        }
+        count = count.saturating_add(1);
     }
+    count
 }
 
-/// Asserts what the text is and where it lies, by all calls that look at it.
-fn assert_boxed_text(rt: &impl Abort, text: &Boxed, content: &str, storage: Storage) {
-    let is_right = text.as_str() == content
-        && text.as_bytes() == content.as_bytes()
-        && text.len() == content.len()
-        && text.is_empty() == content.is_empty()
-        && text.storage() == storage
-        && text.capacity() >= content.len();
-    assert!(rt; is_right, "{content}");
+fn is_edited_in_box(text: &mut Boxed, storage: Storage) -> bool {
+    is_edited(&mut **text, storage)
 }
 
-/// The last characters of "xy".
-const LAST: &[Option<char>] = &[Some('y'), Some('x'), None];
-
-/// Empties the text "x" by its end.
-fn assert_emptied_in_a_box(rt: &impl Abort, text: &mut Boxed, storage: Storage) {
-    assert!(rt; text.push('y').is_ok());
-    assert_boxed_text(rt, text, "xy", storage);
-    for &last in LAST {
-        assert!(rt; text.pop() == last);
-    }
-    assert_boxed_text(rt, text, "", storage);
+/// Begins with the empty text.
+fn is_edited(text: &mut dyn StringExt, storage: Storage) -> bool {
+    is_emptied(text, storage) && is_filled(text)
 }
 
-/// Fills the empty text past the room that it has inline, with 31 bytes.
-fn assert_filled_in_a_box(rt: &impl Abort, text: &mut Boxed) {
+/// Makes the text "xy" of the empty one, and empties it by its end.
+fn is_emptied(text: &mut dyn StringExt, storage: Storage) -> bool {
+    text.push_str("x").is_ok()
+        && text.push('y').is_ok()
+        && is_seen(text, "xy", storage)
+        && [text.pop(), text.pop(), text.pop()] == [Some('y'), Some('x'), None]
+        && is_seen(text, "", storage)
+}
+
+/// Fills the empty text past the room that it has inline, with 31 bytes, and empties it.
+fn is_filled(text: &mut dyn StringExt) -> bool {
     let digits = "0123456789012345678901234567890";
-    assert!(rt; text.push_str(digits).is_ok());
-    assert_boxed_text(rt, text, digits, Storage::Heap);
+    let is_long = text.push_str(digits).is_ok() && is_seen(text, digits, Storage::Heap);
     text.clear();
-    assert_boxed_text(rt, text, "", Storage::Heap);
+    is_long && is_seen(text, "", Storage::Heap)
 }

@@ -1,14 +1,15 @@
 //! Each byte offset of a text with characters of every length, and those past its end, given to
 //! each call that takes a place.
-use crate::steps::Lies::AsMade;
-use crate::steps::{Step, assert_each_alone};
+use crate::steps::{List, assert_each_alone};
 use inlinable_string::run::Command::{Insert, InsertStr, Remove, Truncate};
 use inlinable_string::run::Reply::{BadPlace, Char, Done};
+use test_support::step::Step;
+use test_support::step::Where::AsMade;
 
 /// A character of each length. Its places are 0, 1, 3, 6 and 10.
 const TEXT: &str = "aé€𝄞";
 
-const INSERTED: &[(&str, &[Step])] = &[(
+const INSERTED: &[List] = &[(
     TEXT,
     &[
         (Insert(0, 'x'), Done, "xaé€𝄞", AsMade),
@@ -33,7 +34,7 @@ fn a_character_goes_in_at_each_place_and_nowhere_else(rt: HostRuntime) {
     assert_each_alone(&rt, rt.alloc(), INSERTED);
 }
 
-const TEXTS_INSERTED: &[(&str, &[Step])] = &[(
+const TEXTS_INSERTED: &[List] = &[(
     TEXT,
     &[
         (InsertStr(0, "né"), Done, "néaé€𝄞", AsMade),
@@ -58,7 +59,7 @@ fn a_text_goes_in_at_each_place_and_nowhere_else(rt: HostRuntime) {
     assert_each_alone(&rt, rt.alloc(), TEXTS_INSERTED);
 }
 
-const CUT: &[(&str, &[Step])] = &[(
+const CUT: &[List] = &[(
     TEXT,
     &[
         (Truncate(0), Done, "", AsMade),
@@ -83,7 +84,7 @@ fn a_text_is_cut_at_each_place_and_nowhere_else(rt: HostRuntime) {
     assert_each_alone(&rt, rt.alloc(), CUT);
 }
 
-const TAKEN_OUT: &[(&str, &[Step])] = &[(
+const TAKEN_OUT: &[List] = &[(
     TEXT,
     &[
         (Remove(0), Char('a'), "é€𝄞", AsMade),
@@ -108,3 +109,6 @@ const TAKEN_OUT: &[(&str, &[Step])] = &[(
 fn a_character_is_taken_out_where_it_begins_and_nowhere_else(rt: HostRuntime) {
     assert_each_alone(&rt, rt.alloc(), TAKEN_OUT);
 }
+
+/// All tables of places.
+pub const ALL: &[&[List]] = &[INSERTED, TEXTS_INSERTED, CUT, TAKEN_OUT];

@@ -1,16 +1,16 @@
 //! Room: when a reservation goes to the heap, what it is good for, and when a text comes back.
-use crate::played::assert_right;
-use crate::steps::Lies::{AsMade, OnHeap, Shrunk};
-use crate::steps::{Step, assert_each, assert_each_alone, played_on_all};
-use crate::texts::{LETTERS_30, LETTERS_31};
+use crate::steps::{List, assert_each, assert_each_alone, assert_right, play_on_all};
 use inlinable_string::run::Command::{Pop, Push, PushStr, Reserve, ReserveExact, ShrinkToFit};
 use inlinable_string::run::Reply::{Char, Done, NoMemory};
 use inlinable_string::{InlinableString, StringMake};
 use std::alloc::Global;
 use std::process::Abort;
+use test_support::letters::{LETTERS_30, LETTERS_31};
+use test_support::step::Step;
+use test_support::step::Where::{AsMade, OnHeap, Shrunk};
 
 /// That there is the room is asserted after each reservation that is granted.
-const RESERVED: &[(&str, &[Step])] = &[
+const RESERVED: &[List] = &[
     (
         "foo",
         &[
@@ -57,7 +57,7 @@ const FOO_AND_HUNDRED: &str = "foo0123456789012345678901234567890123456789\
     01234567890123456789";
 
 /// Room for 100 bytes more is reserved and filled, and the text is shrunk.
-const FILLED: &[(&str, &[Step])] = &[(
+const FILLED: &[List] = &[(
     "foo",
     &[
         (Reserve(100), Done, "foo", OnHeap),
@@ -121,7 +121,7 @@ fn a_long_text_stays_on_the_heap_when_it_is_shrunk(rt: HostRuntime) {
     assert_each(&rt, rt.alloc(), FILLED);
 }
 
-const COMING_BACK: &[(&str, &[Step])] = &[(
+const COMING_BACK: &[List] = &[(
     LETTERS_31,
     &[
         (ShrinkToFit, Done, LETTERS_31, OnHeap),
@@ -137,7 +137,7 @@ fn a_text_comes_back_inline_when_it_is_shrunk_at_30_bytes(rt: HostRuntime) {
 }
 
 /// A short text that is shrunk comes back inline, and a `String`, however short, does not.
-const SHRUNK: &[(&str, &[Step])] = &[
+const SHRUNK: &[List] = &[
     ("", &[(ShrinkToFit, Done, "", Shrunk)]),
     ("foo", &[(ShrinkToFit, Done, "foo", Shrunk)]),
     (LETTERS_30, &[(ShrinkToFit, Done, LETTERS_30, Shrunk)]),
@@ -156,8 +156,7 @@ fn assert_too_large<S: StringMake + Drop>(rt: &impl Abort, alloc: Global) {
 #[test]
 fn a_text_is_made_inline_with_room_for_up_to_30_bytes(rt: HostRuntime) {
     assert_each(&rt, rt.alloc(), &[("", &[])]);
-    let played = played_on_all(&rt, rt.alloc(), Some(100_000), "", &[]);
-    assert_right(&rt, played);
+    assert_right(&rt, play_on_all(&rt, rt.alloc(), Some(100_000), "", &[]));
     assert_too_large::<InlinableString>(&rt, rt.alloc());
     assert_too_large::<String>(&rt, rt.alloc());
 }

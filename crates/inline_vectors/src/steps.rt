@@ -1,19 +1,18 @@
-//! Steps: a command, and the reply, the text and the storage that it must give. Tables of them are
-//! played on every kind of text, by the calls of the traits.
-ghost use Rattle.std.specs.Prelude.{◌≡◌, vec_len};
+//! Plays tables of steps by the calls of the traits, on every kind of text.
+ghost use Rattle.std.specs.Prelude.{◌≡◌, vec_len, IsOk};
 
-use crate::played::{Fault, and_list, and_step, assert_right};
-use crate::texts::{
-    assert_text, insert_at, insert_str_at, is_text, remove_at, text_of, truncate_at,
-};
+use crate::texts::{is_text, text_of};
 use inlinable_string::inline_string::ReplaceError;
 use inlinable_string::run::{Command, Reply};
-use inlinable_string::{BoxableString, InlinableString, Storage, StringExt, StringMake};
+use inlinable_string::{
+    BoxableString, InlinableString, InlinableStringN, Storage, StringExt, StringMake,
+};
 use std::alloc::{AllocError, Global};
 use std::process::Abort;
-
-/// A command, the reply to it, the text after it, and where the text lies then.
-pub type Step<'a> = (Command<'a>, Reply, &'a str, Lies);
+use test_support::ArrayText;
+use test_support::step::Where::AsMade;
+use test_support::step::{Home, Kind, Step, goes_on, new_kind, step_on, storage_of, where_at};
+use test_support::tally::{and_list, and_step, fault_at};
 
 /// What is wrong after a step.
 #[derive(Clone, Copy, Debug, PartialEq)]
@@ -29,51 +28,30 @@ pub enum Wrong {
 }
 
 /// How many steps were right, or the first that was wrong.
-pub type Played = crate::played::Played<Wrong>;
+pub type Tally = test_support::tally::Tally<Wrong>;
 
-/// Where a text lies, in words that hold for each kind of text.
-#[derive(Clone, Copy)]
-pub enum Lies {
-    /// Where it was made: it has not outgrown that.
-    AsMade,
-    /// On the heap, wherever it was made.
-    OnHeap,
-    /// Inline, wherever it was, if its type can lie there: it has been shrunk.
-    Shrunk,
+/// Asserts that no step was wrong.
+pub fn assert_right(rt: &impl Abort, tally: Tally)
+    ensures { IsOk tally }
+{
+    assert!(rt; tally.is_ok(), "{tally:?}");
 }
 
-/// A kind of text.
-#[derive(Clone, Copy)]
-pub struct Kind {
-    /// How many bytes can lie inline; `None` where the text lies on the heap always.
-    pub limit: Option<usize>,
-    /// The room that it is made with; `None` where it is made new.
-    pub room: Option<usize>,
+/// Asserts what a table gives that is wrong in one value.
+pub fn assert_tally(rt: &impl Abort, tally: Tally, wanted: Tally) {
+    assert!(rt; tally == wanted, "{tally:?}, and not {wanted:?}");
 }
+
+/// The start of texts, and steps on them.
+pub type List<'a> = (&'a str, &'a [Step<'a>]);
 
 /// Room on both sides of what `InlinableString` has inline.
 const ROOMS: &[Option<usize>] = &[None, Some(0), Some(10), Some(30), Some(31), Some(100)];
 
-/// Where a text of this kind lies.
-pub fn storage_of(kind: Kind, lies: Lies) -> Storage {
-    let is_inline = match (kind.limit, lies) {
-        (None, _) | (_, Lies::OnHeap) => false,
-        (Some(limit), Lies::AsMade) => kind.room.unwrap_or(0) <= limit,
-        (Some(_), Lies::Shrunk) => true,
-    };
-    if is_inline {
-        Storage::Inline
-    } else {
-        Storage::Heap
-    }
-}
-
-/// The reply to a call that can be refused; `None` stands for a bad place.
-fn growth(answer: Option<Result<(), AllocError>>) -> Reply {
+fn growth(answer: Result<(), AllocError>) -> Reply {
     match answer {
-        Some(Ok(())) => Reply::Done,
-        Some(Err(_)) => Reply::NoMemory,
-        None => Reply::BadPlace,
+        Ok(()) => Reply::Done,
+        Err(_) => Reply::NoMemory,
     }
 }
 
@@ -86,23 +64,51 @@ fn replacement(answer: Result<(), ReplaceError>) -> Reply {
 }
 
 /// Makes the call that the command names, where its place is one of the text.
-pub fn called<S: StringExt>(text: &mut S, command: Command) -> Reply {
+pub fn reply_by_call<S: StringExt>(text: &mut S, command: Command) -> Reply {
     match command {
-        Command::Push(ch) => growth(Some(text.push(ch))),
-        Command::PushStr(string) => growth(Some(text.push_str(string))),
-        Command::Insert(idx, ch) => growth(insert_at(text, idx, ch)),
-        Command::InsertStr(idx, string) => growth(insert_str_at(text, idx, string)),
-        Command::Truncate(new_len) => growth(truncate_at(text, new_len).then_some(Ok(()))),
+        Command::Push(ch) => growth(text.push(ch)),
+        Command::PushStr(string) => growth(text.push_str(string)),
+        Command::Insert(idx, ch) => {
+            if text.is_char_boundary(idx) {
+                growth(text.insert(idx, ch))
+            } else {
+                Reply::BadPlace
+            }
+        }
+        Command::InsertStr(idx, string) => {
+            if text.is_char_boundary(idx) {
+                growth(text.insert_str(idx, string))
+            } else {
+                Reply::BadPlace
+            }
+        }
+        Command::Truncate(new_len) => {
+            let is_place = text.is_char_boundary(new_len);
+            if is_place {
+                text.truncate(new_len);
+            }
+            if is_place {
+                Reply::Done
+            } else {
+                Reply::BadPlace
+            }
+        }
         Command::Pop => text.pop().map_or(Reply::NoChar, Reply::Char),
-        Command::Remove(idx) => remove_at(text, idx).map_or(Reply::BadPlace, Reply::Char),
+        Command::Remove(idx) => {
+            if text.is_char_boundary(idx) && idx < text.len() {
+                Reply::Char(text.remove(idx))
+            } else {
+                Reply::BadPlace
+            }
+        }
         Command::Clear => {
             text.clear();
             Reply::Done
         }
         Command::ReplaceBytes(bytes) => replacement(text.replace_bytes(bytes)),
-        Command::Reserve(additional) => growth(Some(text.reserve(additional))),
-        Command::ReserveExact(additional) => growth(Some(text.reserve_exact(additional))),
-        Command::ShrinkToFit => growth(Some(text.shrink_to_fit())),
+        Command::Reserve(additional) => growth(text.reserve(additional)),
+        Command::ReserveExact(additional) => growth(text.reserve_exact(additional)),
+        Command::ShrinkToFit => growth(text.shrink_to_fit()),
     }
 }
 
@@ -115,40 +121,35 @@ pub struct Room {
 }
 
 /// Whether a text has the room that it must have after a command with this reply, where it had room
-/// for `before` bytes. No room is lost but by shrinking, which leaves a text on the heap less room
-/// where that had more than it needs, and what was reserved is there.
-pub fn has_room(before: usize, command: Command, reply: Reply, after: Room) -> bool {
+/// for `old_capacity` bytes. No room is lost but by shrinking, which leaves a text on the heap less
+/// room where that had more than it needs, and what was reserved is there.
+pub fn has_room(old_capacity: usize, command: Command, reply: Reply, room: Room) -> bool {
     let Room {
         storage,
         len,
         capacity,
-    } = after;
+    } = room;
     if reply != Reply::Done {
-        return capacity == before;
+        return capacity == old_capacity;
     }
     match command {
         Command::Reserve(additional) | Command::ReserveExact(additional) => {
-            capacity >= before && capacity.saturating_sub(len) >= additional
+            capacity >= old_capacity && capacity.saturating_sub(len) >= additional
         }
         Command::ShrinkToFit => {
-            storage == Storage::Inline || capacity == len || capacity < before
+            storage == Storage::Inline || capacity == len || capacity < old_capacity
         }
-        _ => capacity >= before,
+        _ => capacity >= old_capacity,
     }
 }
 
-/// What is wrong where a text of this kind is to be this one, and to lie there. Inline it has room
-/// for its limit.
-fn wrong_text<S: StringExt>(text: &S, kind: Kind, content: &str, lies: Lies) -> Option<Wrong> {
-    let storage = text.storage();
-    if !is_text(text, content) {
-        Some(Wrong::Text)
-    } else if storage != storage_of(kind, lies) {
-        Some(Wrong::Storage)
-    } else if storage == Storage::Inline && kind.limit != Some(text.capacity()) {
-        Some(Wrong::Room)
-    } else {
-        None
+/// Whether the text has as much room as its limit where it lies inline.
+fn has_inline_room(home: Home, room: Room) -> bool {
+    match home {
+        Home::Array(limit) | Home::Either(limit) => {
+            room.storage == Storage::Heap || room.capacity == limit
+        }
+        Home::Heap => room.storage == Storage::Heap,
     }
 }
 
@@ -156,10 +157,10 @@ fn wrong_text<S: StringExt>(text: &S, kind: Kind, content: &str, lies: Lies) -> 
 fn wrong_after<S: StringExt>(
     text: &mut S,
     kind: Kind,
-    &(command, reply, content, lies): &Step,
+    (command, reply, content, place): Step,
 ) -> Option<Wrong> {
-    let before = text.capacity();
-    let given = called(text, command);
+    let old_capacity = text.capacity();
+    let given = reply_by_call(text, command);
     let room = Room {
         storage: text.storage(),
         len: text.len(),
@@ -167,179 +168,189 @@ fn wrong_after<S: StringExt>(
     };
     if given != reply {
         Some(Wrong::Reply(given))
-    } else if !has_room(before, command, reply, room) {
+    } else if !is_text(text, content) {
+        Some(Wrong::Text)
+    } else if room.storage != storage_of(kind, place) {
+        Some(Wrong::Storage)
+    } else if !has_room(old_capacity, command, reply, room) || !has_inline_room(kind.home, room) {
         Some(Wrong::Room)
     } else {
-        wrong_text(text, kind, content, lies)
+        None
     }
 }
 
-/// Plays the steps in turn, up to the first that is wrong.
-pub fn played<S: StringExt>(text: &mut S, kind: Kind, steps: &[Step]) -> Played {
+/// Plays the steps in turn on a text that is `start`, up to the first that is wrong.
+pub fn play<S: StringExt>(text: &mut S, kind: Kind, start: &str, steps: &[Step]) -> Tally {
     let mut count = 0usize;
+    let mut content = start;
     for (i, step) in steps.iter().enumerate() {
-        if let Some(wrong) = wrong_after(text, kind, step) {
-            return Err(Fault {
-                list: 0,
-                step: i,
-                wrong,
-            });
+        if let Some(wrong) = wrong_after(text, kind, step_on(kind.home, content, *step)) {
+            return fault_at(0, i, wrong);
         }
         count = count.saturating_add(1);
+        if !goes_on(kind.home, step) {
+            break;
+        }
+        content = step.2;
     }
     Ok(count)
 }
 
-/// Plays the steps in turn.
-pub fn assert_steps<S: StringExt>(rt: &impl Abort, text: &mut S, kind: Kind, steps: &[Step]) {
-    assert_right(rt, played(text, kind, steps));
-}
-
-/// Makes a text, and asserts that it is empty and lies where it is to lie.
-fn made<S: StringMake + Drop>(rt: &impl Abort, alloc: Global, kind: Kind) -> S {
-    let text: S = text_of(rt, alloc, kind.room, "");
-    assert_text(rt, &text, "", storage_of(kind, Lies::AsMade));
-    text
-}
-
-/// Where a text lies that has been given so many bytes.
-fn lies_at(len: usize, limit: usize) -> Lies {
-    if limit < len {
-        Lies::OnHeap
-    } else {
-        Lies::AsMade
-    }
-}
-
-/// Gives the text, which is empty, its start, and plays the steps. A start that is wrong, or a text
-/// without the room that it was made with, is the fault of the first step.
-fn played_from<S: StringExt>(text: &mut S, kind: Kind, start: &str, steps: &[Step]) -> Played {
-    let lies = lies_at(start.len(), kind.limit.unwrap_or(usize::MAX));
-    played(
-        text,
-        kind,
-        &[(Command::PushStr(start), Reply::Done, start, lies)],
-    )?;
+/// Plays the steps on a text of this kind, which is empty and is given its start. A start that is
+/// wrong, or a text without the room that it was made with, is the fault of the first step.
+pub fn play_from<S: StringExt>(text: &mut S, kind: Kind, start: &str, steps: &[Step]) -> Tally {
+    let nothing = (Command::Truncate(0), Reply::Done, "", AsMade);
+    let first = (
+        Command::PushStr(start),
+        Reply::Done,
+        start,
+        where_at(start.len(), kind.home),
+    );
+    play(text, kind, "", &[nothing, first])?;
     if text.capacity() < kind.room.unwrap_or(0) {
-        return Err(Fault {
-            list: 0,
-            step: 0,
-            wrong: Wrong::Room,
-        });
+        return fault_at(0, 0, Wrong::Room);
     }
-    played(text, kind, steps)
+    if goes_on(kind.home, &first) {
+        play(text, kind, start, steps)
+    } else {
+        Ok(0)
+    }
 }
 
 /// Plays the steps on a text of this kind.
-pub fn played_on_new<S: StringMake + Drop>(
+pub fn play_on<S: StringMake + Drop>(
     rt: &impl Abort,
     alloc: Global,
     kind: Kind,
     start: &str,
     steps: &[Step],
-) -> Played {
-    let mut text: S = made(rt, alloc, kind);
-    played_from(&mut text, kind, start, steps)
+) -> Tally {
+    let mut text: S = text_of(rt, alloc, kind.room, "");
+    play_from(&mut text, kind, start, steps)
 }
 
-/// Plays the steps on a text of each of the library's types, made with this room.
-pub fn played_on_all(
+/// Plays the steps on a text of each of the library's types under the trait, made with this room.
+pub fn play_on_all(
     rt: &impl Abort,
     alloc: Global,
     room: Option<usize>,
     start: &str,
     steps: &[Step],
-) -> Played {
-    let inline_or_heap = Kind {
-        limit: Some(30),
-        room,
-    };
-    let heap = Kind { limit: None, room };
-    let mut boxable = BoxableString(made(rt, alloc, inline_or_heap));
-    let in_box = played_from(&mut boxable, inline_or_heap, start, steps)?;
-    let inline = played_on_new::<InlinableString>(rt, alloc, inline_or_heap, start, steps)?;
-    let on_heap = played_on_new::<String>(rt, alloc, heap, start, steps)?;
+) -> Tally {
+    let home = Home::Either(30);
+    let (either, heap) = (
+        Kind { home, room },
+        Kind {
+            home: Home::Heap,
+            room,
+        },
+    );
+    let mut boxable = BoxableString(text_of(rt, alloc, room, ""));
+    let in_box = play_from(&mut boxable, either, start, steps)?;
+    let inline = play_on::<InlinableString>(rt, alloc, either, start, steps)?;
+    let on_heap = play_on::<String>(rt, alloc, heap, start, steps)?;
     Ok(in_box.saturating_add(inline).saturating_add(on_heap))
 }
 
-/// Plays the steps on a text of each of the library's types, made new and with each room.
-pub fn played_everywhere(rt: &impl Abort, alloc: Global, start: &str, steps: &[Step]) -> Played {
-    let mut count = 0usize;
+/// Plays the steps on an array of 30 bytes, and on a text of each of the library's types, made new
+/// and with each room.
+pub fn play_everywhere(rt: &impl Abort, alloc: Global, start: &str, steps: &[Step]) -> Tally {
+    let array = new_kind(Home::Array(30));
+    let mut count = play_on::<ArrayText<30>>(rt, alloc, array, start, steps)?;
     for &room in ROOMS {
-        let played = played_on_all(rt, alloc, room, start, steps)?;
-        count = count.saturating_add(played);
+        count = count.saturating_add(play_on_all(rt, alloc, room, start, steps)?);
     }
     Ok(count)
 }
 
 /// Plays each list of steps on texts that begin with its start.
-pub fn each_played(rt: &impl Abort, alloc: Global, lists: &[(&str, &[Step])]) -> Played {
+pub fn play_each(rt: &impl Abort, alloc: Global, lists: &[(&str, &[Step])]) -> Tally {
     let mut count = 0usize;
     for (i, &(start, steps)) in lists.iter().enumerate() {
-        count = and_list(count, i, played_everywhere(rt, alloc, start, steps))?;
+        count = and_list(count, i, play_everywhere(rt, alloc, start, steps))?;
     }
     Ok(count)
 }
 
 /// Plays each step on texts of its own that begin with this start.
-fn played_alone(rt: &impl Abort, alloc: Global, start: &str, steps: &[Step]) -> Played {
+fn play_alone(rt: &impl Abort, alloc: Global, start: &str, steps: &[Step]) -> Tally {
     let mut count = 0usize;
     for (i, step) in steps.iter().enumerate() {
-        count = and_step(count, i, played_everywhere(rt, alloc, start, &[*step]))?;
+        count = and_step(count, i, play_everywhere(rt, alloc, start, &[*step]))?;
     }
     Ok(count)
 }
 
 /// Plays each step on texts of its own that begin with the start of its list.
-pub fn each_played_alone(rt: &impl Abort, alloc: Global, lists: &[(&str, &[Step])]) -> Played {
+pub fn play_each_alone(rt: &impl Abort, alloc: Global, lists: &[(&str, &[Step])]) -> Tally {
     let mut count = 0usize;
     for (i, &(start, steps)) in lists.iter().enumerate() {
-        count = and_list(count, i, played_alone(rt, alloc, start, steps))?;
+        count = and_list(count, i, play_alone(rt, alloc, start, steps))?;
     }
     Ok(count)
 }
 
 /// Plays each list of steps on texts that begin with its start.
 pub fn assert_each(rt: &impl Abort, alloc: Global, lists: &[(&str, &[Step])]) {
-    assert_right(rt, each_played(rt, alloc, lists));
+    assert_right(rt, play_each(rt, alloc, lists));
 }
 
 /// Plays each step on texts of its own that begin with the start of its list.
 pub fn assert_each_alone(rt: &impl Abort, alloc: Global, lists: &[(&str, &[Step])]) {
-    assert_right(rt, each_played_alone(rt, alloc, lists));
+    assert_right(rt, play_each_alone(rt, alloc, lists));
 }
 
-/// A text of this limit that is made new.
-fn new_within(limit: usize) -> Kind {
-    Kind {
-        limit: Some(limit),
-        room: None,
-    }
-}
-
-/// Plays each list of steps on a text of this limit that is made new and begins with its start.
-pub fn each_played_within<S: StringMake + Drop>(
+/// Plays the steps on an array of this limit and on an inline-or-heap text of it, made new.
+fn play_within<const N: usize>(
     rt: &impl Abort,
     alloc: Global,
-    limit: usize,
+    start: &str,
+    steps: &[Step],
+) -> Tally {
+    let (array, either) = (new_kind(Home::Array(N)), new_kind(Home::Either(N)));
+    let on_array = play_on::<ArrayText<N>>(rt, alloc, array, start, steps)?;
+    let on_either = play_on::<InlinableStringN<N>>(rt, alloc, either, start, steps)?;
+    Ok(on_array.saturating_add(on_either))
+}
+
+/// Plays each list of steps on texts of this limit that begin with its start.
+pub fn play_each_within<const N: usize>(
+    rt: &impl Abort,
+    alloc: Global,
     lists: &[(&str, &[Step])],
-) -> Played {
+) -> Tally {
     let mut count = 0usize;
     for (i, &(start, steps)) in lists.iter().enumerate() {
-        let played = played_on_new::<S>(rt, alloc, new_within(limit), start, steps);
-        count = and_list(count, i, played)?;
+        count = and_list(count, i, play_within::<N>(rt, alloc, start, steps))?;
     }
     Ok(count)
 }
 
-/// Plays each list of steps on a text of this limit that is made new and begins with its start.
-pub fn assert_each_within<S: StringMake + Drop>(
+/// Plays each step on texts of its own, of this limit, that begin with this start.
+pub fn play_alone_within<const N: usize>(
     rt: &impl Abort,
     alloc: Global,
-    limit: usize,
+    start: &str,
+    steps: &[Step],
+) -> Tally {
+    let mut count = 0usize;
+    for (i, step) in steps.iter().enumerate() {
+        count = and_step(count, i, play_within::<N>(rt, alloc, start, &[*step]))?;
+    }
+    Ok(count)
+}
+
+/// Plays each step on texts of its own, of this limit, that begin with the start of its list.
+pub fn play_each_alone_within<const N: usize>(
+    rt: &impl Abort,
+    alloc: Global,
     lists: &[(&str, &[Step])],
-) {
-    assert_right(rt, each_played_within::<S>(rt, alloc, limit, lists));
+) -> Tally {
+    let mut count = 0usize;
+    for (i, &(start, steps)) in lists.iter().enumerate() {
+        count = and_list(count, i, play_alone_within::<N>(rt, alloc, start, steps))?;
+    }
+    Ok(count)
 }
 
 /// The steps of a command that is given so many times to the empty text. Each makes it longer by
@@ -359,8 +370,12 @@ fn repeated<'a>(
     for count in 1..=times {
         let len = size.saturating_mul(count);
         let content = whole.get(..len).unwrap_or(whole);
-        let lies = lies_at(len, limit);
-        let step = (command, Reply::Done, content, lies);
+        let step = (
+            command,
+            Reply::Done,
+            content,
+            where_at(len, Home::Either(limit)),
+        );
         steps.push(step).expect(rt, "memory");
     }
     assert!(rt; steps.len() == times);
@@ -384,23 +399,18 @@ pub fn assert_repeated_everywhere(
 ) {
     let whole = whole_of(rt, alloc, part, times);
     let steps = repeated(rt, alloc, command, times, whole.as_str(), 30);
-    assert_right(rt, played_everywhere(rt, alloc, "", steps.as_slice()));
+    assert_right(rt, play_everywhere(rt, alloc, "", steps.as_slice()));
 }
 
 /// Gives a command that adds `part` so many times to an empty text of this limit.
-pub fn assert_repeated_within<S: StringMake + Drop>(
+pub fn play_repeated_within<const N: usize>(
     rt: &impl Abort,
     alloc: Global,
-    limit: usize,
     command: Command,
     part: &str,
     times: usize,
-) {
+) -> Tally {
     let whole = whole_of(rt, alloc, part, times);
-    let steps = repeated(rt, alloc, command, times, whole.as_str(), limit);
-    let kind = new_within(limit);
-    assert_right(
-        rt,
-        played_on_new::<S>(rt, alloc, kind, "", steps.as_slice()),
-    );
+    let steps = repeated(rt, alloc, command, times, whole.as_str(), N);
+    play_within::<N>(rt, alloc, "", steps.as_slice())
 }

@@ -1,31 +1,14 @@
-//! What the tests share: texts with a given content, what is seen of a text, and the calls at a
-//! place, which here may be none.
+//! What the tests share: texts with a given content, and what is seen of a text.
 ghost use Rattle.std.specs.Prelude.{◌≡◌, IsTrue};
 ghost use Rattle.inlinable_string.specs.Text.{bytes_of};
 
 use inlinable_string::{Storage, StringExt, StringMake};
-use std::alloc::{AllocError, Global};
+use std::alloc::Global;
 use std::process::Abort;
-
-/// Room that no text has inline: a text that is made with so much lies on the heap.
-pub const HEAP_ROOM: Option<usize> = Some(31);
 
 /// 53 and 54 bytes with one byte 0x0A and 24 spaces between them, as in the tests of the crate.
 pub const LONG: &str = "this is a really long string that is much larger than
                         INLINE_STRING_CAPACITY and so cannot be stored inline.";
-
-/// So many letters 'a'. `InlinableString` has room for 30 bytes inline.
-pub const LETTERS_26: &str = "aaaaaaaaaaaaaaaaaaaaaaaaaa";
-
-pub const LETTERS_27: &str = "aaaaaaaaaaaaaaaaaaaaaaaaaaa";
-
-pub const LETTERS_28: &str = "aaaaaaaaaaaaaaaaaaaaaaaaaaaa";
-
-pub const LETTERS_29: &str = "aaaaaaaaaaaaaaaaaaaaaaaaaaaaa";
-
-pub const LETTERS_30: &str = "aaaaaaaaaaaaaaaaaaaaaaaaaaaaaa";
-
-pub const LETTERS_31: &str = "aaaaaaaaaaaaaaaaaaaaaaaaaaaaaaa";
 
 /// The text with this content, made with room for `room` bytes, or new where that is `None`.
 pub fn text_of<S: StringMake + Drop>(
@@ -77,48 +60,4 @@ pub fn assert_text<S: StringExt>(rt: &impl Abort, text: &S, content: &str, stora
         is_text(text, content) && lies == storage,
         "{given}, {lies:?}, is not {content}, {storage:?}"
     );
-}
-
-/// Puts a character in; `None` where `idx` is no place of the text.
-pub fn insert_at<S: StringExt>(
-    text: &mut S,
-    idx: usize,
-    ch: char,
-) -> Option<Result<(), AllocError>> {
-    if text.as_str().is_char_boundary(idx) {
-        Some(text.insert(idx, ch))
-    } else {
-        None
-    }
-}
-
-/// Puts a text in; `None` where `idx` is no place of the text.
-pub fn insert_str_at<S: StringExt>(
-    text: &mut S,
-    idx: usize,
-    string: &str,
-) -> Option<Result<(), AllocError>> {
-    if text.as_str().is_char_boundary(idx) {
-        Some(text.insert_str(idx, string))
-    } else {
-        None
-    }
-}
-
-/// Cuts the text; `false` where `new_len` is no place of it.
-pub fn truncate_at<S: StringExt>(text: &mut S, new_len: usize) -> bool {
-    let is_place = text.as_str().is_char_boundary(new_len);
-    if is_place {
-        text.truncate(new_len);
-    }
-    is_place
-}
-
-/// Takes the character out that begins at `idx`; `None` where none does.
-pub fn remove_at<S: StringExt>(text: &mut S, idx: usize) -> Option<char> {
-    if text.as_str().is_char_boundary(idx) && idx < text.len() {
-        Some(text.remove(idx))
-    } else {
-        None
-    }
 }

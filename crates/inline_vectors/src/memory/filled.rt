@@ -1,10 +1,10 @@
 //! Texts that fill the room that they were made with, or that was reserved, without memory.
 use super::{NEW, Shortage, TEN, assert_shortages_on_both};
-use crate::steps::Lies::{AsMade, OnHeap};
-use crate::steps::Step;
-use crate::texts::{HEAP_ROOM, LETTERS_28};
 use inlinable_string::run::Command::{PushStr, Reserve, ReserveExact};
 use inlinable_string::run::Reply::Done;
+use test_support::letters::LETTERS_28;
+use test_support::step::Where::{AsMade, OnHeap};
+use test_support::step::{HEAP_ROOM, Step};
 
 const TEN_TIMES_TEN: &[Step] = &[
     (PushStr(TEN), Done, "aaa0123456789", OnHeap),

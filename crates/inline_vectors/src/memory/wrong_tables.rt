@@ -1,18 +1,16 @@
 //! Tests of the tests: shortages that are wrong in one value each, and what going through them has
 //! to find.
-use super::{
-    LIMIT, NEW, Shortage, each_played_alone_without_memory, replies_with_one_block,
-    shortages_played, wrong_made,
-};
-use crate::played::Fault;
-use crate::steps::Lies::{AsMade, OnHeap};
+use super::one_block::replies_with_one_block;
+use super::{INLINABLE, NEW, Shortage, play_each_alone_without_memory, play_shortages, wrong_made};
 use crate::steps::Wrong::{Reply, Storage, Text};
-use crate::steps::{Played, Step, Wrong};
-use crate::texts::{LETTERS_30, LETTERS_31};
+use crate::steps::{List, Wrong, assert_tally};
 use inlinable_string::run::Command::{Pop, Push};
 use inlinable_string::run::Reply::{Char, Done, NoMemory};
 use inlinable_string::{InlinableString, InlinableStringN};
 use std::process::Abort;
+use test_support::letters::{LETTERS_30, LETTERS_31};
+use test_support::step::Where::{AsMade, OnHeap};
+use test_support::tally::fault_at;
 
 /// A shortage of which each step is right.
 const RIGHT: Shortage<'static> = Shortage {
@@ -71,7 +69,7 @@ const WRONG: &[(Shortage, usize, Wrong)] = &[
 ];
 
 /// Steps of which each is right while memory is held, and one that is not.
-const ALONE: &[(&str, &[Step])] = &[
+const ALONE: &[List] = &[
     (
         LETTERS_30,
         &[(Pop, Char('a'), "aaaaaaaaaaaaaaaaaaaaaaaaaaaaa", AsMade)],
@@ -85,26 +83,17 @@ const ALONE: &[(&str, &[Step])] = &[
     ),
 ];
 
-/// Asserts what going through shortages answered.
-fn assert_answer(rt: &impl Abort, answer: Played, wanted: Played) {
-    assert!(rt; answer == wanted, "{answer:?}, and not {wanted:?}");
-}
-
-fn fault(list: usize, step: usize, wrong: Wrong) -> Played {
-    Err(Fault { list, step, wrong })
-}
-
 #[test]
 fn a_wrong_step_is_found_before_a_shortage_during_it_and_after(rt: HostRuntime) {
     let alloc = rt.alloc();
-    let answer = shortages_played::<InlinableString>(&rt, alloc, LIMIT, &[RIGHT, RIGHT]);
-    assert_answer(&rt, answer, Ok(6));
+    let answer = play_shortages::<InlinableString>(&rt, alloc, INLINABLE, &[RIGHT, RIGHT]);
+    assert_tally(&rt, answer, Ok(6));
     for &(shortage, step, wrong) in WRONG {
-        let answer = shortages_played::<InlinableString>(&rt, alloc, LIMIT, &[RIGHT, shortage]);
-        assert_answer(&rt, answer, fault(1, step, wrong));
+        let answer = play_shortages::<InlinableString>(&rt, alloc, INLINABLE, &[RIGHT, shortage]);
+        assert_tally(&rt, answer, fault_at(1, step, wrong));
     }
-    let answer = each_played_alone_without_memory::<InlinableString>(&rt, alloc, ALONE);
-    assert_answer(&rt, answer, fault(1, 1, Reply(NoMemory)));
+    let answer = play_each_alone_without_memory::<InlinableString>(&rt, alloc, ALONE);
+    assert_tally(&rt, answer, fault_at(1, 1, Reply(NoMemory)));
 }
 
 #[test]
