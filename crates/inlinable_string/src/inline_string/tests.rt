@@ -2,32 +2,16 @@
 //!
 //! Each row of a table begins with a text of its own, and the steps of a list are made in turn on
 //! one text. The name of a table ends with the limit of its texts.
-//!
-//! What plays a table answers the first row that is wrong, and one function asserts that none is.
-//! So tests of the tests (`wrong_tables`) can play tables that are wrong in one value.
-ghost use Rattle.std.specs.Prelude.{◌≤◌, IsOk, IsTrue};
-
 use super::InlineStringN;
-use edits::Answer::{self, Char, Done, NotEnoughSpace};
-use edits::Edit::{
-    self, Clear, Insert, InsertStr, Pop, Push, PushStr, Remove, ReplaceBytes, Truncate,
+use crate::run::Command::{
+    Clear, Insert, InsertStr, Pop, Push, PushStr, Remove, ReplaceBytes, Truncate,
 };
-use edits::apply;
-use std::fmt::Debug;
-use std::process::Abort;
+use crate::run::Reply::{Char, Done, NoMemory};
+use play::{Row, Shown, Step, assert_bytes, assert_each, assert_in_turn, assert_text};
 
-mod edits;
+mod play;
 mod refused;
 mod wrong_tables;
-
-/// An edit, the answer to it, and the text and its start after it.
-type Step<'a> = (Edit<'a>, Answer, &'a str, usize);
-
-/// A text and its start, an edit, the answer to it, and the text and its start after it.
-type Row<'a> = (&'a str, usize, Edit<'a>, Answer, &'a str, usize);
-
-/// A text and its start, and the bytes that it gives.
-type Shown<'a> = (&'a str, usize, &'a [u8]);
 
 const TEN: &str = "abcdefghij";
 
@@ -45,150 +29,6 @@ const LENGTHS: &str = "aé€𝄞";
 
 /// 10 bytes to put in.
 const NEW: &str = "0123456789";
-
-/// What is wrong after an edit.
-#[derive(Clone, Copy, Debug, PartialEq)]
-enum Wrong {
-    /// The answer, which is this.
-    Answer(Answer),
-    /// The text.
-    Text,
-    /// Where the text starts, which is here.
-    Start(usize),
-    /// The bytes that the text gives.
-    Bytes,
-}
-
-/// How many rows were right, or the number of the first that was wrong, and what is wrong there.
-type Played = Result<usize, (usize, Wrong)>;
-
-/// Asserts that two values are the same.
-fn assert_same<T: Copy + Debug + PartialEq>(rt: &impl Abort, given: T, wanted: T)
-    ensures { IsTrue (T.eq given wanted) }
-{
-    assert_eq!(rt; given, wanted);
-}
-
-/// Asserts that no row was wrong.
-fn assert_right(rt: &impl Abort, played: Played)
-    ensures { IsOk played }
-{
-    assert!(rt; played.is_ok(), "{played:?}");
-}
-
-fn assert_text<const N: usize>(
-    rt: &impl Abort,
-    text: &InlineStringN<N>,
-    string: &str,
-    start: usize,
-) {
-    assert_same(rt, (text.as_str(), text.start), (string, start));
-}
-
-/// Makes an edit so many times.
-fn apply_times<const N: usize>(
-    rt: &impl Abort,
-    text: &mut InlineStringN<N>,
-    times: usize,
-    edit: Edit,
-    answer: Answer,
-) {
-    for _ in 0..times {
-        assert_same(rt, apply(text, edit), answer);
-    }
-}
-
-/// A text at a start: bytes are put before it and taken out again.
-fn text_at<const N: usize>(rt: &impl Abort, string: &str, start: usize) -> InlineStringN<N> {
-    // The start moves only where a byte stays behind the one that is taken out.
-    let needs_byte = string.is_empty() && 0 < start;
-    let kept = if needs_byte { ">" } else { string };
-    let mut text = InlineStringN::new();
-    apply_times(rt, &mut text, start, Push('<'), Done);
-    apply_times(rt, &mut text, 1, PushStr(kept), Done);
-    apply_times(rt, &mut text, start, Remove(0), Char('<'));
-    apply_times(rt, &mut text, usize::from(needs_byte), Pop, Char('>'));
-    assert_text(rt, &text, string, start);
-    text
-}
-
-/// Makes a step on the text.
-fn wrong_after<const N: usize>(text: &mut InlineStringN<N>, step: Step) -> Option<Wrong> {
-    let (edit, answer, after, start) = step;
-    let given = apply(text, edit);
-    if given != answer {
-        Some(Wrong::Answer(given))
-    } else if text.as_str() != after {
-        Some(Wrong::Text)
-    } else if text.start != start {
-        Some(Wrong::Start(text.start))
-    } else {
-        None
-    }
-}
-
-/// Makes the edit of each row on a text of its own.
-fn each_played<const N: usize>(rt: &impl Abort, rows: &[Row]) -> Played
-    requires { N ≤ 300 }
-{
-    let mut count = 0usize;
-    for (i, &(before, start, edit, answer, after, new_start)) in rows.iter().enumerate() {
-        let mut text = text_at::<N>(rt, before, start);
-        if let Some(wrong) = wrong_after(&mut text, (edit, answer, after, new_start)) {
-            return Err((i, wrong));
-        }
-        count = count.saturating_add(1);
-    }
-    Ok(count)
-}
-
-/// Makes the steps in turn on one text.
-fn played_in_turn<const N: usize>(rt: &impl Abort, string: &str, steps: &[Step]) -> Played
-    requires { N ≤ 300 }
-{
-    let mut text = text_at::<N>(rt, string, 0);
-    let mut count = 0usize;
-    for (i, step) in steps.iter().enumerate() {
-        if let Some(wrong) = wrong_after(&mut text, *step) {
-            return Err((i, wrong));
-        }
-        count = count.saturating_add(1);
-    }
-    Ok(count)
-}
-
-/// Compares the bytes of each row with those that its text gives.
-fn bytes_compared<const N: usize>(rt: &impl Abort, rows: &[Shown]) -> Played
-    requires { N ≤ 300 }
-{
-    let mut count = 0usize;
-    for (i, &(string, start, bytes)) in rows.iter().enumerate() {
-        let given = text_at::<N>(rt, string, start).into_bytes();
-        if &given[..] != bytes {
-            return Err((i, Wrong::Bytes));
-        }
-        count = count.saturating_add(1);
-    }
-    Ok(count)
-}
-
-fn assert_each<const N: usize>(rt: &impl Abort, rows: &[Row])
-    requires { N ≤ 300 }
-{
-    assert_right(rt, each_played::<N>(rt, rows));
-}
-
-fn assert_in_turn<const N: usize>(rt: &impl Abort, string: &str, steps: &[Step])
-    requires { N ≤ 300 }
-{
-    assert_right(rt, played_in_turn::<N>(rt, string, steps));
-}
-
-fn assert_bytes<const N: usize>(rt: &impl Abort, rows: &[Shown])
-    requires { N ≤ 300 }
-{
-    assert_right(rt, bytes_compared::<N>(rt, rows));
-}
 
 #[test]
 fn a_text_that_is_made_starts_at_the_front(rt: HostRuntime) {
@@ -208,7 +48,7 @@ const ROOM_TAKEN_30: &[Step] = &[
 const ROOM_TAKEN_4: &[Step] = &[
     (Remove(0), Char('a'), "bcd", 1),
     (Push('e'), Done, "bcde", 0),
-    (Push('f'), NotEnoughSpace, "bcde", 0),
+    (Push('f'), NoMemory, "bcde", 0),
 ];
 
 #[test]
@@ -232,7 +72,7 @@ const PUSHED_TEXT_30: &[Step] = &[
 const PUSHED_CHARACTERS_30: &[Step] = &[
     (Remove(0), Char('a'), TWENTY_NINE_A, 1),
     (Pop, Char('a'), TWENTY_EIGHT_A, 1),
-    (Push('€'), NotEnoughSpace, TWENTY_EIGHT_A, 1),
+    (Push('€'), NoMemory, TWENTY_EIGHT_A, 1),
     (Push('é'), Done, "aaaaaaaaaaaaaaaaaaaaaaaaaaaaé", 0),
 ];
 

@@ -1,7 +1,8 @@
-//! Edits that are refused: the text and its start stay as they are.
-use super::edits::Answer::{BadPlace, NoChar, NotEnoughSpace, NotUtf8, WrongLength};
-use super::edits::Edit::{Insert, InsertStr, Pop, Push, PushStr, Remove, ReplaceBytes, Truncate};
-use super::{FULL, LENGTHS, NEW, Row, assert_each};
+//! Commands that are refused: the text and its start stay as they are.
+use super::play::{Row, assert_each};
+use super::{FULL, LENGTHS, NEW};
+use crate::run::Command::{Insert, InsertStr, Pop, Push, PushStr, Remove, ReplaceBytes, Truncate};
+use crate::run::Reply::{BadPlace, NoChar, NoMemory, NotUtf8, WrongLength};
 
 const TWENTY_ONE: &str = "abcdefghijklmnopqrstu";
 
@@ -13,28 +14,14 @@ const THIRTY_ONE: &str = "abcdefghijklmnopqrstuvwxyzABCDE";
 
 const REFUSED_30: &[Row] = &[
     // One byte is wanting on both sides together.
-    (
-        TWENTY_ONE,
-        5,
-        InsertStr(0, NEW),
-        NotEnoughSpace,
-        TWENTY_ONE,
-        5,
-    ),
-    (TWENTY_ONE, 5, PushStr(NEW), NotEnoughSpace, TWENTY_ONE, 5),
-    (
-        TWENTY_SEVEN,
-        2,
-        Insert(13, '𝄞'),
-        NotEnoughSpace,
-        TWENTY_SEVEN,
-        2,
-    ),
-    (TWENTY_NINE, 1, Push('é'), NotEnoughSpace, TWENTY_NINE, 1),
-    (FULL, 0, Push('-'), NotEnoughSpace, FULL, 0),
-    (FULL, 0, Insert(0, '-'), NotEnoughSpace, FULL, 0),
-    (FULL, 0, InsertStr(30, "-"), NotEnoughSpace, FULL, 0),
-    ("", 29, PushStr(THIRTY_ONE), NotEnoughSpace, "", 29),
+    (TWENTY_ONE, 5, InsertStr(0, NEW), NoMemory, TWENTY_ONE, 5),
+    (TWENTY_ONE, 5, PushStr(NEW), NoMemory, TWENTY_ONE, 5),
+    (TWENTY_SEVEN, 2, Insert(13, '𝄞'), NoMemory, TWENTY_SEVEN, 2),
+    (TWENTY_NINE, 1, Push('é'), NoMemory, TWENTY_NINE, 1),
+    (FULL, 0, Push('-'), NoMemory, FULL, 0),
+    (FULL, 0, Insert(0, '-'), NoMemory, FULL, 0),
+    (FULL, 0, InsertStr(30, "-"), NoMemory, FULL, 0),
+    ("", 29, PushStr(THIRTY_ONE), NoMemory, "", 29),
     (LENGTHS, 20, ReplaceBytes(b"-"), WrongLength, LENGTHS, 20),
     (
         LENGTHS,
@@ -52,13 +39,13 @@ const REFUSED_30: &[Row] = &[
 ];
 
 const REFUSED_8: &[Row] = &[
-    ("abc", 3, InsertStr(2, "012345"), NotEnoughSpace, "abc", 3),
-    ("abc", 3, PushStr("€𝄞"), NotEnoughSpace, "abc", 3),
+    ("abc", 3, InsertStr(2, "012345"), NoMemory, "abc", 3),
+    ("abc", 3, PushStr("€𝄞"), NoMemory, "abc", 3),
 ];
 
 const REFUSED_4: &[Row] = &[
-    ("ab", 1, Insert(1, '€'), NotEnoughSpace, "ab", 1),
-    ("ab", 2, Push('€'), NotEnoughSpace, "ab", 2),
+    ("ab", 1, Insert(1, '€'), NoMemory, "ab", 1),
+    ("ab", 2, Push('€'), NoMemory, "ab", 2),
 ];
 
 #[test]
