@@ -6,6 +6,8 @@ mod carried;
 #[cfg(test)]
 mod cuts;
 #[cfg(test)]
+mod encodings;
+#[cfg(test)]
 mod growths;
 #[cfg(test)]
 mod inline;
