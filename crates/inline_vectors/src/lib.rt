@@ -14,6 +14,8 @@ mod inline;
 #[cfg(test)]
 mod limits;
 #[cfg(test)]
+mod makers;
+#[cfg(test)]
 mod memory;
 #[cfg(test)]
 mod objects;
