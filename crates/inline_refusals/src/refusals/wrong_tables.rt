@@ -1,10 +1,14 @@
-//! Tests of the tests: growths and replies that are wrong in one value, and what has to be found.
+//! Tests of the tests: growths, replies, readings and texts that are wrong in one value, and what
+//! has to be found.
 //! They too pass whichever of their requests is refused.
+use super::makers::Answer::{self, Text, Unpaired};
+use super::makers::Call::{FromUtf8Lossy, FromUtf16, FromUtf16Lossy};
+use super::makers::{Reading, readings, wrong_giving, wrong_making};
 use super::runs::Wrong::{Replies, SecondRefusal};
 use super::runs::{Wrong as WrongRun, refused_in};
 use super::{Added, Growth, INLINE, Wrong, grown};
-use inlinable_string::InlinableString;
 use inlinable_string::run::Reply::{self, Char, Done, NoMemory};
+use inlinable_string::{InlinableString, Storage};
 use std::process::Abort;
 use test_support::Refusals;
 
@@ -42,4 +46,37 @@ fn replies_that_no_single_refusal_explains_are_found(rt: HostRuntime) {
     for (i, &(replies, ample, wanted)) in REPLIES.iter().enumerate() {
         assert!(rt; refused_in(replies, ample) == wanted, "row {i}");
     }
+}
+
+const READ: Reading = (FromUtf16(&[0x61]), "a", Text);
+
+/// Readings of which the second is wrong: the text, or the answer.
+const WRONG_READINGS: &[&[Reading]] = &[
+    &[READ, (FromUtf16(&[0x61]), "b", Text)],
+    &[READ, (FromUtf16(&[0xD800]), "a", Text)],
+    &[READ, (FromUtf16Lossy(&[0xD800]), "\u{FFFD}", Unpaired)],
+    &[READ, (FromUtf8Lossy(&[0xFF]), "\u{FFFD}", Answer::NoMemory)],
+];
+
+#[test]
+fn a_reading_that_gives_another_answer_is_found(rt: HostRuntime) {
+    for rows in WRONG_READINGS {
+        let mut refusals = Refusals::none();
+        let answer = readings::<InlinableString>(rt.alloc(), &mut refusals, rows);
+        assert!(&rt; answer == Err((1, Wrong::Text)), "{answer:?}");
+    }
+}
+
+/// A text that lies elsewhere, or is another: where a request is refused, that is one too many.
+#[test]
+fn a_text_that_is_made_elsewhere_is_found(rt: HostRuntime) {
+    let alloc = rt.alloc();
+    let mut refusals = Refusals::none();
+    let wrong = [
+        wrong_making::<8>(alloc, &mut refusals, "12345678", Storage::Heap),
+        wrong_making::<8>(alloc, &mut refusals, "123456789", Storage::Inline),
+        wrong_giving::<InlinableString>(&rt, alloc, &mut refusals, (0, "a", Storage::Heap)),
+        wrong_giving::<String>(&rt, alloc, &mut refusals, (1, "a", Storage::Inline)),
+    ];
+    assert!(&rt; !wrong.contains(&None), "{wrong:?}");
 }
