@@ -1,4 +1,6 @@
 //! Makers of texts, and the bytes of texts.
+ghost use Rattle.std.specs.Prelude.{◌≤◌};
+
 use crate::texts::{LETTERS_30, LETTERS_31, is_text};
 use Storage::{Heap, Inline};
 use inlinable_string::run::Command::{self, Pop, ShrinkToFit};

@@ -1,5 +1,7 @@
 //! Each request for memory refused in turn, of calls that make a text of units, of bytes or of
 //! another text, and of calls that give the bytes of one.
+ghost use Rattle.std.specs.Prelude.{◌≤◌};
+
 use super::{Grown, HEAP_ROOM, INLINE, ON_HEAP, Start, Wrong, assert_right, made};
 use Answer::{NoMemory, Other, Text, Unpaired};
 use Call::{FromUtf8Lossy, FromUtf16, FromUtf16Lossy};

@@ -1,6 +1,8 @@
 //! Makers and `into_bytes` while every request for memory is refused, or every one but the first,
 //! of one size: a test holds all memory that can be had, makes its calls, gives the memory back,
 //! and then asserts.
+ghost use Rattle.std.specs.Prelude.{◌≤◌};
+
 use super::{
     BYTES, BytesRow, assert_no_wrong_row, copies_of, is_lying, is_taken, is_taken_unchecked,
 };
@@ -16,6 +18,8 @@ use std::borrow::CowStr;
 use std::process::Abort;
 use std::string::FromUtf8Error;
 use test_support::Hoard;
+
+mod wrong_tables;
 
 /// All memory that can be had.
 fn all_memory(rt: &impl Abort, alloc: Global) -> Hoard {

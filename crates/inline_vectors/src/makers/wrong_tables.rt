@@ -11,7 +11,7 @@ use inlinable_string::{InlinableString, Storage};
 use std::process::Abort;
 
 /// Asserts that the second row was found wrong, each time.
-fn assert_found<const COUNT: usize>(rt: &impl Abort, wrong: [Option<usize>; COUNT]) {
+pub fn assert_found<const COUNT: usize>(rt: &impl Abort, wrong: [Option<usize>; COUNT]) {
     assert!(rt; wrong == [Some(1); COUNT], "{wrong:?}");
 }
 
