@@ -200,8 +200,39 @@ fn a_text_is_made_of_another_one(rt: HostRuntime) -> Result<(), Fail> {
     Ok(())
 }
 
-/// What is wrong with the bytes that a text gives, again if it is refused; then it is handed back,
-/// as it was. On the heap it may not be refused.
+/// The bytes of a text that was handed back, as it was. On the heap it may not be refused.
+fn bytes_again<S: StringMake + Drop>(
+    refusals: &mut Refusals,
+    kept: S,
+    content: &str,
+    storage: Storage,
+) -> Result<Vec<u8>, Wrong> {
+    if storage == Storage::Heap || !refusals.meet() {
+        return Err(Wrong::SecondRefusal);
+    }
+    if kept.as_str() != content || kept.storage() != storage {
+        return Err(Wrong::Change);
+    }
+    match kept.into_bytes() {
+        Ok(bytes) => Ok(bytes),
+        Err(_kept) => Err(Wrong::SecondRefusal),
+    }
+}
+
+/// The bytes of a text, again if they are refused.
+fn bytes_given<S: StringMake + Drop>(
+    refusals: &mut Refusals,
+    text: S,
+    content: &str,
+    storage: Storage,
+) -> Result<Vec<u8>, Wrong> {
+    match text.into_bytes() {
+        Ok(bytes) => Ok(bytes),
+        Err(kept) => bytes_again(refusals, kept, content, storage),
+    }
+}
+
+/// What is wrong with the bytes of a text that is made so.
 pub fn wrong_giving<S: StringMake + Drop>(
     rt: &impl Abort,
     alloc: Global,
@@ -213,22 +244,10 @@ pub fn wrong_giving<S: StringMake + Drop>(
     if text.storage() != storage {
         return Some(Wrong::Storage);
     }
-    let given = match text.into_bytes() {
-        Ok(bytes) => Ok(bytes),
-        Err(kept) => {
-            if storage == Storage::Heap || !refusals.meet() {
-                return Some(Wrong::SecondRefusal);
-            }
-            if kept.as_str() != content || kept.storage() != storage {
-                return Some(Wrong::Change);
-            }
-            kept.into_bytes()
-        }
-    };
-    match given {
+    match bytes_given(refusals, text, content, storage) {
         Ok(bytes) if bytes.as_slice() == content.as_bytes() => None,
-        Ok(_) => Some(Wrong::Text),
-        Err(_) => Some(Wrong::SecondRefusal),
+        Ok(_bytes) => Some(Wrong::Text),
+        Err(wrong) => Some(wrong),
     }
 }
 
