@@ -74,7 +74,7 @@ def counted(title, counts):
 
 def main(words):
     given = options('hostile', __doc__, words, 'programs', '--seed', '--count')
-    programs = chosen(given.programs)
+    programs = chosen(given.programs, 'inline_script')
     tally = Tally(programs)
     print(f'seed {given.seed}, {given.count} inputs', flush=True)
     for result in all_runs(partial(tried, list(programs.values()), given.seed), range(given.count)):

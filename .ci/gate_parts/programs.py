@@ -1,4 +1,4 @@
-"""The builds of the program, and a run of it with the standard streams that a case asks for."""
+"""The builds of a program, and a run of it with the standard streams that a case asks for."""
 import os
 import subprocess
 import threading
@@ -6,20 +6,23 @@ import time
 from multiprocessing import Pool, Value
 
 from gate_parts.cases import quoted, told
-from gate_parts.tree import Failure, in_tree
+from gate_parts.tree import Failure, crate_folder
 
-MADE = in_tree('crates', 'inline_script', 'out', 'inline_script')
-# What `rt ci` builds: by LLVM, and by Rattle's own compiler.
-BUILDS = {'llvm': MADE, 'rattle': MADE + '.by-rattle'}
 # A program that does not end is killed. After so many of these no further run is tried.
 SECONDS, MOST_SLOW = 20, 3
 SLOW = Value('i', 0)
 NOT_TRIED = b'', 'not tried'
 
 
-def chosen(words):
-    """The programs that these words name, or else the two builds, by name: each with its path."""
-    named = {word: word for word in words} or BUILDS
+def builds_of(crate):
+    """What `rt ci` builds of a program: by LLVM, and by Rattle's own compiler."""
+    made = os.path.join(crate_folder(crate), 'out', crate)
+    return {'llvm': made, 'rattle': made + '.by-rattle'}
+
+
+def chosen(words, crate):
+    """The programs that these words name, or else a crate's two builds, by name: each with its path."""
+    named = {word: word for word in words} or builds_of(crate)
     return {name: checked(path) for name, path in named.items()}
 
 

@@ -7,9 +7,10 @@ passed, 0 failed`. The files of replay/ must hold just as much as `.ci/floors.py
 replay/README.md says how they came about.
 """
 
-from gate_parts.digests import STEP, failed_digests, stored_digests
+from gate_parts.digests import STEP, failed_digests
 from gate_parts.options import options
 from gate_parts.programs import chosen
+from gate_parts.script_digests import SCRIPTS, stored_script_digests
 from gate_parts.stored import failed_cases, stored_cases
 
 # So many thousands of generated scripts are run, unless all are.
@@ -18,10 +19,10 @@ THOUSANDS = 30
 
 def replayed(builds, is_whole):
     """Whether every build, each a name and a path, gives all answers as they are stored."""
-    cases, digests = stored_cases(), stored_digests()
+    cases, digests = stored_cases(), stored_script_digests()
     wanted = digests if is_whole else digests[:THOUSANDS]
     failed = {name: failed_cases(name, path, cases) for name, path in builds.items()}
-    for name, count in failed_digests(builds, wanted).items():
+    for name, count in failed_digests(SCRIPTS, builds, wanted)[0].items():
         failed[name] += count
         passed = len(cases) + len(wanted) - failed[name]
         print(f'{name}: {len(cases)} cases and {len(wanted)} digests of {STEP} scripts: '
@@ -31,4 +32,4 @@ def replayed(builds, is_whole):
 
 def main(words):
     given = options('replay', __doc__, words, 'programs', '--all')
-    return replayed(chosen(given.programs), given.all)
+    return replayed(chosen(given.programs, 'inline_script'), given.all)

@@ -14,28 +14,27 @@ def path_of(name):
     return os.path.join(FOLDER, name)
 
 
-def check_held(name, found):
+def check_count(path, kind, found, wanted):
     """Fails where a file has not as many of what it holds as it must."""
-    kind = name.split('.')[-1]
-    if len(found) != STORED[name]:
-        raise Failure(f'{path_of(name)} has {len(found)} {kind}, and must have {STORED[name]}')
+    if found != wanted:
+        raise Failure(f'{path} has {found} {kind}, and must have {wanted}')
 
 
-def check_files():
+def check_files(folder, *wanted):
     """Fails where a file is missing, or one is there that nothing reads."""
-    wrong = set(os.listdir(FOLDER)) ^ {'README.md', *STORED}
+    wrong = set(os.listdir(folder)) ^ set(wanted)
     if wrong:
-        raise Failure(f'{FOLDER}: missing, or read by nothing: {" ".join(sorted(wrong))}')
+        raise Failure(f'{folder}: missing, or read by nothing: {" ".join(sorted(wrong))}')
 
 
 def stored_cases():
     """All of them, each with a name of its own."""
-    check_files()
+    check_files(FOLDER, 'README.md', *STORED)
     cases, names = [], set()
     for name in STORED:
         if name.endswith('.cases'):
             found = read_cases(path_of(name))
-            check_held(name, found)
+            check_count(path_of(name), 'cases', len(found), STORED[name])
             cases += found
     for case in cases:
         if case.name in names:
