@@ -1,0 +1,4 @@
+pub mod Answer
+pub mod Digits
+pub mod Fault
+pub mod Line

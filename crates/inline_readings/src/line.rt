@@ -1,0 +1,34 @@
+//! One line, as what it asks to read.
+ghost use Rattle.std.specs.Prelude.{◌≡◌, IfOk, IfSome};
+ghost use Rattle.inline_readings.specs.Line.{line_of};
+
+use crate::digits::{bytes_of, units_of};
+use std::alloc::{AllocError, Global};
+
+/// What a line asks to read.
+#[derive(Drop)]
+pub enum Asked {
+    /// Bytes, by `from_utf8` and `from_utf8_lossy`.
+    Bytes(Vec<u8>),
+    /// Units, by `from_utf16` and `from_utf16_lossy`.
+    Units(Vec<u16>),
+}
+
+/// What a line asks to read; `None` where it asks for nothing.
+pub fn asked_of(alloc: Global, line: &str) -> Result<Option<Asked>, AllocError>
+    ensures { IfOk result (λ found. IfSome found (λ asked. line.now ≡ line_of asked)) }
+{
+    if let Some(digits) = line.strip_prefix("bytes ") {
+        let Some(bytes) = bytes_of(alloc, digits.as_bytes())? else {
+            return Ok(None);
+        };
+        return Ok(Some(Asked::Bytes(bytes)));
+    }
+    if let Some(digits) = line.strip_prefix("units ") {
+        let Some(units) = units_of(alloc, digits.as_bytes())? else {
+            return Ok(None);
+        };
+        return Ok(Some(Asked::Units(units)));
+    }
+    Ok(None)
+}

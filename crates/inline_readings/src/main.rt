@@ -1,0 +1,79 @@
+//! Prints what the readers of bytes and of UTF-16 make of each line of standard input.
+//!
+//! A line is `bytes` or `units`, a space, and hexadecimal digits: two for each byte, four for each
+//! unit. For each line the answers of both types of text are printed, a line each.
+#![tactic(auto)]
+
+mod answers;
+mod digits;
+mod fault;
+mod line;
+mod readings;
+#[cfg(test)]
+mod tests;
+
+use answers::{push_bytes_read, push_units_read};
+use fault::ReadingFault;
+use inlinable_string::InlinableString;
+use line::{Asked, asked_of};
+use readings::{read_bytes, read_units};
+use std::alloc::{AllocError, Global};
+use std::io::{self, BufRead, BufReader, BufWriter, Write};
+use std::process::ExitCode;
+
+fn main(rt: HostRuntime) -> ExitCode {
+    match run_program(&rt) {
+        Ok(()) => ExitCode::SUCCESS,
+        Err(fault) => {
+            // A line that cannot be written leaves the status as it is.
+            let _ = println!(rt; "{fault}");
+            ExitCode::from(fault.status())
+        }
+    }
+}
+
+/// Answers the lines of standard input, to standard output.
+fn run_program<R: Input + Print + AllocGlobal>(rt: &R) -> Result<(), ReadingFault> {
+    let alloc = rt.alloc();
+    let lines = BufReader::new(alloc, rt.reader())?.lines(alloc);
+    let mut out = BufWriter::new(alloc, io::writer(rt))?;
+    let answered = answer_lines(alloc, lines, &mut out);
+    out.flush()?;
+    answered
+}
+
+/// Answers the lines in order, up to the first that is no input.
+fn answer_lines<B: BufRead + Drop, W: Write>(
+    alloc: Global,
+    lines: io::Lines<B, Global>,
+    out: &mut W,
+) -> Result<(), ReadingFault> {
+    for (before, line) in lines.enumerate() {
+        let line = line?;
+        let Some(asked) = asked_of(alloc, &line)? else {
+            return Err(ReadingFault::BadLine(before.saturating_add(1)));
+        };
+        let mut answers = Vec::new(alloc);
+        push_answers(alloc, &asked, &mut answers)?;
+        out.write_all(answers.as_slice())?;
+    }
+    Ok(())
+}
+
+/// Adds the answers of both types.
+fn push_answers(alloc: Global, asked: &Asked, answers: &mut Vec<u8>) -> Result<(), AllocError> {
+    match asked {
+        Asked::Bytes(bytes) => {
+            let bytes = bytes.as_slice();
+            push_bytes_read(answers, "String", &read_bytes::<String>(alloc, bytes)?)?;
+            let inlinable = read_bytes::<InlinableString>(alloc, bytes)?;
+            push_bytes_read(answers, "InlinableString", &inlinable)
+        }
+        Asked::Units(units) => {
+            let units = units.as_slice();
+            push_units_read(answers, "String", &read_units::<String>(alloc, units)?)?;
+            let inlinable = read_units::<InlinableString>(alloc, units)?;
+            push_units_read(answers, "InlinableString", &inlinable)
+        }
+    }
+}
