@@ -13,6 +13,19 @@ REFUSALS = {'inline_refusals': (4, 60), 'inline_script': (7, 36)}
 # The stored cases of the files in `replay/`, and the digests of a thousand answers each: all of them.
 STORED = {'named.cases': 258, 'sparrow.cases': 200, 'wren.cases': 250, 'digests': 100}
 
+# Inputs for the readers: how many have their answers by value, and the digests of a thousand each.
+READINGS = {'values': 500, 'digests': 1000}
+# Of those that are run: how many there must be of each kind and of each answer.
+READINGS_OF_EACH = 2_000
+READING_KINDS = (
+    'ascii_bytes', 'characters', 'row_of_table', 'beside_row', 'overlong', 'surrogate_bytes',
+    'past_the_last', 'odd_bytes', 'cut_character', 'spoilt_characters', 'noise_bytes',
+    'ascii_units', 'character_units', 'edge_units', 'pairs', 'lone_high', 'lone_low',
+    'reversed_pair', 'several_surrogates', 'noise_units')
+READING_ANSWERS = tuple(f'{name} {answer}' for name in ('String', 'InlinableString') for answer in (
+    'from_utf8 text', 'from_utf8 fault', 'from_utf8_lossy borrowed', 'from_utf8_lossy owned',
+    'from_utf16 text', 'from_utf16 fault', 'from_utf16_lossy text'))
+
 # Hostile inputs: how many, the part of them that is accepted and so runs, and how many there must be
 # of each reply and of each fault that an input can lead to. (Want of memory before a run can't be
 # brought about by an input.)

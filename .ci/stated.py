@@ -10,6 +10,7 @@ STATED = {
         '`crates/callers` has {callers} such functions',
         '{lists} generated lists of commands',
         'and {hostile_inputs} hostile inputs',
+        'on {reading_values} stored and {read_inputs} generated inputs; {reading_inputs} once',
     ),
     'docs/TESTING.md': (
         '{crates} crates, the {edits_alone} edits of `must-fail/`, {tests} tests',
@@ -21,14 +22,22 @@ STATED = {
         '{requests} of them, met {meetings} times',
         '{stored_cases} stored cases and {replayed_answers} generated scripts, on each of two builds',
         '{hostile_inputs} inputs on each of two builds',
+        '{reading_values} inputs by value and {read_inputs} by digests, on each of two builds',
         '**Lists of commands**, {lists} from seed',
         '**Scripts**, {stored_answers}, of which the gate runs the first {replayed_answers}',
         '**Hostile inputs**, {hostile_inputs} from seed',
+        '**Inputs for the readers**, {reading_inputs} from seed',
+        'the gate runs the first {read_inputs} on each build and `.ci/gate readings --all`',
+        'inputs for the readers answered by Rust\'s own std, and by `inline_readings` '
+        '| {reading_inputs} |',
         'generated scripts answered by the original crate, for the digests | {stored_answers} |',
     ),
     'replay/README.md': (
         'digests for {stored_answers} generated scripts',
         'all cases and the first {replayed_answers} scripts',
+        '{reading_values} inputs, as many of each kind',
+        'a line for each thousand of {reading_inputs} generated inputs, of which the gate runs the '
+        'first {read_inputs}',
         'They are the first {sparrow_cases} and the first {wren_cases} that a Python program drew',
     ),
 }

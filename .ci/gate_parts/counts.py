@@ -7,7 +7,8 @@ import os
 import re
 from collections import Counter
 
-from floors import HOSTILE_INPUTS, REFUSALS, STORED
+from floors import HOSTILE_INPUTS, READINGS, REFUSALS, STORED
+from gate_parts import readings
 from gate_parts.callers import require_callers
 from gate_parts.digests import STEP
 from gate_parts.edit_files import edits_of
@@ -136,6 +137,8 @@ def counted():
         **{name.replace('.', '_'): count for name, count in STORED.items()},
         'stored_answers': STORED['digests'] * STEP, 'replayed_answers': THOUSANDS * STEP,
         'hostile_inputs': HOSTILE_INPUTS,
+        'reading_values': READINGS['values'], 'reading_inputs': READINGS['digests'] * STEP,
+        'read_inputs': readings.THOUSANDS * STEP,
     }
 
 

@@ -11,9 +11,11 @@ KNOWN = {
     'crates': {'nargs': '*', 'metavar': 'CRATE'},
     'programs': {'nargs': '*', 'metavar': 'PROGRAM'},
     'judge': {'metavar': 'JUDGE'},
+    'what': {'choices': ('digests', 'values')},
     '--named': {'default': '', 'metavar': 'WORD'},
     '--jobs': {'type': int, 'default': PROCESSORS, 'metavar': 'N'},
     '--seed': {'default': SEED},
+    '--first': {'type': int, 'default': 0, 'metavar': 'N'},
     '--count': {'type': int, 'default': HOSTILE_INPUTS},
     '--all': {'action': 'store_true'},
 }

@@ -14,13 +14,14 @@ import unittest
 from collections import Counter
 from unittest import mock
 
-from gate_parts import hostile_inputs, said, specified
+from gate_parts import hostile_inputs, reading_inputs, said, specified
 from gate_parts.callers import promising
 from gate_parts.counts import misstatements
 from gate_parts.definitions import Reach, cite_copies
 from gate_parts.edit_files import Change, read_edits, texts_with
 from gate_parts.enclosing import function_changed
 from gate_parts.hostile import Tally, tried
+from gate_parts.readings import shortfalls
 from gate_parts.reach import reached_by, words_by_definition
 from gate_parts.options import options
 from gate_parts.tree import Failure, in_tree, text_of, write_text
@@ -30,6 +31,7 @@ FLOORS = '''
 EDITS = {'toy': 1}
 REFUSALS = {'toy': (2, 3)}
 STORED = {'a.cases': 2, 'b.cases': 1, 'digests': 0}
+READINGS, READINGS_OF_EACH, READING_KINDS, READING_ANSWERS = {'values': 40, 'digests': 2}, 0, (), ()
 HOSTILE_INPUTS, HOSTILE_ACCEPTED_PART, HOSTILE_OF_EACH, HOSTILE_REPLIES, HOSTILE_FAULTS = 1, 0, 0, (), ()
 WRONG_DEFINITIONS, WRONG_CLAUSES, CALLERS = {'toy': 1}, 1, 1
 '''
@@ -289,6 +291,7 @@ class Replay(InSmallRepository):
         self.write('replay/b.cases', CASES.format('b').partition('case b_2')[0])
         self.write('replay/digests', '')
         self.write('replay/README.md', '')
+        os.mkdir(os.path.join(self.place, 'replay/readings'))
         self.write('bin/program', '#!/bin/sh\necho done\n')
         self.program = os.path.join(self.place, 'bin/program')
         os.chmod(self.program, 0o755)
@@ -328,6 +331,86 @@ class Replay(InSmallRepository):
 
     def test_program_that_is_not_there(self):
         self.assert_fails('is not there', 'replay')
+
+
+class Readings(InSmallRepository):
+    # It answers a line with four that say it again.
+    ECHO = "#!/bin/sh\nexec sed 'h;s/^/1 /p;g;s/^/2 /p;g;s/^/3 /p;g;s/^/4 /'\n"
+
+    def setUp(self):
+        super().setUp()
+        self.program = self.program_of('echo', self.ECHO)
+        self.write('replay/readings/judge.rs', '')
+        for name in ('digests', 'values'):
+            status, stored = self.gate('store_readings', self.program, name)
+            self.assertEqual(status, 0, stored)
+            self.write('replay/readings/' + name, stored)
+
+    def program_of(self, name, text):
+        self.write('bin/' + name, text)
+        path = os.path.join(self.place, 'bin', name)
+        os.chmod(path, 0o755)
+        return path
+
+    def changed(self, name, old, new):
+        path = os.path.join(self.place, 'replay/readings', name)
+        text = text_of(path)
+        self.assertIn(old, text)
+        write_text(path, text.replace(old, new, 1))
+
+    def test_answers_as_they_are_stored(self):
+        self.assert_passes('readings', self.program)
+
+    def test_answers_that_are_not(self):
+        other = self.program_of('other', self.ECHO.replace('4', '5'))
+        self.assert_fails('0 passed, 42 failed', 'readings', other)
+        late = self.program_of('late', self.ECHO.replace('s/^/4 /', 's/^/4 /;999s/4/5/'))
+        self.assert_fails('40 passed, 2 failed', 'readings', late)
+
+    def test_program_that_does_not_take_the_lines(self):
+        self.assert_fails('ends with 2', 'readings', self.program_of('fault', '#!/bin/sh\nexit 2\n'))
+
+    def test_stored_value_that_is_another(self):
+        self.changed('values', '\n4 ', '\n5 ')
+        self.assert_fails('41 passed, 1 failed', 'readings', self.program)
+
+    def test_values_that_are_cut(self):
+        path = os.path.join(self.place, 'replay/readings/values')
+        write_text(path, text_of(path).rpartition('\n\n')[0])
+        self.assert_fails('has 39 values, and must have 40', 'readings', self.program)
+        write_text(path, text_of(path).rpartition('\n')[0])
+        self.assert_fails('not each input has a kind', 'readings', self.program)
+
+    def test_digests_that_are_cut(self):
+        path = os.path.join(self.place, 'replay/readings/digests')
+        write_text(path, text_of(path).split('\n')[0] + '\n')
+        self.assert_fails('has 1 digests, and must have 2', 'readings', self.program)
+
+    def test_inputs_that_are_others(self):
+        self.changed('digests', text_of(os.path.join(self.place, 'replay/readings/digests')).split(' ')[2], '0' * 16)
+        self.assert_fails('not those that the judge answered', 'readings', self.program)
+
+    def test_file_that_is_gone(self):
+        os.remove(os.path.join(self.place, 'replay/readings/judge.rs'))
+        self.assert_fails('missing, or read by nothing: judge.rs', 'readings', self.program)
+
+    def test_too_few_of_each(self):
+        self.write('.ci/floors.py', FLOORS.replace('0, (), ()\nHOSTILE', "1, (), ('String from_utf8 text',)\nHOSTILE"))
+        self.assert_fails('TOO FEW: 0 are `String from_utf8 text`', 'readings', self.program)
+
+
+class ReadingInputs(unittest.TestCase):
+    def lacking(self):
+        tally = Counter(each.kind for each in reading_inputs.inputs_from('selftest', 0))
+        return [text for text in shortfalls(tally, 10) if 'String' not in text]
+
+    def test_inputs_are_of_every_kind(self):
+        self.assertEqual(self.lacking(), [])
+
+    def test_generator_that_makes_only_noise(self):
+        noise = {reading_inputs.noise_bytes: 1}
+        with mock.patch.dict(reading_inputs.BYTES.pieces, noise, clear=True):
+            self.assertIn('0 are `row_of_table`, and at least 10 must be', self.lacking())
 
 
 class Hostile(unittest.TestCase):
