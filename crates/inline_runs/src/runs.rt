@@ -10,9 +10,9 @@ use inlinable_string::{InlinableString, InlinableStringN, Storage, StringExt, St
 use inline_model::verdict::{HEAP, Policy, Seen, inlinable, seen_of, seen_of_dyn};
 use std::alloc::Global;
 use std::process::Abort;
-use test_support::ArrayText;
 use test_support::step::{Home, Kind, Step, goes_on, step_on, storage_of, where_at};
 use test_support::tally::{and_list, fault_at};
+use test_support::{ArrayText, EmptyText};
 
 mod each;
 mod generated;
@@ -56,18 +56,12 @@ fn commands_of(steps: &[Step<'static>]) -> [Command<'static>; MOST_STEPS]
     commands
 }
 
-fn made<S: StringMake + Drop>(rt: &impl Abort, alloc: Global, capacity: Option<usize>) -> S {
-    match capacity {
-        Some(capacity) => {
-            let made = S::with_capacity(alloc, capacity);
-            made.expect(rt, "memory for a text")
-        }
-        None => S::new(alloc),
-    }
+fn made<S: EmptyText + Drop>(rt: &impl Abort, alloc: Global, capacity: Option<usize>) -> S {
+    S::empty(alloc, capacity).expect(rt, "memory for a text")
 }
 
 /// A new text, to which this was pushed.
-fn made_of<S: StringMake + Drop>(
+fn made_of<S: EmptyText + Drop>(
     rt: &impl Abort,
     alloc: Global,
     capacity: Option<usize>,
@@ -164,7 +158,7 @@ fn wrong_after(
 }
 
 /// Runs the first steps of a row on a text made for it, and then one more, and so on to the whole.
-fn run_row<S: StringMake + Drop>(
+fn run_row<S: EmptyText + Drop>(
     rt: &impl Abort,
     alloc: Global,
     setting: Setting,
@@ -190,7 +184,7 @@ fn can_begin(home: Home, row: Row) -> bool {
 }
 
 /// Makes the runs of each row.
-fn run_rows<S: StringMake + Drop>(
+fn run_rows<S: EmptyText + Drop>(
     rt: &impl Abort,
     alloc: Global,
     setting: Setting,
@@ -205,7 +199,7 @@ fn run_rows<S: StringMake + Drop>(
     Ok(count)
 }
 
-fn assert_rows<S: StringMake + Drop>(
+fn assert_rows<S: EmptyText + Drop>(
     rt: &impl Abort,
     alloc: Global,
     home: Home,
@@ -354,7 +348,7 @@ const OFFSETS: &[Offset] = &[
 ];
 
 /// The first row to which a command at its offset has another reply.
-fn wrong_offset<S: StringMake + Drop>(
+fn wrong_offset<S: EmptyText + Drop>(
     rt: &impl Abort,
     alloc: Global,
     policy: Policy,
@@ -396,7 +390,7 @@ fn is_replied<S: StringExt + Drop>(
     reply == wanted && is_kept
 }
 
-fn assert_offsets<S: StringMake + Drop>(
+fn assert_offsets<S: EmptyText + Drop>(
     rt: &impl Abort,
     alloc: Global,
     policy: Policy,

@@ -1,7 +1,7 @@
 //! Makers of texts, and the bytes of texts.
 ghost use Rattle.std.specs.Prelude.{◌≤◌};
 
-use crate::texts::{LETTERS_30, LETTERS_31, is_text};
+use crate::texts::is_text;
 use Storage::{Heap, Inline};
 use inlinable_string::run::Command::{self, Pop, ShrinkToFit};
 use inlinable_string::run::Reply::{self, Char, Done, NoChar};
@@ -11,6 +11,7 @@ use std::alloc::Global;
 use std::process::Abort;
 use std::str;
 use std::string::FromUtf8Error;
+use test_support::letters::{LETTERS_30, LETTERS_31};
 
 mod memory;
 mod wrong_tables;

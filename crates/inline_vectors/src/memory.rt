@@ -13,13 +13,13 @@ use inlinable_string::{
 };
 use std::alloc::Global;
 use std::process::Abort;
-use test_support::Hoard;
 use test_support::letters::{
     LETTERS_26, LETTERS_27, LETTERS_28, LETTERS_29, LETTERS_30, LETTERS_31,
 };
 use test_support::step::Where::{AsMade, OnHeap, Shrunk};
 use test_support::step::{HEAP_ROOM, Home, Kind, Step, new_kind};
 use test_support::tally::{and_list, and_step};
+use test_support::{EmptyText, Hoard};
 
 mod filled;
 mod one_block;
@@ -86,7 +86,7 @@ fn play_shortage<S: StringExt>(
 }
 
 /// Goes through each shortage with a text of its own, of a type with this limit.
-pub fn play_shortages<S: StringMake + Drop>(
+pub fn play_shortages<S: EmptyText + Drop>(
     rt: &impl Abort,
     alloc: Global,
     home: Home,
@@ -130,7 +130,7 @@ fn assert_boxable_shortages(rt: &impl Abort, alloc: Global, shortages: &[Shortag
 }
 
 /// Plays each step on a text of its own, made new, while no memory can be had.
-fn play_alone_without_memory<S: StringMake + Drop>(
+fn play_alone_without_memory<S: EmptyText + Drop>(
     rt: &impl Abort,
     alloc: Global,
     start: &str,
@@ -146,7 +146,7 @@ fn play_alone_without_memory<S: StringMake + Drop>(
 }
 
 /// Plays each step of each list on a text of its own, made new, while no memory can be had.
-pub fn play_each_alone_without_memory<S: StringMake + Drop>(
+pub fn play_each_alone_without_memory<S: EmptyText + Drop>(
     rt: &impl Abort,
     alloc: Global,
     lists: &[(&str, &[Step])],
@@ -433,7 +433,7 @@ fn assert_each_made<S: StringMake + Drop>(rt: &impl Abort, alloc: Global, rows: 
 /// Makes a new text while no memory can be had.
 fn assert_new<S: StringMake + Drop>(rt: &impl Abort, alloc: Global, storage: Storage) {
     let hoard = all_memory(rt, alloc);
-    let new: S = text_of(rt, alloc, None, "");
+    let new = S::new(alloc);
     drop(hoard);
     assert_text(rt, &new, "", storage);
 }
@@ -448,7 +448,7 @@ fn a_text_is_made_without_memory_where_its_room_is_inline(rt: HostRuntime) {
 }
 
 /// Makes the text of as many letters as its limit, and pushes one more that is refused.
-fn filled_without_memory<S: StringMake + Drop>(rt: &impl Abort, alloc: Global, limit: usize) -> S {
+fn filled_without_memory<S: EmptyText + Drop>(rt: &impl Abort, alloc: Global, limit: usize) -> S {
     let hoard = all_memory(rt, alloc);
     let mut text: S = letters(rt, alloc, None, limit);
     let is_refused = text.push('a').is_err();
@@ -457,7 +457,7 @@ fn filled_without_memory<S: StringMake + Drop>(rt: &impl Abort, alloc: Global, l
     text
 }
 
-fn assert_filled_inline<S: StringMake + Drop>(rt: &impl Abort, alloc: Global, limit: usize) {
+fn assert_filled_inline<S: EmptyText + Drop>(rt: &impl Abort, alloc: Global, limit: usize) {
     let mut text: S = filled_without_memory(rt, alloc, limit);
     let full = whole_of(rt, alloc, "a", limit);
     assert_text(rt, &text, full.as_str(), Storage::Inline);

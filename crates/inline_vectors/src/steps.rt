@@ -9,10 +9,10 @@ use inlinable_string::{
 };
 use std::alloc::{AllocError, Global};
 use std::process::Abort;
-use test_support::ArrayText;
 use test_support::step::Where::AsMade;
 use test_support::step::{Home, Kind, Step, goes_on, new_kind, step_on, storage_of, where_at};
 use test_support::tally::{and_list, and_step, fault_at};
+use test_support::{ArrayText, EmptyText};
 
 /// What is wrong after a step.
 #[derive(Clone, Copy, Debug, PartialEq)]
@@ -218,7 +218,7 @@ pub fn play_from<S: StringExt>(text: &mut S, kind: Kind, start: &str, steps: &[S
 }
 
 /// Plays the steps on a text of this kind.
-pub fn play_on<S: StringMake + Drop>(
+pub fn play_on<S: EmptyText + Drop>(
     rt: &impl Abort,
     alloc: Global,
     kind: Kind,

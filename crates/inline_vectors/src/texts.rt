@@ -2,31 +2,29 @@
 ghost use Rattle.std.specs.Prelude.{◌≡◌, IsTrue};
 ghost use Rattle.inlinable_string.specs.Text.{bytes_of};
 
-use inlinable_string::{Storage, StringExt, StringMake};
+use inlinable_string::{Storage, StringExt};
 use std::alloc::Global;
 use std::process::Abort;
+use test_support::EmptyText;
 
 /// 53 and 54 bytes with one byte 0x0A and 24 spaces between them, as in the tests of the crate.
 pub const LONG: &str = "this is a really long string that is much larger than
                         INLINE_STRING_CAPACITY and so cannot be stored inline.";
 
 /// The text with this content, made with room for `room` bytes, or new where that is `None`.
-pub fn text_of<S: StringMake + Drop>(
+pub fn text_of<S: EmptyText + Drop>(
     rt: &impl Abort,
     alloc: Global,
     room: Option<usize>,
     content: &str,
 ) -> S {
-    let mut text = match room {
-        Some(room) => S::with_capacity(alloc, room).expect(rt, "memory"),
-        None => S::new(alloc),
-    };
+    let mut text = S::empty(alloc, room).expect(rt, "memory");
     text.push_str(content).expect(rt, "memory");
     text
 }
 
 /// The text of so many letters 'a', made as by `text_of`.
-pub fn letters<S: StringMake + Drop>(
+pub fn letters<S: EmptyText + Drop>(
     rt: &impl Abort,
     alloc: Global,
     room: Option<usize>,

@@ -1,12 +1,12 @@
-//! An array under the traits: text to which all memory is refused.
+//! An array under the trait: text to which all memory is refused.
 ghost use Rattle.inlinable_string.specs.Values.{inlinable_policy};
 ghost use Rattle.inlinable_string.specs.declared.string_ext.Storage.TheVariants.{Inline};
 
 use inlinable_string::inline_string::{NotEnoughSpaceError, ReplaceError};
-use inlinable_string::{InlineStringN, Storage, StringExt, StringMake};
-use std::alloc::{AllocError, Global};
+use inlinable_string::{InlineStringN, Storage, StringExt};
+use std::alloc::AllocError;
 
-/// An `InlineStringN` under the traits. It lies inline always, and answers want of memory where the
+/// An `InlineStringN` under the trait. It lies inline always, and answers want of memory where the
 /// array answers `NotEnoughSpaceError`.
 #[derive(Drop)]
 pub struct ArrayText<const N: usize>(pub InlineStringN<N>);
@@ -105,21 +105,5 @@ impl<const N: usize> StringExt for ArrayText<N> {
 
     fn as_str(&self) -> &str {
         self.0.as_str()
-    }
-}
-
-impl<const N: usize> StringMake for ArrayText<N> {
-    ghost policy = { inlinable_policy N };
-
-    fn new(_: Global) -> Self {
-        ArrayText(InlineStringN::new())
-    }
-
-    fn with_capacity(_: Global, capacity: usize) -> Result<Self, AllocError> {
-        if capacity <= N {
-            Ok(ArrayText(InlineStringN::new()))
-        } else {
-            Err(AllocError)
-        }
     }
 }

@@ -3,6 +3,7 @@
 #![tactic(auto)]
 
 mod array_text;
+mod empty_text;
 mod heap_text;
 mod hoard;
 pub mod letters;
@@ -11,6 +12,7 @@ pub mod step;
 pub mod tally;
 
 pub use array_text::ArrayText;
+pub use empty_text::EmptyText;
 pub use heap_text::HeapText;
 pub use hoard::Hoard;
 pub use refusals::Refusals;

@@ -11,15 +11,15 @@ use inlinable_string::run::Reply::{
     self, BadPlace, Char, Done, NoChar, NoMemory, NotUtf8, WrongLength,
 };
 use inlinable_string::run::{run, run_dyn};
-use inlinable_string::{InlinableString, InlinableStringN, Storage, StringExt, StringMake};
+use inlinable_string::{InlinableString, InlinableStringN, Storage, StringExt};
 use inline_model::plain::room::PlainText;
 use inline_model::plain::text::{edit, size_of};
 use inline_model::verdict::{Seen, seen_of, seen_of_dyn};
 use std::alloc::{AllocError, Global};
 use std::process::Abort;
 use std::test::Fail;
-use test_support::ArrayText;
 use test_support::step::Home;
+use test_support::{ArrayText, EmptyText};
 
 const SEED: u64 = 20_251_122;
 
@@ -238,7 +238,7 @@ impl List {
 
 /// Gives a list to a new text with the plain program beside it. Answers where the text lies then,
 /// or what is wrong.
-fn end_of_list<S: StringMake + Drop>(
+fn end_of_list<S: EmptyText + Drop>(
     rt: &impl Abort,
     alloc: Global,
     home: Home,

@@ -19,9 +19,9 @@ use inline_model::plain::room::PlainText;
 use inline_model::verdict::{HEAP, Policy, inlinable, seen_of};
 use std::alloc::Global;
 use std::process::Abort;
-use test_support::Hoard;
 use test_support::letters::{LETTERS_26, LETTERS_27, LETTERS_28, LETTERS_29, LETTERS_30};
 use test_support::tally::fault_at;
+use test_support::{EmptyText, Hoard};
 
 /// All memory that can be had.
 pub fn all_memory(rt: &impl Abort, alloc: Global) -> Hoard {
@@ -242,7 +242,7 @@ fn run_held<S: StringExt>(
 }
 
 /// The text of a row, as memory begins to be refused.
-fn prepared<S: StringMake + Drop>(rt: &impl Abort, alloc: Global, policy: Policy, row: Row) -> S {
+fn prepared<S: EmptyText + Drop>(rt: &impl Abort, alloc: Global, policy: Policy, row: Row) -> S {
     let mut text: S = made_of(rt, alloc, row.capacity, row.start);
     if let Some(command) = row.granted {
         let reply = run_one_beside(rt, alloc, &mut text, policy, command);
@@ -252,7 +252,7 @@ fn prepared<S: StringMake + Drop>(rt: &impl Abort, alloc: Global, policy: Policy
 }
 
 /// What is wrong with what a row tells of its run, or where the plain program does not agree.
-fn wrong_row<S: StringMake + Drop>(
+fn wrong_row<S: EmptyText + Drop>(
     rt: &impl Abort,
     alloc: Global,
     policy: Policy,
@@ -277,7 +277,7 @@ fn wrong_row<S: StringMake + Drop>(
 }
 
 /// Makes the run of each row.
-pub fn run_rows<S: StringMake + Drop>(
+pub fn run_rows<S: EmptyText + Drop>(
     rt: &impl Abort,
     alloc: Global,
     policy: Policy,
@@ -293,7 +293,7 @@ pub fn run_rows<S: StringMake + Drop>(
     Ok(runs)
 }
 
-fn assert_rows<S: StringMake + Drop>(rt: &impl Abort, alloc: Global, policy: Policy, rows: &[Row]) {
+fn assert_rows<S: EmptyText + Drop>(rt: &impl Abort, alloc: Global, policy: Policy, rows: &[Row]) {
     assert_right(rt, run_rows::<S>(rt, alloc, policy, rows));
 }
 

@@ -6,7 +6,7 @@ ghost use Rattle.std.specs.Prelude.{◌≤◌};
 use super::{
     BYTES, BytesRow, assert_no_wrong_row, copies_of, is_lying, is_taken, is_taken_unchecked,
 };
-use crate::texts::{HEAP_ROOM, LETTERS_30, LETTERS_31, is_text, text_of};
+use crate::texts::{is_text, text_of};
 use Answer::{NoMemory, Other, Right, Unpaired};
 use Call::{FromUtf8Lossy, FromUtf16, FromUtf16Lossy};
 use Storage::{Heap, Inline};
@@ -17,7 +17,9 @@ use std::alloc::{AllocError, Global};
 use std::borrow::CowStr;
 use std::process::Abort;
 use std::string::FromUtf8Error;
-use test_support::Hoard;
+use test_support::letters::{LETTERS_30, LETTERS_31};
+use test_support::step::HEAP_ROOM;
+use test_support::{EmptyText, Hoard};
 
 mod wrong_tables;
 
@@ -337,7 +339,7 @@ fn bytes_given<S: StringMake + Drop>(text: S, content: &str) -> Answer {
 }
 
 /// The first row that is wrong.
-pub fn wrong_given<S: StringMake + Drop>(
+pub fn wrong_given<S: StringMake + EmptyText + Drop>(
     rt: &impl Abort,
     alloc: Global,
     rows: &[GivenRow],

@@ -3,12 +3,12 @@ use super::{
     BytesRow, CapacityRow, CommandRow, TextRow, wrong_bytes, wrong_capacity, wrong_command,
     wrong_text,
 };
-use crate::texts::{LETTERS_30, LETTERS_31};
 use Storage::{Heap, Inline};
 use inlinable_string::run::Command::{Pop, ShrinkToFit};
 use inlinable_string::run::Reply::{Char, Done};
 use inlinable_string::{InlinableString, Storage};
 use std::process::Abort;
+use test_support::letters::{LETTERS_30, LETTERS_31};
 
 /// Asserts that the second row was found wrong, each time.
 pub fn assert_found<const COUNT: usize>(rt: &impl Abort, wrong: [Option<usize>; COUNT]) {

@@ -3,16 +3,16 @@
 use super::all_memory;
 use crate::steps::{assert_right, play, reply_by_call};
 use crate::texts::letters;
+use inlinable_string::InlinableStringN;
 use inlinable_string::run::Command::{
     self, Insert, InsertStr, Pop, Push, PushStr, Reserve, ReserveExact, ShrinkToFit,
 };
 use inlinable_string::run::Reply::{self, Char, Done, NoMemory};
-use inlinable_string::{InlinableStringN, StringMake};
 use std::alloc::Global;
 use std::process::Abort;
-use test_support::Hoard;
 use test_support::step::Where::{OnHeap, Shrunk};
 use test_support::step::{Home, Step, new_kind};
+use test_support::{EmptyText, Hoard};
 
 /// The calls that add four bytes, or room for them, to a text of 36.
 const GROWTHS: &[Command] = &[
@@ -34,7 +34,7 @@ fn all_but_one_block(rt: &impl Abort, alloc: Global, size: usize) -> Hoard {
 }
 
 /// Gives a growth to a text of 36 letters, made new, while one block of `size` bytes can be had.
-fn reply_with_one_block<S: StringMake + Drop>(
+fn reply_with_one_block<S: EmptyText + Drop>(
     rt: &impl Abort,
     alloc: Global,
     size: usize,
@@ -48,7 +48,7 @@ fn reply_with_one_block<S: StringMake + Drop>(
 }
 
 /// How many of the growths have this reply, or the first that has another one.
-pub fn replies_with_one_block<S: StringMake + Drop>(
+pub fn replies_with_one_block<S: EmptyText + Drop>(
     rt: &impl Abort,
     alloc: Global,
     size: usize,
@@ -65,7 +65,7 @@ pub fn replies_with_one_block<S: StringMake + Drop>(
     Ok(count)
 }
 
-fn assert_promotions<S: StringMake + Drop>(
+fn assert_promotions<S: EmptyText + Drop>(
     rt: &impl Abort,
     alloc: Global,
     size: usize,

@@ -4,8 +4,9 @@ use super::Answer::{NoMemory, Right, Unpaired};
 use super::Call::FromUtf16;
 use super::{GivenRow, MakerRow, ReaderRow, wrong_given, wrong_maker, wrong_reader};
 use crate::makers::wrong_tables::assert_found;
-use crate::texts::{HEAP_ROOM, LETTERS_30, LETTERS_31};
 use inlinable_string::InlinableString;
+use test_support::letters::{LETTERS_30, LETTERS_31};
+use test_support::step::HEAP_ROOM;
 
 const TOLD: ReaderRow = (FromUtf16(&[0xD800]), "", None, Unpaired);
 
