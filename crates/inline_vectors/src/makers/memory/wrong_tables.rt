@@ -2,7 +2,9 @@
 //! memory is held.
 use super::Answer::{NoMemory, Right, Unpaired};
 use super::Call::FromUtf16;
-use super::{GivenRow, MakerRow, ReaderRow, wrong_given, wrong_maker, wrong_reader};
+use super::{
+    GivenRow, MakerRow, PAIRS, ReaderRow, TEN_CLEFS, wrong_given, wrong_maker, wrong_reader,
+};
 use crate::makers::wrong_tables::assert_found;
 use inlinable_string::InlinableString;
 use test_support::letters::{LETTERS_30, LETTERS_31};
@@ -16,8 +18,8 @@ fn readers_that_answer_otherwise_are_found(rt: HostRuntime) {
     let rows: [ReaderRow; 4] = [
         (FromUtf16(&[0xD800]), "", None, NoMemory),
         (FromUtf16(&[0x61]), "a", None, Right),
-        (FromUtf16(&[0x61]), "a", Some(24), NoMemory),
-        (FromUtf16(&[0x61]), "b", Some(24), Right),
+        (FromUtf16(PAIRS), TEN_CLEFS, Some(40), NoMemory),
+        (FromUtf16(PAIRS), "b", Some(40), Right),
     ];
     let wrong = [
         wrong_reader::<InlinableString>(&rt, alloc, &[TOLD, rows[0]]),
