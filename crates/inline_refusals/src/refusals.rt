@@ -60,20 +60,20 @@ type Start = (usize, &'static str, Storage);
 /// A growth, and what it puts before the text and after it.
 type Added = (Growth, &'static str, &'static str);
 
-/// What is wrong after a growth.
+/// What is wrong after a growth, or with a text that a call makes.
 #[derive(Clone, Copy, Debug, PartialEq)]
 enum Wrong {
     /// It was refused, and so was another one before it.
     SecondRefusal,
     /// It was refused, and the text, where it lies or its room is not as before.
     Change,
-    /// The text.
+    /// The text, or the answer in its place.
     Text,
-    /// It is not on the heap.
+    /// Where it lies.
     Storage,
 }
 
-/// How many growths were right, or the number of the first that was wrong, and what is wrong there.
+/// How many calls were right, or the number of the first that was wrong, and what is wrong there.
 type Grown = Result<usize, (usize, Wrong)>;
 
 /// Grows a text that fills its room, again if it is refused; after a refusal it is as before.

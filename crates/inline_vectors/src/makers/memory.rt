@@ -58,7 +58,7 @@ pub enum Answer {
     NoMemory,
 }
 
-/// What it is to have made this text.
+/// The answer of a call that is not refused.
 fn answer_of(is_right: bool) -> Answer {
     if is_right { Right } else { Other }
 }
