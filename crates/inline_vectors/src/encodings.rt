@@ -125,8 +125,8 @@ const BYTES: &[BytesRow] = &[
     (&[], "", true),
     (&[0x68, 0x65], "he", true),
     (b"a\xC3\xA9\xE2\x82\xAC\xF0\x9D\x84\x9E", "aé€𝄞", true),
-    // The Unicode Standard's examples (section 3.9): bytes of no shortest form, of surrogates, of no
-    // character, and characters that are cut short.
+    // The Unicode Standard's examples (section 3.9): bytes of no shortest form, of surrogates, of
+    // no character, and of characters that are cut short.
     (
         &[0xC0, 0xAF, 0xE0, 0x80, 0xBF, 0xF0, 0x81, 0x82, 0x41],
         "\u{FFFD}\u{FFFD}\u{FFFD}\u{FFFD}\u{FFFD}\u{FFFD}\u{FFFD}\u{FFFD}A",
