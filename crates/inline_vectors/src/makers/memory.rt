@@ -140,12 +140,12 @@ const TWELVE_SIGNS: &str = "\u{FFFD}\u{FFFD}\u{FFFD}\u{FFFD}\u{FFFD}\u{FFFD}\
 // be granted.
 const READ_WITH_ONE_BLOCK: &[ReaderRow] = &[
     (FromUtf16(PAIRS), TEN_CLEFS, Some(40), Right),
-    (FromUtf16(PAIRS), TEN_CLEFS, Some(24), NoMemory),
+    (FromUtf16(PAIRS), TEN_CLEFS, None, NoMemory),
     (FromUtf16Lossy(PAIRS), TEN_CLEFS, Some(40), Right),
     (FromUtf16Lossy(UNPAIRED), TWELVE_SIGNS, Some(40), Right),
-    (FromUtf16Lossy(UNPAIRED), TWELVE_SIGNS, Some(24), NoMemory),
+    (FromUtf16Lossy(UNPAIRED), TWELVE_SIGNS, None, NoMemory),
     (FromUtf8Lossy(NO_UTF8), TWELVE_SIGNS, Some(40), Right),
-    (FromUtf8Lossy(NO_UTF8), TWELVE_SIGNS, Some(24), NoMemory),
+    (FromUtf8Lossy(NO_UTF8), TWELVE_SIGNS, None, NoMemory),
 ];
 
 /// The first row that is wrong.
@@ -193,21 +193,21 @@ const MADE_AT_0: &[MakerRow] = &[
     ("", None, Right),
     ("a", None, NoMemory),
     (TEN_CLEFS, Some(40), Right),
-    (TEN_CLEFS, Some(24), NoMemory),
+    (TEN_CLEFS, None, NoMemory),
 ];
 
 const MADE_AT_8: &[MakerRow] = &[
     ("12345678", None, Right),
     ("123456789", None, NoMemory),
     (TEN_CLEFS, Some(40), Right),
-    (TEN_CLEFS, Some(24), NoMemory),
+    (TEN_CLEFS, None, NoMemory),
 ];
 
 const MADE_AT_30: &[MakerRow] = &[
     (LETTERS_30, None, Right),
     (LETTERS_31, None, NoMemory),
     (TEN_CLEFS, Some(40), Right),
-    (TEN_CLEFS, Some(24), NoMemory),
+    (TEN_CLEFS, None, NoMemory),
 ];
 
 /// The first row that is wrong. The text that the first call makes gives its block back.
@@ -319,7 +319,6 @@ const GIVEN_BY_A_STRING: &[GivenRow] = &[
 /// These lie inline in 48 bytes.
 const GIVEN_AT_48: &[GivenRow] = &[
     (TEN_CLEFS, None, None, NoMemory),
-    (TEN_CLEFS, None, Some(24), NoMemory),
     (TEN_CLEFS, None, Some(40), Right),
 ];
 
