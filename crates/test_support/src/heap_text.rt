@@ -1,9 +1,10 @@
 //! A `String` in a user-defined type.
-ghost use Rattle.inlinable_string.specs.Values.{string_state};
+ghost use Rattle.inlinable_string.specs.Values.{heap_policy, string_state};
 
 use inlinable_string::inline_string::ReplaceError;
-use inlinable_string::{Storage, StringExt};
-use std::alloc::AllocError;
+use inlinable_string::{Storage, StringExt, StringMake};
+use std::alloc::{AllocError, Global};
+use std::string::FromUtf8Error;
 
 /// A text that lies on the heap always, and that shrinking does not bring back.
 #[derive(Drop)]
@@ -82,5 +83,45 @@ impl StringExt for HeapText {
 
     fn as_str(&self) -> &str {
         StringExt::as_str(&self.string)
+    }
+}
+
+impl StringMake for HeapText {
+    ghost policy = { heap_policy };
+
+    fn new(alloc: Global) -> Self {
+        HeapText {
+            string: StringMake::new(alloc),
+            can_shrink: true,
+        }
+    }
+
+    fn with_capacity(alloc: Global, capacity: usize) -> Result<Self, AllocError> {
+        Ok(HeapText {
+            string: StringMake::with_capacity(alloc, capacity)?,
+            can_shrink: true,
+        })
+    }
+
+    fn from_utf8(alloc: Global, vec: Vec<u8>) -> Result<Self, FromUtf8Error> {
+        Ok(HeapText {
+            string: StringMake::from_utf8(alloc, vec)?,
+            can_shrink: true,
+        })
+    }
+
+    unsafe fn from_utf8_unchecked(alloc: Global, bytes: Vec<u8>) -> Self {
+        HeapText {
+            string: unsafe { StringMake::from_utf8_unchecked(alloc, bytes) },
+            can_shrink: true,
+        }
+    }
+
+    fn into_bytes(self) -> Result<Vec<u8>, Self> {
+        let HeapText { string, can_shrink } = self;
+        match StringMake::into_bytes(string) {
+            Ok(bytes) => Ok(bytes),
+            Err(string) => Err(HeapText { string, can_shrink }),
+        }
     }
 }
