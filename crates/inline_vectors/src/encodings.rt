@@ -4,6 +4,7 @@ use inlinable_string::{InlinableString, InlinableStringN, Storage, StringMake, U
 use std::alloc::Global;
 use std::borrow::CowStr;
 use std::process::Abort;
+use test_support::HeapText;
 
 mod wrong_tables;
 
@@ -98,8 +99,9 @@ fn assert_units(rt: &impl Abort, alloc: Global, rows: &[UnitsRow]) {
         wrong_units::<InlinableStringN<0>>(alloc, rows),
         wrong_units::<InlinableStringN<8>>(alloc, rows),
         wrong_units::<InlinableString>(alloc, rows),
+        wrong_units::<HeapText>(alloc, rows),
     ];
-    assert!(rt; wrong == [None; 4], "{wrong:?}");
+    assert!(rt; wrong == [None; 5], "{wrong:?}");
 }
 
 #[test]
@@ -180,6 +182,7 @@ fn bytes_are_a_text_with_a_sign_for_each_part_that_is_no_character(rt: HostRunti
         wrong_bytes::<InlinableStringN<0>>(alloc, BYTES),
         wrong_bytes::<InlinableStringN<8>>(alloc, BYTES),
         wrong_bytes::<InlinableString>(alloc, BYTES),
+        wrong_bytes::<HeapText>(alloc, BYTES),
     ];
-    assert!(&rt; wrong == [None; 4], "{wrong:?}");
+    assert!(&rt; wrong == [None; 5], "{wrong:?}");
 }

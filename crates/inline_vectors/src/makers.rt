@@ -11,6 +11,7 @@ use std::alloc::Global;
 use std::process::Abort;
 use std::str;
 use std::string::FromUtf8Error;
+use test_support::HeapText;
 use test_support::letters::{LETTERS_30, LETTERS_31};
 
 mod memory;
@@ -121,6 +122,7 @@ fn bytes_are_taken_over_where_they_are_a_text_and_else_handed_back(rt: HostRunti
         wrong_bytes::<InlinableStringN<0>>(&rt, alloc, BYTES),
         wrong_bytes::<InlinableStringN<8>>(&rt, alloc, BYTES),
         wrong_bytes::<InlinableString>(&rt, alloc, BYTES),
+        wrong_bytes::<HeapText>(&rt, alloc, BYTES),
     ];
     assert_no_wrong_row(&rt, wrong);
 }
@@ -161,6 +163,7 @@ fn a_text_is_made_with_room_for_so_many_bytes(rt: HostRuntime) {
     let alloc = rt.alloc();
     let wrong = [
         wrong_capacity::<String>(alloc, CAPACITIES_OF_A_STRING),
+        wrong_capacity::<HeapText>(alloc, CAPACITIES_OF_A_STRING),
         wrong_capacity::<InlinableStringN<0>>(alloc, CAPACITIES_AT_0),
         wrong_capacity::<InlinableStringN<8>>(alloc, CAPACITIES_AT_8),
         wrong_capacity::<InlinableString>(alloc, CAPACITIES_AT_30),
@@ -291,6 +294,7 @@ fn a_text_of_bytes_comes_back_inline_where_it_is_shrunk_at_30(rt: HostRuntime) {
     let wrong = [
         wrong_command::<InlinableString>(&rt, alloc, SHRUNK),
         wrong_command::<String>(&rt, alloc, SHRUNK_AS_STRING),
+        wrong_command::<HeapText>(&rt, alloc, SHRUNK_AS_STRING),
     ];
     assert_no_wrong_row(&rt, wrong);
 }

@@ -12,7 +12,7 @@ use std::alloc::{AllocError, Global};
 use std::borrow::CowStr;
 use std::process::Abort;
 use std::test::Fail;
-use test_support::Refusals;
+use test_support::{HeapText, Refusals};
 
 /// A reader, and what it is given.
 #[derive(Clone, Copy)]
@@ -155,6 +155,11 @@ fn units_and_bytes_are_read_into_a_text_that_has_no_inline_room(
 #[test]
 fn units_and_bytes_are_read_into_a_string(rt: HostRuntime) -> Result<(), Fail> {
     assert_readings::<String>(&rt, rt.alloc())
+}
+
+#[test]
+fn units_and_bytes_are_read_into_a_user_defined_text(rt: HostRuntime) -> Result<(), Fail> {
+    assert_readings::<HeapText>(&rt, rt.alloc())
 }
 
 /// What is wrong with a text that is made of another, again if it is refused. Inline it may not be.

@@ -19,7 +19,7 @@ use std::process::Abort;
 use std::string::FromUtf8Error;
 use test_support::letters::{LETTERS_30, LETTERS_31};
 use test_support::step::HEAP_ROOM;
-use test_support::{EmptyText, Hoard};
+use test_support::{EmptyText, HeapText, Hoard};
 
 mod wrong_tables;
 
@@ -172,6 +172,7 @@ fn assert_readers(rt: &impl Abort, alloc: Global, rows: &[ReaderRow]) {
         wrong_reader::<InlinableStringN<0>>(rt, alloc, rows),
         wrong_reader::<InlinableStringN<8>>(rt, alloc, rows),
         wrong_reader::<InlinableString>(rt, alloc, rows),
+        wrong_reader::<HeapText>(rt, alloc, rows),
     ];
     assert_no_wrong_row(rt, wrong);
 }
@@ -297,6 +298,7 @@ fn bytes_are_taken_over_and_given_back_without_memory(rt: HostRuntime) {
         wrong_taken::<InlinableStringN<0>>(&rt, alloc, BYTES),
         wrong_taken::<InlinableStringN<8>>(&rt, alloc, BYTES),
         wrong_taken::<InlinableString>(&rt, alloc, BYTES),
+        wrong_taken::<HeapText>(&rt, alloc, BYTES),
     ];
     assert_no_wrong_row(&rt, wrong);
 }
@@ -360,6 +362,7 @@ fn bytes_of_an_inline_text_ask_once_and_a_refusal_hands_it_back(rt: HostRuntime)
     let alloc = rt.alloc();
     let wrong = [
         wrong_given::<String>(&rt, alloc, GIVEN_BY_A_STRING),
+        wrong_given::<HeapText>(&rt, alloc, GIVEN_BY_A_STRING),
         wrong_given::<InlinableStringN<8>>(&rt, alloc, GIVEN),
         wrong_given::<InlinableString>(&rt, alloc, GIVEN),
         wrong_given::<InlinableStringN<48>>(&rt, alloc, GIVEN_AT_48),
