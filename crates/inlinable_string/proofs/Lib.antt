@@ -19,3 +19,4 @@ pub mod ShortRuns
 pub mod Unrefused
 pub mod SecondRun
 pub mod Places
+pub mod Compared

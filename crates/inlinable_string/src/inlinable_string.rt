@@ -12,6 +12,7 @@ use crate::inline_string::{INLINE_STRING_CAPACITY, InlineStringN, ReplaceError};
 use crate::string_ext::{Storage, StringExt};
 use std::alloc::{AllocError, Global};
 
+mod compared;
 mod makers;
 
 /// An [`InlinableStringN`] of 30 bytes inline, the capacity of the Rust crate.
@@ -249,6 +250,28 @@ impl<const N: usize> StringExt for InlinableStringN<N> {
         match self {
             InlinableStringN::Heap(text, _) => StringExt::as_str(text),
             InlinableStringN::Inline(text, _) => text.as_str(),
+        }
+    }
+}
+
+/// The copy lies where the text does, and inline it is not refused.
+impl<const N: usize> Clone for InlinableStringN<N> {
+    ghost use Rattle.inlinable_string.specs.declared.string_ext.Storage.TheVariants.{Inline};
+
+    ghost is_clone = { λ text copy. IsSameText (inlinable_state N text) (inlinable_state N copy) };
+
+    ghost is_infallible = { λ text. (inlinable_state N text).storage ≡ Inline };
+
+    fn clone(&self) -> Result<Self, AllocError> {
+        match self {
+            InlinableStringN::Heap(text, alloc) => {
+                let copy = text.clone()?;
+                Ok(InlinableStringN::Heap(copy, *alloc))
+            }
+            InlinableStringN::Inline(text, alloc) => {
+                let copy = text.clone()?;
+                Ok(InlinableStringN::Inline(copy, *alloc))
+            }
         }
     }
 }

@@ -2,16 +2,18 @@
 //!
 //! Use [`InlineStringN`] where no text is longer than the limit, or where a longer one is to be
 //! refused; where a longer one is to be kept, use [`crate::InlinableStringN`].
-ghost use Rattle.std.specs.Prelude.{◌≡◌, ℕ, ◌+◌, ◌-◌, ◌≤◌, ◌<◌, ◌↔◌, List, ◌++◌, [], ◌∷◌, length, drop, replicate, encode_utf8, IsTrue, true, OnOk, OnErr, Err, Some, MatchOption, MatchResult, IsUtf8, codes};
+ghost use Rattle.std.specs.Prelude.{◌≡◌, ⊤, ℕ, ◌+◌, ◌-◌, ◌≤◌, ◌<◌, ◌↔◌, List, ◌++◌, [], ◌∷◌, length, drop, replicate, encode_utf8, IsTrue, true, OnOk, OnErr, Err, Some, MatchOption, MatchResult, IsUtf8, codes};
 ghost use Rattle.std.specs.Str.{all_scalars, chars, IsCharBoundary};
 ghost use Rattle.inlinable_string.specs.Text.{bytes_of, size, IsCut, IsPlace, IsSplice, IsRemoval};
 ghost use Rattle.inlinable_string.specs.Errors.{replacement_message};
 
 use crate::cells::{put_byte, put_in, take_out, write_at, write_front};
+use std::alloc::AllocError;
 use std::error::Error;
 use std::marker::Model;
 use std::{fmt, str};
 
+mod compared;
 #[cfg(test)]
 mod tests;
 
@@ -367,5 +369,19 @@ impl<const N: usize> Default for InlineStringN<N> {
 
     fn default() -> Self {
         Self::new()
+    }
+}
+
+impl<const N: usize> Clone for InlineStringN<N> {
+    ghost is_clone = { λ text copy. copy ≡ text };
+
+    ghost is_infallible = { λ _. ⊤ };
+
+    fn clone(&self) -> Result<Self, AllocError> {
+        Ok(InlineStringN {
+            len: self.len,
+            start: self.start,
+            bytes: self.bytes,
+        })
     }
 }

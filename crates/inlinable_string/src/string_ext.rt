@@ -239,6 +239,13 @@ pub trait StringExt {
         self.as_str().is_char_boundary(idx)
     }
 
+    /// Whether the text is `string`.
+    fn eq_str(&self, string: &str) -> bool
+        ensures { IsTrue result ↔ (bytes_of (state self.now).text ≡ string.now) }
+    {
+        self.as_str() == string
+    }
+
     /// The UTF-8 bytes of the text.
     fn as_bytes(&self) -> &[u8]
         ensures { result.now ≡ bytes_of (state self.now).text };

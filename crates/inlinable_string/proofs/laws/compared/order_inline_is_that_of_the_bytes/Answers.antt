@@ -1,0 +1,11 @@
+use Rattle.std.specs.Cmp.{on_total}
+use Rattle.std.specs.Cmp.Lexicographic.{nat_list_cmp_total}
+use Rattle.inlinable_string.specs.Text.{bytes_of}
+use Rattle.inlinable_string.proofs.Compared.{ties_are_equal}
+use Rattle.inlinable_string.proofs.laws.compared.order_inline_is_that_of_the_bytes.Goals as goal
+
+pub returns-clause-total : goal.returns-clause-total
+returns-clause-total g c = on_total (λ s. bytes_of s) nat_list_cmp_total
+
+pub returns-clause-equal : goal.returns-clause-equal
+returns-clause-equal g c s t = ties_are_equal _ _
