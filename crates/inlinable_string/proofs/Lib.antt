@@ -20,3 +20,4 @@ pub mod Unrefused
 pub mod SecondRun
 pub mod Places
 pub mod Compared
+pub mod Written

@@ -14,6 +14,7 @@ use std::alloc::{AllocError, Global};
 
 mod compared;
 mod makers;
+mod printed;
 
 /// An [`InlinableStringN`] of 30 bytes inline, the capacity of the Rust crate.
 pub type InlinableString = InlinableStringN<INLINE_STRING_CAPACITY>;

@@ -14,6 +14,7 @@ use std::marker::Model;
 use std::{fmt, str};
 
 mod compared;
+mod printed;
 #[cfg(test)]
 mod tests;
 

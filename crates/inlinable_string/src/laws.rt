@@ -9,6 +9,7 @@ use std::fmt;
 
 pub mod compared;
 pub mod conversions;
+pub mod printed;
 
 /// A place is at most the length, and a boundary of the bytes.
 pub fn places_are_boundaries()
