@@ -21,3 +21,4 @@ pub mod SecondRun
 pub mod Places
 pub mod Compared
 pub mod Written
+pub mod Extended

@@ -5,6 +5,7 @@ pub mod Cells
 pub mod Errors
 pub mod State
 pub mod Values
+pub mod Joins
 pub mod Edit
 pub mod Run
 pub mod Step

@@ -13,6 +13,7 @@ use crate::string_ext::{Storage, StringExt};
 use std::alloc::{AllocError, Global};
 
 mod compared;
+mod joins;
 mod makers;
 mod printed;
 

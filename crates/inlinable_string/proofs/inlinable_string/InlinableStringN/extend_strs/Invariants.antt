@@ -1,0 +1,9 @@
+use Rattle.inlinable_string.specs.Joins.{text_of_strs}
+use Rattle.inlinable_string.specs.Values.{inlinable_state}
+use Rattle.inlinable_string.proofs.Extended.{Grown}
+use Rattle.inlinable_string.proofs.inlinable_string.InlinableStringN.extend_strs.Given as goal
+
+abbrev pub invariant-loop-string : goal.invariant-loop-string
+invariant-loop-string g l =
+    Grown (inlinable_state g.row.N l.fn.self) (text_of_strs l.yielded)
+    (inlinable_state g.row.N l.self)

@@ -1,0 +1,176 @@
+//! Joining: another text, or the items of an iterator one by one, at the end of a text.
+ghost use Rattle.std.specs.Prelude.{◌≡◌, ◌+◌, ◌≤◌, ◌<◌, ◌++◌, length, OnOk, OnErr, IfOk, IfErr, IsOk, IsUtf8};
+ghost use Rattle.std.specs.Iterator.{IsFinite};
+ghost use Rattle.std.specs.Iterator.Runs.{SomeRun, WholeRun, EachRunFrom};
+ghost use Rattle.std.specs.Str.{chars};
+ghost use Rattle.inlinable_string.specs.Text.{size};
+ghost use Rattle.inlinable_string.specs.State.{IsSameText, HasRoom, HasInlineRoom, storage_with_room, storage_when_made};
+ghost use Rattle.inlinable_string.specs.Joins.{text_of_chars, text_of_char_refs, text_of_strs, IsExtended, IsRefusedLast};
+ghost use Rattle.inlinable_string.specs.Values.{inlinable_policy, inlinable_state};
+
+use crate::inlinable_string::InlinableStringN;
+use crate::string_ext::{StringExt, StringMake};
+use std::alloc::{AllocError, Global};
+
+impl<const N: usize> InlinableStringN<N> {
+    /// The text with `other` at its end. Where memory is refused, the text comes back as it was.
+    pub fn add(mut self, other: &str) -> Result<Self, Self>
+        ensures text { IfOk result (λ joined. (inlinable_state N joined).text
+            ≡ (inlinable_state N self.entry).text ++ chars other.now) }
+        ensures len { IfOk result (λ joined. size (inlinable_state N joined).text
+            ≡ size (inlinable_state N self.entry).text + length other.now) }
+        ensures storage { IfOk result (λ joined. (inlinable_state N joined).storage
+            ≡ storage_with_room (inlinable_state N self.entry) (length other.now)) }
+        ensures err { IfErr result
+            (λ same. IsSameText (inlinable_state N self.entry) (inlinable_state N same)) }
+
+        // What fits is not refused, and no room is lost.
+        ensures granted { HasRoom (inlinable_state N self.entry) (length other.now) → IsOk result }
+        ensures inline_granted { HasInlineRoom (inlinable_state N self.entry) (length other.now)
+            → IsOk result }
+        ensures room { IfOk result (λ joined. (inlinable_state N self.entry).capacity
+            ≤ (inlinable_state N joined).capacity) }
+    {
+        match self.push_str(other) {
+            Ok(()) => Ok(self),
+            Err(_) => Err(self),
+        }
+    }
+
+    /// Appends the characters of an iterator that ends, one by one. What it says of how many will
+    /// come is not asked for.
+    ///
+    /// It is refused only at a character with which the text is above the capacity that it had at
+    /// the call; then the characters before that one are appended, and that one is lost.
+    pub fn extend_chars<I: Iterator<Item = char>>(&mut self, items: I) -> Result<(), AllocError>
+        requires can { I.can_next items }
+        requires ends { IsFinite (I.remaining items) }
+        ensures ok { OnOk result (WholeRun I.next_gives items (λ run. IsExtended
+            (inlinable_state N self.old) run.items (inlinable_state N self.new))) }
+        ensures err { OnErr result (SomeRun I.next_gives items (λ run. IsRefusedLast text_of_chars
+            (inlinable_state N self.old) run.items (inlinable_state N self.new))) }
+
+        // What fits is not refused, and no room is lost.
+        ensures granted { EachRunFrom I.next_gives items
+            (λ run. HasRoom (inlinable_state N self.old) (size run.items)) → IsOk result }
+        ensures room { OnOk result
+            ((inlinable_state N self.old).capacity ≤ (inlinable_state N self.new).capacity) }
+    {
+        // `len` tells the laws of the value.
+        let _ = self.len();
+        for ch in items {
+            self.push(ch)?;
+        }
+        Ok(())
+    }
+
+    /// Appends the characters behind the references of an iterator that ends, as
+    /// [`InlinableStringN::extend_chars`] does.
+    pub fn extend_char_refs<'a, I: Iterator<Item = &'a char>>(
+        &mut self,
+        items: I,
+    ) -> Result<(), AllocError>
+        requires can { I.can_next items }
+        requires ends { IsFinite (I.remaining items) }
+        ensures ok { OnOk result (WholeRun I.next_gives items (λ run. IsExtended
+            (inlinable_state N self.old) (text_of_char_refs run.items)
+            (inlinable_state N self.new))) }
+        ensures err { OnErr result (SomeRun I.next_gives items (λ run. IsRefusedLast
+            text_of_char_refs (inlinable_state N self.old) run.items
+            (inlinable_state N self.new))) }
+
+        // What fits is not refused, and no room is lost.
+        ensures granted { EachRunFrom I.next_gives items (λ run.
+            HasRoom (inlinable_state N self.old) (size (text_of_char_refs run.items)))
+            → IsOk result }
+        ensures room { OnOk result
+            ((inlinable_state N self.old).capacity ≤ (inlinable_state N self.new).capacity) }
+    {
+        // `len` tells the laws of the value.
+        let _ = self.len();
+        for ch in items {
+            self.push(*ch)?;
+        }
+        Ok(())
+    }
+
+    /// Appends the strings of an iterator that ends, one by one. What it says of how many will come
+    /// is not asked for.
+    ///
+    /// It is refused only at a string with which the text is above the capacity that it had at the
+    /// call; then the strings before that one are appended, and that one is lost.
+    pub fn extend_strs<'a, I: Iterator<Item = &'a str>>(
+        &mut self,
+        items: I,
+    ) -> Result<(), AllocError>
+        requires can { I.can_next items }
+        requires ends { IsFinite (I.remaining items) }
+        ensures ok { OnOk result (WholeRun I.next_gives items (λ run. IsExtended
+            (inlinable_state N self.old) (text_of_strs run.items)
+            (inlinable_state N self.new))) }
+        ensures err { OnErr result (SomeRun I.next_gives items (λ run. IsRefusedLast text_of_strs
+            (inlinable_state N self.old) run.items (inlinable_state N self.new))) }
+
+        // What fits is not refused, and no room is lost.
+        ensures granted { EachRunFrom I.next_gives items (λ run.
+            HasRoom (inlinable_state N self.old) (size (text_of_strs run.items)))
+            → IsOk result }
+        ensures room { OnOk result
+            ((inlinable_state N self.old).capacity ≤ (inlinable_state N self.new).capacity) }
+    {
+        // `len` tells the laws of the value.
+        let _ = self.len();
+        for string in items {
+            self.push_str(known_text(string))?;
+        }
+        Ok(())
+    }
+
+    /// The text of the characters of an iterator that ends. It lies inline where it has at most `N`
+    /// bytes, and is refused only at a character with which it has more.
+    pub fn from_chars<I: Iterator<Item = char>>(alloc: Global, items: I) -> Result<Self, AllocError>
+        requires can { I.can_next items }
+        requires ends { IsFinite (I.remaining items) }
+        ensures text { IfOk result (λ made. WholeRun I.next_gives items
+            (λ run. (inlinable_state N made).text ≡ run.items)) }
+        ensures storage { IfOk result (λ made. (inlinable_state N made).storage
+            ≡ storage_when_made (inlinable_policy N) (size (inlinable_state N made).text)) }
+        ensures err { OnErr result (SomeRun I.next_gives items (λ run. N < size run.items)) }
+        ensures granted { EachRunFrom I.next_gives items (λ run. size run.items ≤ N)
+            → IsOk result }
+    {
+        let mut made = Self::new(alloc);
+        made.extend_chars(items)?;
+        Ok(made)
+    }
+
+    /// The strings of an iterator that ends, joined. The text lies inline where it has at most `N`
+    /// bytes, and is refused only at a string with which it has more.
+    pub fn from_strs<'a, I: Iterator<Item = &'a str>>(
+        alloc: Global,
+        items: I,
+    ) -> Result<Self, AllocError>
+        requires can { I.can_next items }
+        requires ends { IsFinite (I.remaining items) }
+        ensures text { IfOk result (λ made. WholeRun I.next_gives items
+            (λ run. (inlinable_state N made).text ≡ text_of_strs run.items)) }
+        ensures storage { IfOk result (λ made. (inlinable_state N made).storage
+            ≡ storage_when_made (inlinable_policy N) (size (inlinable_state N made).text)) }
+        ensures err { OnErr result (SomeRun I.next_gives items
+            (λ run. N < size (text_of_strs run.items))) }
+        ensures granted { EachRunFrom I.next_gives items
+            (λ run. size (text_of_strs run.items) ≤ N) → IsOk result }
+    {
+        let mut made = Self::new(alloc);
+        made.extend_strs(items)?;
+        Ok(made)
+    }
+}
+
+/// The same string: a `&str` out of an iterator has no fact that it is UTF-8, a parameter has.
+fn known_text(string: &str) -> &str
+    ensures value { result.now ≡ string.now }
+    ensures utf8 { IsUtf8 string.now }
+{
+    string
+}
