@@ -12,6 +12,8 @@ use crate::inline_string::{INLINE_STRING_CAPACITY, InlineStringN, ReplaceError};
 use crate::string_ext::{Storage, StringExt};
 use std::alloc::{AllocError, Global};
 
+mod borrowed;
+mod collected;
 mod compared;
 mod joins;
 mod makers;

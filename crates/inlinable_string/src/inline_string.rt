@@ -13,6 +13,7 @@ use std::error::Error;
 use std::marker::Model;
 use std::{fmt, str};
 
+mod borrowed;
 mod compared;
 mod printed;
 #[cfg(test)]

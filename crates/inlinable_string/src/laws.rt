@@ -7,6 +7,7 @@ ghost use Rattle.inlinable_string.specs.Text.{bytes_of, size, cut, IsCut, IsPlac
 use crate::inline_string::{InlineStringN, NotEnoughSpaceError, ReplaceError};
 use std::fmt;
 
+pub mod borrowed;
 pub mod compared;
 pub mod conversions;
 pub mod printed;

@@ -1,0 +1,9 @@
+use Rattle.std.proofs.Common.{◌≡◌, ◌++◌}
+use Rattle.inlinable_string.specs.Joins.{text_of_strs}
+use Rattle.inlinable_string.specs.Values.{inlinable_state}
+use Rattle.inlinable_string.proofs.inlinable_string.collected.InlinableStringNExtendRefStr.extend.Given as goal
+
+abbrev pub invariant-loop-string : goal.invariant-loop-string
+invariant-loop-string g l =
+    (inlinable_state g.row.N l.self).text
+    ≡ (inlinable_state g.row.N l.fn.self).text ++ text_of_strs l.yielded

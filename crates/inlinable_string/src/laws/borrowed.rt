@@ -1,0 +1,57 @@
+//! Laws of a text in the place of a `str`, and of what std's traits add to one or collect.
+ghost use Rattle.std.specs.Prelude.{◌≡◌, ◌↔◌, ℕ, ◌+◌, ◌≤◌, List, ◌++◌, length};
+ghost use Rattle.std.specs.Borrow.{Bor};
+ghost use Rattle.std.specs.Str.{chars};
+ghost use Rattle.inlinable_string.specs.Text.{bytes_of, size};
+ghost use Rattle.inlinable_string.specs.Joins.{text_of_strs};
+ghost use Rattle.inlinable_string.specs.Values.{inlinable_state};
+ghost use Rattle.inlinable_string.specs.declared.inlinable_string.InlinableStringN.{InlinableStringN};
+
+use crate::inlinable_string::InlinableStringN;
+use crate::inline_string::InlineStringN;
+use std::convert::{AsSlice, AsStr};
+use std::ops::{AddAssign, DerefStr};
+
+/// The `str` and the bytes that a text in an array lends are its own.
+pub fn inline_texts_lend_their_bytes<const N: usize>()
+    ensures deref { (s bytes : List ℕ) → ⟦<InlineStringN<N> as DerefStr>⟧.deref_gives s bytes
+        → bytes ≡ bytes_of s }
+    ensures str { (s : List ℕ) → ⟦<InlineStringN<N> as AsStr>⟧.text s ≡ bytes_of s }
+    ensures slice { (s : List ℕ) → ⟦<InlineStringN<N> as AsSlice<u8>>⟧.items s ≡ bytes_of s }
+{}
+
+/// The `str` and the bytes that a text lends are its own.
+pub fn texts_lend_their_bytes<const N: usize>()
+    ensures deref { (s : InlinableStringN N) (bytes : List ℕ)
+        → ⟦<InlinableStringN<N> as DerefStr>⟧.deref_gives s bytes
+        → bytes ≡ bytes_of (inlinable_state N s).text }
+    ensures slice { (s : InlinableStringN N) → ⟦<InlinableStringN<N> as AsSlice<u8>>⟧.items s
+        ≡ bytes_of (inlinable_state N s).text }
+{}
+
+/// `+=` appends a string, and may be written where it fits.
+pub fn strings_that_fit_are_added<'a, const N: usize>()
+    ensures fits { (s : List ℕ) (added : Bor (List ℕ))
+        → ⟦<InlineStringN<N> as AddAssign<&'a str>>⟧.can_add_assign s added
+        ↔ (size s + length added.now ≤ N) }
+    ensures text { (s : List ℕ) (added : Bor (List ℕ)) (t : List ℕ)
+        → ⟦<InlineStringN<N> as AddAssign<&'a str>>⟧.add_assign_gives s added t
+        → t ≡ s ++ chars added.now }
+{}
+
+/// What `extend` and `collect` have taken stands in the text, in its order.
+pub fn items_are_joined<'a, const N: usize>()
+    ensures chars_added { (s : InlinableStringN N) (items : List ℕ) (t : InlinableStringN N)
+        → ⟦<InlinableStringN<N> as Extend<char>>⟧.extend_gives s items t
+        → (inlinable_state N t).text ≡ (inlinable_state N s).text ++ items }
+    ensures chars_collected { (items : List ℕ) (t : InlinableStringN N)
+        → ⟦<InlinableStringN<N> as FromIterator<char>>⟧.from_iter_gives items t
+        → (inlinable_state N t).text ≡ items }
+    ensures strs_added { (s : InlinableStringN N) (items : List (Bor (List ℕ)))
+        (t : InlinableStringN N)
+        → ⟦<InlinableStringN<N> as Extend<&'a str>>⟧.extend_gives s items t
+        → (inlinable_state N t).text ≡ (inlinable_state N s).text ++ text_of_strs items }
+    ensures strs_collected { (items : List (Bor (List ℕ))) (t : InlinableStringN N)
+        → ⟦<InlinableStringN<N> as FromIterator<&'a str>>⟧.from_iter_gives items t
+        → (inlinable_state N t).text ≡ text_of_strs items }
+{}
