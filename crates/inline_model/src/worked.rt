@@ -5,6 +5,7 @@
 pub mod cells;
 pub mod edits;
 pub mod encodings;
+pub mod joins;
 pub mod laws;
 pub mod needs;
 pub mod places;
