@@ -3,7 +3,8 @@
 
 use crate::editor::Line;
 use crate::{
-    buffers, cuts, finds, growths, joins, makes, replacements, room, runs, takes, views, wholes,
+    buffers, compares, cuts, finds, growths, joined, joins, makes, replacements, room, runs, takes,
+    views, wholes,
 };
 use inlinable_string::{InlinableString, InlinableStringN, InlineStringN, StringExt, StringMake};
 use std::alloc::{AllocError, Global};
@@ -67,6 +68,38 @@ pub fn join(alloc: Global, string: &mut String, short: &mut Short) -> Result<(),
     let mut last: InlinableString = joins::copy_of(alloc, &other)?;
     joins::move_to(&mut last, string)?;
     joins::add_text(&three, string)
+}
+
+/// Texts joined from iterators, and printed.
+pub fn join_items(alloc: Global, words: &[&str], letters: &[char]) -> Result<Short, AllocError> {
+    let mut text: Short = joined::joined(alloc, words)?;
+    joined::add_words(&mut text, words)?;
+    joined::add_letters(&mut text, letters)?;
+    joined::add_letter_refs(&mut text, letters)?;
+    let print = joined::printed(alloc, &text)?;
+    joined::add_words(&mut text, &[print.as_str()])?;
+    match joined::with_ending(text, "end") {
+        Ok(text) => Ok(text),
+        Err(text) => Ok(text),
+    }
+}
+
+/// Comparisons and copies.
+pub fn compare(
+    first: &Short,
+    second: &Short,
+    text: &mut InlineStringN<16>,
+) -> Result<Short, AllocError> {
+    let copy = compares::copied(first)?;
+    let inline_copy = compares::copied_inline(text);
+    let _ = joined::write_if_it_fits(text, "!");
+    if compares::is_same_inline(text, &inline_copy) || compares::has_same_bytes(first, second) {
+        return Ok(copy);
+    }
+    if compares::is_same(&copy, second) && compares::order_of(first, second).is_lt() {
+        return Ok(copy);
+    }
+    Ok(compares::later(copy, compares::copied(second)?))
 }
 
 /// Texts that are made, and filled within their room.

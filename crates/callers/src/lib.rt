@@ -6,11 +6,13 @@
 #![tactic(auto)]
 
 pub mod buffers;
+pub mod compares;
 pub mod cuts;
 pub mod editor;
 pub mod finds;
 pub mod growths;
 pub mod instances;
+pub mod joined;
 pub mod joins;
 pub mod makers;
 pub mod makes;

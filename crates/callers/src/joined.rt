@@ -1,0 +1,136 @@
+//! Texts that are joined from iterators, printed, written into, and used in the place of a `str`.
+ghost use Rattle.std.specs.Prelude.{◌≡◌, ◌+◌, ◌≤◌, ◌++◌, length, IfOk, IfErr, IsOk, OnOk, IsTrue};
+ghost use Rattle.std.specs.Str.{chars};
+ghost use Rattle.std.specs.String.{string_bytes};
+ghost use Rattle.inlinable_string.specs.Text.{bytes_of, size};
+ghost use Rattle.inlinable_string.specs.State.{IsSameText, HasRoom, storage_when_made};
+ghost use Rattle.inlinable_string.specs.Joins.{text_of_strs};
+ghost use Rattle.inlinable_string.specs.Values.{inlinable_policy, inlinable_state};
+
+use inlinable_string::{InlinableString, InlinableStringN, InlineStringN, StringExt};
+use std::alloc::{AllocError, Global};
+use std::fmt::{self, Write};
+
+/// Words joined.
+pub fn joined<const N: usize>(
+    alloc: Global,
+    words: &[&str],
+) -> Result<InlinableStringN<N>, AllocError>
+    ensures text { IfOk result (λ made. (inlinable_state N made).text ≡ text_of_strs words.now) }
+    ensures storage { IfOk result (λ made. (inlinable_state N made).storage
+        ≡ storage_when_made (inlinable_policy N) (size (text_of_strs words.now))) }
+{
+    InlinableStringN::from_strs(alloc, words.iter().copied())
+}
+
+/// Words added at the end of a text.
+pub fn add_words<const N: usize>(
+    text: &mut InlinableStringN<N>,
+    words: &[&str],
+) -> Result<(), AllocError>
+    ensures { OnOk result ((inlinable_state N text.new).text
+        ≡ (inlinable_state N text.old).text ++ text_of_strs words.now) }
+{
+    text.extend_strs(words.iter().copied())
+}
+
+/// Characters added at the end of a text.
+pub fn add_letters<const N: usize>(
+    text: &mut InlinableStringN<N>,
+    letters: &[char],
+) -> Result<(), AllocError>
+    ensures { OnOk result ((inlinable_state N text.new).text
+        ≡ (inlinable_state N text.old).text ++ letters.now) }
+{
+    text.extend_chars(letters.iter().copied())
+}
+
+/// The same by references.
+pub fn add_letter_refs<const N: usize>(
+    text: &mut InlinableStringN<N>,
+    letters: &[char],
+) -> Result<(), AllocError>
+    ensures { OnOk result ((inlinable_state N text.new).text
+        ≡ (inlinable_state N text.old).text ++ letters.now) }
+{
+    text.extend_char_refs(letters.iter())
+}
+
+/// A word letter by letter.
+pub fn spelled(alloc: Global, word: &str) -> Result<InlinableString, AllocError>
+    ensures { IfOk result (λ made. bytes_of (inlinable_state 30 made).text ≡ word.now) }
+{
+    InlinableString::from_chars(alloc, word.chars())
+}
+
+/// The same by `collect`.
+pub fn collected(alloc: Global, word: &str) -> Result<InlinableString, AllocError>
+    ensures { IfOk result (λ made. bytes_of (inlinable_state 30 made).text ≡ word.now) }
+{
+    word.chars().collect(alloc)
+}
+
+/// A name with an ending, or the name back as it was.
+pub fn with_ending<const N: usize>(
+    name: InlinableStringN<N>,
+    ending: &str,
+) -> Result<InlinableStringN<N>, InlinableStringN<N>>
+    ensures text { IfOk result (λ made. (inlinable_state N made).text
+        ≡ (inlinable_state N name.entry).text ++ chars ending.now) }
+    ensures err { IfErr result
+        (λ same. IsSameText (inlinable_state N name.entry) (inlinable_state N same)) }
+    ensures granted { HasRoom (inlinable_state N name.entry) (length ending.now) → IsOk result }
+{
+    name.add(ending)
+}
+
+/// The text as a `String`, as it prints.
+pub fn printed<const N: usize>(
+    alloc: Global,
+    text: &InlinableStringN<N>,
+) -> Result<String, AllocError>
+    ensures { IfOk result (λ made. string_bytes made ≡ bytes_of (inlinable_state N text.now).text) }
+{
+    format!(in alloc; "{text}")
+}
+
+/// Writes a string into a text that has room for it.
+pub fn write_within<const N: usize>(text: &mut InlinableStringN<N>, string: &str) -> fmt::Result
+    requires { HasRoom (inlinable_state N text.old) (length string.now) }
+    ensures text { (inlinable_state N text.new).text
+        ≡ (inlinable_state N text.old).text ++ chars string.now }
+    ensures ok { IsOk result }
+{
+    text.write_str(string)
+}
+
+/// Writes a string into an array, or nothing where it doesn't fit.
+pub fn write_if_it_fits<const N: usize>(text: &mut InlineStringN<N>, string: &str) -> bool
+    ensures fits { IsTrue result → text.new ≡ text.old ++ chars string.now }
+    ensures size { size text.new ≤ N }
+{
+    let _ = text.len();
+    text.write_str(string).is_ok()
+}
+
+/// A part of a path: `+=` where it is known to fit.
+pub fn add_part(path: &mut InlineStringN<16>, part: &str)
+    requires { size path.old + length part.now ≤ 16 }
+    ensures { path.new ≡ path.old ++ chars part.now }
+{
+    *path += part;
+}
+
+/// A function over `&str` is given a text.
+pub fn same_length(line: &InlinableString, name: &InlineStringN<16>) -> bool
+    ensures { IsTrue result → size (inlinable_state 30 line.now).text ≡ size name.now }
+{
+    bytes_in(line) == bytes_in(name)
+}
+
+/// How many bytes a string has.
+fn bytes_in(string: &str) -> usize
+    ensures { result ≡ length string.now }
+{
+    string.len()
+}
