@@ -2,6 +2,7 @@
 ghost use Rattle.std.specs.Prelude.{◌≡◌, ◌↔◌, ℕ, ◌+◌, ◌≤◌, List, ◌++◌, length};
 ghost use Rattle.std.specs.Borrow.{Bor};
 ghost use Rattle.std.specs.Str.{chars};
+ghost use Rattle.std.specs.Str.Iter.{chars_rest};
 ghost use Rattle.inlinable_string.specs.Text.{bytes_of, size};
 ghost use Rattle.inlinable_string.specs.Joins.{text_of_strs};
 ghost use Rattle.inlinable_string.specs.Values.{inlinable_state};
@@ -18,6 +19,13 @@ pub fn inline_texts_lend_their_bytes<const N: usize>()
         → bytes ≡ bytes_of s }
     ensures str { (s : List ℕ) → ⟦<InlineStringN<N> as AsStr>⟧.text s ≡ bytes_of s }
     ensures slice { (s : List ℕ) → ⟦<InlineStringN<N> as AsSlice<u8>>⟧.items s ≡ bytes_of s }
+{}
+
+/// A `for` over a text in an array goes over its characters.
+pub fn loops_go_over_the_text<'a, const N: usize>()
+    ensures rest { (s : Bor (List ℕ)) (rest : _)
+        → ⟦<&'a InlineStringN<N> as IntoIterator>⟧.into_iter_gives s rest
+        → chars_rest rest ≡ bytes_of s.now }
 {}
 
 /// The `str` and the bytes that a text lends are its own.
