@@ -1,6 +1,6 @@
 //! Cuts and insertions at places that are tested first: `is_char_boundary` is the test, of the text
 //! or of its `as_str()`.
-ghost use Rattle.std.specs.Prelude.{◌≡◌, ℕ, ◌+◌, ◌≤◌, ◌<◌, ◌↔◌, List, ◌++◌, [], ◌∷◌, IsTrue, IfOk, OnOk, OnErr, IfNone, IfSome};
+ghost use Rattle.std.specs.Prelude.{◌≡◌, ℕ, ◌+◌, ◌≤◌, ◌<◌, ◌↔◌, List, ◌++◌, [], ◌∷◌, IsTrue, IfOk, OnOk, OnErr, IsSome, IfNone, IfSome};
 ghost use Rattle.std.specs.Str.{chars};
 ghost use Rattle.inlinable_string.specs.Text.{size, IsCut, IsPlace, IsSplice, IsRemoval};
 ghost use Rattle.inlinable_string.specs.State.{IsSameText};
@@ -86,6 +86,8 @@ pub fn insert_at<S: StringExt>(text: &mut S, place: usize, part: &str) -> Result
 pub fn remove_at<S: StringExt>(text: &mut S, place: usize) -> Option<char>
     ensures taken { IfSome result
         (λ c. IsRemoval (S.state text.old).text place c (S.state text.new).text) }
+    ensures when { IsSome result ↔ (IsPlace (S.state text.old).text place
+        × (place < size (S.state text.old).text)) }
     ensures none { IfNone result (IsSameText (S.state text.old) (S.state text.new)) }
 {
     if place < text.len() && text.is_char_boundary(place) {
