@@ -1,6 +1,7 @@
 //! Bytes in the place of a text's, as many as it has: each of the three answers, and what it
 //! leaves.
-ghost use Rattle.std.specs.Prelude.{◌≡◌, ◌≢◌, length, IsTrue, IsUtf8};
+ghost use Rattle.std.specs.Prelude.{◌≡◌, ◌≢◌, ◌↔◌, length, map, codes, IsTrue, OnOk, OnErr, IsUtf8};
+ghost use Rattle.std.specs.Char.{to_ascii_uppercase};
 ghost use Rattle.inlinable_string.specs.Text.{bytes_of, size};
 ghost use Rattle.inlinable_string.specs.State.{IsSameText};
 ghost use Rattle.inlinable_string.specs.Values.{inlinable_state};
@@ -11,17 +12,27 @@ use std::alloc::{AllocError, Global};
 
 /// Puts capital letters in the place of small ones.
 pub fn uppercase<S: StringExt>(alloc: Global, text: &mut S) -> Result<(), AllocError>
-    ensures { size (S.state text.new).text ≡ size (S.state text.old).text }
+    ensures size { size (S.state text.new).text ≡ size (S.state text.old).text }
+    ensures ok { OnOk result (bytes_of (S.state text.new).text
+        ≡ map to_ascii_uppercase (bytes_of (S.state text.old).text)) }
+    ensures err { OnErr result (IsSameText (S.state text.old) (S.state text.new)) }
 {
-    let mut bytes: Vec<u8> = Vec::from_slice(alloc, text.as_bytes())?;
-    bytes.make_ascii_uppercase();
-    let _ = text.replace_bytes(&bytes);
+    let capitals = text.as_str().to_ascii_uppercase(alloc)?;
+    let Ok(()) = text.replace_bytes(capitals.as_str().as_bytes()) else {
+        unreachable!();
+    };
     Ok(())
 }
 
 /// Takes the bytes, or says why not.
 pub fn replaced<S: StringExt>(text: &mut S, bytes: &[u8]) -> &'static str
     ensures same { size (S.state text.new).text ≡ size (S.state text.old).text }
+    ensures taken { length bytes.now ≡ size (S.state text.old).text → IsUtf8 bytes.now
+        → (result.now ≡ codes "taken") × (bytes_of (S.state text.new).text ≡ bytes.now) }
+    ensures wrong_length { length bytes.now ≢ size (S.state text.old).text
+        → (result.now ≡ codes "another length") × IsSameText (S.state text.old) (S.state text.new) }
+    ensures not_utf8 { length bytes.now ≡ size (S.state text.old).text → ¬ (IsUtf8 bytes.now)
+        → (result.now ≡ codes "no text") × IsSameText (S.state text.old) (S.state text.new) }
 {
     match text.replace_bytes(bytes) {
         Ok(()) => "taken",
@@ -33,7 +44,8 @@ pub fn replaced<S: StringExt>(text: &mut S, bytes: &[u8]) -> &'static str
 /// Whether the bytes were taken: they are where they are a text of the same length, and only there.
 pub fn take_bytes(text: &mut dyn StringExt, bytes: &[u8]) -> bool
     ensures taken { IsTrue result → bytes_of (state text.new).text ≡ bytes.now }
-    ensures when { IsTrue result → IsUtf8 bytes.now }
+    ensures when { IsTrue result
+        ↔ ((length bytes.now ≡ size (state text.old).text) × IsUtf8 bytes.now) }
     ensures refused { ¬ (IsTrue result) → IsSameText (state text.old) (state text.new) }
 {
     text.replace_bytes(bytes).is_ok()
