@@ -1,6 +1,6 @@
 //! Views: what a caller knows once it has asked for a length, for a capacity or for the storage.
-ghost use Rattle.std.specs.Prelude.{◌≡◌, ◌+◌, ◌≤◌, ◌<◌, ◌↔◌, [], IsTrue, IfNone};
-ghost use Rattle.inlinable_string.specs.Text.{size};
+ghost use Rattle.std.specs.Prelude.{◌≡◌, ℕ, ◌+◌, ◌≤◌, ◌<◌, ◌↔◌, List, ◌++◌, [], ◌∷◌, IsTrue, IfNone, IfSome};
+ghost use Rattle.inlinable_string.specs.Text.{bytes_of, size};
 ghost use Rattle.inlinable_string.specs.State.{HasRoom};
 ghost use Rattle.inlinable_string.specs.Values.{inlinable_state};
 
@@ -45,14 +45,14 @@ pub fn left<const N: usize>(text: &InlineStringN<N>) -> usize
     N - text.len()
 }
 
-/// The bytes are as many as the length says.
+/// The last byte, if there is one: the bytes are as many as the length says.
 pub fn last_byte<S: StringExt>(text: &S) -> Option<u8>
-    ensures { IfNone result (size (S.state text.now).text ≡ 0) }
+    ensures none { IfNone result (size (S.state text.now).text ≡ 0) }
+    ensures last { IfSome result
+        (λ b. (front : List ℕ) × (bytes_of (S.state text.now).text ≡ front ++ b ∷ [])) }
 {
-    if text.is_empty() {
-        return None;
-    }
-    Some(text.as_bytes()[text.len() - 1])
+    let (last, _) = text.as_bytes().split_last()?;
+    Some(*last)
 }
 
 /// Whether the first text has more bytes.
