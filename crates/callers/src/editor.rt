@@ -1,8 +1,10 @@
 //! A line editor: a text in an array, and a cursor that is a place of it after each call.
-ghost use Rattle.std.specs.Prelude.{◌≡◌, ◌+◌, ◌≤◌, ◌<◌, [], ◌∷◌, length, IsTrue, IfOk};
-ghost use Rattle.inlinable_string.specs.Text.{size, IsPlace, IsSplice};
+ghost use Rattle.std.specs.Prelude.{◌≡◌, ℕ, ◌+◌, ◌≤◌, ◌<◌, ◌↔◌, [], ◌∷◌, length, IsTrue, IfOk, OnOk, OnErr};
+ghost use Rattle.std.specs.Str.{chars, IsCharBoundary};
+ghost use Rattle.inlinable_string.specs.Text.{bytes_of, size, IsPlace, IsSplice, IsRemoval};
+ghost use Rattle.inlinable_string.specs.State.{IsSameText};
 
-use inlinable_string::laws::{edits_leave_places, fronts_end_at_places, places_are_boundaries};
+use inlinable_string::laws::{edits_leave_places, places_are_boundaries};
 use inlinable_string::{InlineStringN, StringExt};
 use std::alloc::AllocError;
 
@@ -48,6 +50,11 @@ impl<const N: usize> Line<N> {
         requires { IsPlace self.old.text self.old.cursor }
         ensures place { IsPlace self.new.text self.new.cursor }
         ensures moved { IsTrue result → self.new.cursor ≡ self.old.cursor + length part.now }
+        ensures fits { IsTrue result ↔ (size self.old.text + length part.now ≤ N) }
+        ensures text { IsTrue result
+            → IsSplice self.old.text self.old.cursor (chars part.now) self.new.text }
+        ensures refused { ¬ (IsTrue result)
+            → (self.new.text ≡ self.old.text) × (self.new.cursor ≡ self.old.cursor) }
     {
         match self.text.insert_str(self.cursor, part) {
             Ok(()) => {
@@ -63,54 +70,76 @@ impl<const N: usize> Line<N> {
         requires { IsPlace self.old.text self.old.cursor }
         ensures place { IsPlace self.new.text self.new.cursor }
         ensures stays { self.new.cursor ≡ self.old.cursor }
+        ensures fits { size self.old.text + length part.now ≤ N
+            → IsSplice self.old.text self.old.cursor (chars part.now) self.new.text }
+        ensures full { N < size self.old.text + length part.now → self.new.text ≡ self.old.text }
     {
         edits_leave_places();
         let _ = self.text.insert_str(self.cursor, part);
     }
 
-    /// Takes out the character before the cursor.
+    /// Takes out the character before the cursor, or does nothing at the start.
     pub fn backspace(&mut self)
         requires { IsPlace self.old.text self.old.cursor }
         ensures place { IsPlace self.new.text self.new.cursor }
         ensures back { self.new.cursor ≤ self.old.cursor }
+        ensures taken { 0 < self.old.cursor
+            → (c : ℕ) × IsRemoval self.old.text self.new.cursor c self.new.text }
+        ensures moved { 0 < self.old.cursor → self.new.cursor < self.old.cursor }
+        ensures one { (p : ℕ) → self.new.cursor < p → p < self.old.cursor
+            → ¬ (IsCharBoundary (bytes_of self.old.text) p) }
+        ensures start { self.old.cursor ≡ 0 → self.new.text ≡ self.old.text }
     {
-        self.left();
-        self.delete();
+        if self.cursor > 0 {
+            self.left();
+            self.delete();
+        }
     }
 
-    /// Takes out the character behind the cursor.
+    /// Takes out the character behind the cursor, or does nothing at the end.
     pub fn delete(&mut self)
         requires { IsPlace self.old.text self.old.cursor }
         ensures place { IsPlace self.new.text self.new.cursor }
         ensures stays { self.new.cursor ≡ self.old.cursor }
         ensures size { size self.new.text ≤ size self.old.text }
+        ensures taken { self.old.cursor < size self.old.text
+            → (c : ℕ) × IsRemoval self.old.text self.old.cursor c self.new.text }
+        ensures end { self.old.cursor ≡ size self.old.text → self.new.text ≡ self.old.text }
     {
         if self.cursor < self.text.len() {
             self.text.remove(self.cursor);
         }
     }
 
-    /// Moves the cursor before the character that it stands behind.
+    /// Moves the cursor before the character that it stands behind, if there is one.
     pub fn left(&mut self)
         requires { IsPlace self.old.text self.old.cursor }
         ensures place { IsPlace self.new.text self.new.cursor }
         ensures text { self.new.text ≡ self.old.text }
         ensures back { self.new.cursor ≤ self.old.cursor }
+        ensures moved { 0 < self.old.cursor → self.new.cursor < self.old.cursor }
+        ensures one { (p : ℕ) → self.new.cursor < p → p < self.old.cursor
+            → ¬ (IsCharBoundary (bytes_of self.old.text) p) }
+        ensures before { 0 < self.old.cursor → self.new.cursor < size self.new.text }
     {
         places_are_boundaries();
-        fronts_end_at_places();
-        let mut before = self.text.as_str()[..self.cursor].chars();
-        if before.next_back().is_some() {
-            self.cursor = before.as_str().len();
+        let text = self.text.as_str();
+        let (before, _) = text.split_at(self.cursor);
+        if !before.is_empty() {
+            self.cursor = text.floor_char_boundary(before.len() - 1);
         }
     }
 
-    /// Moves the cursor behind the character that it stands before.
+    /// Moves the cursor behind the character that it stands before, if there is one.
     pub fn right(&mut self)
         requires { IsPlace self.old.text self.old.cursor }
         ensures place { IsPlace self.new.text self.new.cursor }
         ensures text { self.new.text ≡ self.old.text }
         ensures on { self.old.cursor ≤ self.new.cursor }
+        ensures moved { self.old.cursor < size self.old.text → self.old.cursor < self.new.cursor }
+        ensures one { (p : ℕ) → self.old.cursor < p → p < self.new.cursor
+            → ¬ (IsCharBoundary (bytes_of self.old.text) p) }
+        ensures end { self.old.cursor ≡ size self.old.text → self.new.cursor ≡ self.old.cursor }
     {
         if self.cursor < self.text.len() {
             self.cursor = self.text.as_str().ceil_char_boundary(self.cursor + 1);
@@ -157,7 +186,11 @@ impl<const N: usize> Line<N> {
 /// Types a character before the cursor of a text of any length, and tells where the cursor is then.
 pub fn type_into(text: &mut dyn StringExt, cursor: usize, ch: char) -> Result<usize, AllocError>
     requires { IsPlace (state text.old).text cursor }
-    ensures { IfOk result (λ moved. IsPlace (state text.new).text moved) }
+    ensures place { IfOk result (λ moved. IsPlace (state text.new).text moved) }
+    ensures moved { IfOk result (λ moved. moved ≡ cursor + size (ch ∷ [])) }
+    ensures text { OnOk result
+        (IsSplice (state text.old).text cursor (ch ∷ []) (state text.new).text) }
+    ensures err { OnErr result (IsSameText (state text.old) (state text.new)) }
 {
     text.insert(cursor, ch)?;
     // The laws of the text as it is now: no place of it passes `usize::MAX`.
