@@ -1,8 +1,9 @@
 //! Lists of commands: what the replies and the text are where the commands are known.
-ghost use Rattle.std.specs.Prelude.{◌≡◌, ◌↔◌, ℕ, ◌+◌, ◌++◌, [], ◌∷◌, vec_len, IsTrue};
+ghost use Rattle.std.specs.Prelude.{◌≡◌, ◌↔◌, ℕ, ◌+◌, ◌≤◌, List, ◌++◌, [], ◌∷◌, length, map, vec_len, IsTrue, OnOk, OnErr};
 ghost use Rattle.std.specs.Str.{chars};
 ghost use Rattle.inlinable_string.specs.Text.{IsPlace};
 ghost use Rattle.inlinable_string.specs.State.{HasInlineRoom};
+ghost use Rattle.inlinable_string.specs.Run.{EachRun};
 ghost use Rattle.inlinable_string.specs.Values.{inlinable_state};
 
 use inlinable_string::laws::sizes_of_parts;
@@ -15,8 +16,12 @@ use std::alloc::{AllocError, Global};
 
 /// Sets a text by two commands.
 pub fn set_by_run<S: StringExt>(text: &mut S, ch: char) -> bool
-    ensures { IsTrue result → (S.state text.new).text ≡ ch ∷ [] }
+    ensures done { IsTrue result → (S.state text.new).text ≡ ch ∷ [] }
+    ensures refused { ¬ (IsTrue result) → (S.state text.new).text ≡ [] }
+    ensures granted { (S.state text.old).storage ≡ Storage.Inline
+        → 4 ≤ (S.state text.old).policy.limit → IsTrue result }
 {
+    sizes_of_parts();
     let mut replies = [Reply::NoMemory; 2];
     run(text, &[Command::Clear, Command::Push(ch)], &mut replies);
     replies[1] == Reply::Done
@@ -24,8 +29,10 @@ pub fn set_by_run<S: StringExt>(text: &mut S, ch: char) -> bool
 
 /// Adds two letters by commands, behind a `dyn`.
 pub fn letters_by_run(text: &mut dyn StringExt) -> bool
-    ensures { IsTrue result → (state text.new).text ≡ (state text.old).text ++ 97 ∷ 98 ∷ [] }
+    ensures done { IsTrue result → (state text.new).text ≡ (state text.old).text ++ 97 ∷ 98 ∷ [] }
+    ensures granted { HasInlineRoom (state text.old) 2 → IsTrue result }
 {
+    sizes_of_parts();
     let mut replies = [Reply::NoMemory; 2];
     run_dyn(
         text,
@@ -56,9 +63,12 @@ pub fn pop_of_nothing<S: StringExt>(text: &mut S) -> Reply
 
 /// The last character is in the reply, or the text was empty.
 pub fn pop_by_run(text: &mut InlinableString) -> Reply
-    ensures none { result ≡ Reply.NoChar → (inlinable_state 30 text.old).text ≡ [] }
+    ensures none { (result ≡ Reply.NoChar) ↔ ((inlinable_state 30 text.old).text ≡ []) }
     ensures taken { (c : ℕ) → result ≡ Reply.Char c
         → (inlinable_state 30 text.old).text ≡ (inlinable_state 30 text.new).text ++ c ∷ [] }
+    ensures last { (front : List ℕ) (c : ℕ)
+        → (inlinable_state 30 text.old).text ≡ front ++ c ∷ []
+        → (result ≡ Reply.Char c) × ((inlinable_state 30 text.new).text ≡ front) }
 {
     pop_takes_off_the_last_character();
     let mut replies = [Reply::NoMemory; 1];
@@ -68,7 +78,8 @@ pub fn pop_by_run(text: &mut InlinableString) -> Reply
 
 /// A character after a reservation of four bytes is not refused.
 pub fn push_by_run<S: StringExt>(text: &mut S, ch: char) -> bool
-    ensures { IsTrue result → (S.state text.new).text ≡ (S.state text.old).text ++ ch ∷ [] }
+    ensures done { IsTrue result → (S.state text.new).text ≡ (S.state text.old).text ++ ch ∷ [] }
+    ensures granted { HasInlineRoom (S.state text.old) 4 → IsTrue result }
 {
     sizes_of_parts();
     reserved_pushes_never_fail();
@@ -100,8 +111,9 @@ pub fn letters_in_room<S: StringExt>(text: &mut S) -> [Reply; 2]
 
 /// A text that is added after a reservation is not refused.
 pub fn add_by_run<S: StringExt>(text: &mut S, part: &str) -> bool
-    ensures { IsTrue result
+    ensures done { IsTrue result
         → (S.state text.new).text ≡ (S.state text.old).text ++ chars part.now }
+    ensures granted { HasInlineRoom (S.state text.old) (length part.now) → IsTrue result }
 {
     sizes_of_parts();
     reserved_pushes_never_fail();
@@ -124,12 +136,16 @@ pub fn cut_by_run<S: StringExt>(text: &mut S, place: usize) -> bool
     replies[0] == Reply::Done
 }
 
-/// Empties each text.
+/// Empties each text, or none where there is no memory for the replies.
 pub fn clear_all(
     alloc: Global,
     texts: &mut Vec<Box<dyn StringExt + Drop>>,
 ) -> Result<(), AllocError>
-    ensures { vec_len texts.new ≡ vec_len texts.old }
+    ensures count { vec_len texts.new ≡ vec_len texts.old }
+    ensures runs { OnOk result ((replies : List Reply)
+        × EachRun (map state texts.old.items) (Command.Clear ∷ []) replies
+        (map state texts.new.items)) }
+    ensures err { OnErr result (texts.new ≡ texts.old) }
 {
     let mut replies: Vec<Reply> = Vec::new(alloc);
     replies.resize(texts.len(), Reply::NoMemory)?;
