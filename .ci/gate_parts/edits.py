@@ -25,7 +25,7 @@ from gate_parts.edit_files import edits_of, texts_with
 from gate_parts.enclosing import function_changed
 from gate_parts.options import options
 from gate_parts.rooms import changed_files, check, copies, require_proofs
-from gate_parts.said import refused_in
+from gate_parts.said import ill_formed, open_goals, refused_in
 from gate_parts.tree import Failure, crate_folder, crates_with, text_of
 
 FOLDER = 'must-fail-together'
@@ -63,6 +63,22 @@ def groups_of(crate, edits):
     return groups + alone
 
 
+def refused_by(crate, group, said):
+    """The functions that are refused, and by which goals.
+
+    Where an edit changes a definition beside the code, a goal is open too whose answer stands on a
+    lemma that the changed definition refuses: no other proof of it is at hand.
+    """
+    refused = refused_in(crate, said)
+    if changes_a_definition(group) and not ill_formed(said):
+        return {function: open_goals(crate, function, said) for function in refused}
+    return refused
+
+
+def changes_a_definition(group):
+    return any(change.path.startswith('specs/') for edit in group for change in edit.changes)
+
+
 def breaches(group, refused):
     """In words, what the check did not refuse as the edits say."""
     goals = [goal for edit in group for goal in edit.goals]
@@ -88,7 +104,7 @@ def tried(rooms, task):
             said, _ = check(room, crate, 1)
     finally:
         rooms.put(room)
-    found = list(breaches(group, refused_in(crate, said)))
+    found = list(breaches(group, refused_by(crate, group, said)))
     names = ', '.join(edit.name for edit in group)
     how = 'NOT AS THEY MUST BE' if found else 'refused'
     print(f'{crate}: {how}: {names}', *found, sep='\n    ')

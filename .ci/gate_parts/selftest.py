@@ -18,7 +18,8 @@ from gate_parts import hostile_inputs, reading_inputs, said, specified
 from gate_parts.callers import promising
 from gate_parts.counts import misstatements
 from gate_parts.definitions import Reach, cite_copies
-from gate_parts.edit_files import Change, read_edits, texts_with
+from gate_parts.edit_files import Change, Edit, read_edits, texts_with
+from gate_parts.edits import refused_by
 from gate_parts.enclosing import function_changed
 from gate_parts.hostile import Tally, tried
 from gate_parts.readings import shortfalls
@@ -559,6 +560,12 @@ class Reading(unittest.TestCase):
                 'fn toy::run::laws::short: not proved\n')
         self.assertEqual(said.open_goals('toy', 'run::laws::short', text), {'returns-clause-replies'})
         self.assertEqual(said.ill_formed(text), [])
+        for path, open_goals in (('specs/Run.antt', {'returns-clause-replies'}), ('src/run.rt', set())):
+            edit = Edit('short', [], [Change(path, 'a', 'b')])
+            self.assertEqual(refused_by('toy', [edit], text), {'run::laws::short': open_goals}, path)
+        gone = './specs/Run.antt:98:23: error: `IsMet`: `Foo` is not in scope\n'
+        edit = Edit('short', [], [Change('specs/Run.antt', 'a', 'b')])
+        self.assertEqual(refused_by('toy', [edit], gone + text), {'run::laws::short': set()})
 
     def test_what_is_no_refusal(self):
         for line in ('./specs/Run.antt:98:23: error: `IsMet`: `Foo` is not in scope',
