@@ -7,7 +7,14 @@ use Rattle.inlinable_string.proofs.string_ext.utf16.has_unpaired.Goals as goal
 pub loop-i-preserved : goal.loop-i-preserved
 loop-i-preserved c j below =
     let i = c.loop-i.i in
-    ⊎_elim (c.loop-i.invariant j) (λ (h : i ≤ j). let e : i ≡ j = omega arith in subst (λ k. is_unpaired c.args.units.now k ≡ false) e (sym c.is_unpaired.ensures ∙ c.if-is_unpaired.false)) (cases_lt j i)
+    let here = sym c.is_unpaired.ensures ∙ c.if-is_unpaired.false in
+    ⊎_elim (c.loop-i.invariant j)
+    (λ (h : i ≤ j). let e : i ≡ j = omega arith in
+    subst (λ k. is_unpaired c.args.units.now k ≡ false) e here)
+    (cases_lt j i)
 
 pub returns : goal.returns
-returns c = (λ h. absurd (cc), λ some. absurd (none_unpaired _ (λ (j : ℕ) (h : j < length c.args.units.now). c.loop-i.invariant j (omega arith)) some))
+returns c =
+    let none = none_unpaired _
+    (λ (j : ℕ) (h : j < length c.args.units.now). c.loop-i.invariant j (omega arith)) in
+    (λ h. absurd (cc), λ some. absurd (none some))

@@ -17,8 +17,14 @@ loop-i-preserved c =
     let old = c.loop-i.made in
     elim c.match-char_at.branch [
       | goal.in-Some-char_at+in_ok-push w ↦
-          let pushed = popped-chars _ _ _ (IsUtf8-string_bytes c.match-char_at.made) (IsUtf8-string_bytes old) (ap string_bytes w.made-is ∙ w.in_ok-push.ensures.bytes) in
-          pushed ∙ ap (λ t. t ++ w.in-Some-char_at.ch ∷ []) c.loop-i.invariant ∙ ap (λ u. lossy_utf16_before v i ++ u) (sym w.in-Some-char_at.ensures) ∙ sym (lossy_more v i)
+          let made = IsUtf8-string_bytes c.match-char_at.made in
+          let bytes = ap string_bytes w.made-is ∙ w.in_ok-push.ensures.bytes in
+          popped-chars _ _ _ made (IsUtf8-string_bytes old) bytes
+          ∙ ap (λ t. t ++ w.in-Some-char_at.ch ∷ []) c.loop-i.invariant
+          ∙ ap (λ u. lossy_utf16_before v i ++ u) (sym w.in-Some-char_at.ensures)
+          ∙ sym (lossy_more v i)
       | goal.in_default-char_at w ↦
-          ap (λ s. chars (string_bytes s)) w.made-is ∙ c.loop-i.invariant ∙ sym (append-nil _) ∙ ap (λ u. lossy_utf16_before v i ++ u) (sym w.in_default-char_at.ensures) ∙ sym (lossy_more v i)
+          ap (λ s. chars (string_bytes s)) w.made-is ∙ c.loop-i.invariant ∙ sym (append-nil _)
+          ∙ ap (λ u. lossy_utf16_before v i ++ u) (sym w.in_default-char_at.ensures)
+          ∙ sym (lossy_more v i)
     ]

@@ -11,5 +11,6 @@ pub returns-else-count-bytes-clause-value : goal.returns-else-count-bytes-clause
 returns-else-count-bytes-clause-value c =
     let n = c.loop-count.count in
     let rest = drop n c.args.ranges.now in
-    let ended : count_in rest (drop n c.args.bytes.now) ≡ 0 = ap (count_in rest) (drop_all n c.args.bytes.now c.if-count-bytes.false) ∙ none_left rest in
+    let ended : count_in rest (drop n c.args.bytes.now) ≡ 0 =
+    ap (count_in rest) (drop_all n c.args.bytes.now c.if-count-bytes.false) ∙ none_left rest in
     omega (arith, c.loop-count.invariant.1, ended)

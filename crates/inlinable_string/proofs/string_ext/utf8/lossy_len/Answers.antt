@@ -10,7 +10,8 @@ pub returns-in_err-len : goal.returns-in_err-len
 returns-in_err-len c =
     let split = c.split_fault.ensures in
     let text = c.split_fault.result.0.now in
-    let within = size_within c.split_fault.result.1 (λ l. l.now) c.loop-len.rest.now (chars text) split.text in
+    let within = size_within c.split_fault.result.1 (λ l. l.now) c.loop-len.rest.now (chars text)
+    split.text in
     let past : 2 ^ 64 ≤ size (lossy_utf8 c.args.bytes.now) =
     omega (arith, c.in_err-len.ensures, c.loop-len.invariant, size-chars text split.utf8, within) in
     rw c.from_residual.ensures past
@@ -19,21 +20,46 @@ pub returns-in_default : goal.returns-in_default
 returns-in_default c =
     let split = c.split_fault.ensures in
     let text = c.split_fault.result.0.now in
-    let whole = read_whole c.split_fault.result.1 (λ l. l.now) c.loop-len.rest.now (chars text) c.in_default.is split.text in
-    omega (arith, c.in_ok-len.ensures, c.loop-len.invariant, size-chars text split.utf8, ap size whole)
+    let whole = read_whole c.split_fault.result.1 (λ l. l.now) c.loop-len.rest.now (chars text)
+    c.in_default.is split.text in
+    omega (
+      arith,
+      c.in_ok-len.ensures,
+      c.loop-len.invariant,
+      size-chars text split.utf8,
+      ap size whole,
+    )
 
 pub returns-in_err-len-2 : goal.returns-in_err-len-2
 returns-in_err-len-2 c =
     let split = c.split_fault.ensures in
     let text = c.split_fault.result.0.now in
-    let on = size_on c.split_fault.result.1 (λ l. l.now) c.loop-len.rest.now (chars text) c.in-Some.left c.in-Some.is split.text in
+    let on = size_on c.split_fault.result.1 (λ l. l.now) c.loop-len.rest.now (chars text)
+    c.in-Some.left c.in-Some.is split.text in
     let past : 2 ^ 64 ≤ size (lossy_utf8 c.args.bytes.now) =
-    omega (arith, c.in_err-len-2.ensures, c.in_ok-len.ensures, c.len_utf8.ensures.len, c.loop-len.invariant, size-chars text split.utf8, on) in
+    omega (
+      arith,
+      c.in_err-len-2.ensures,
+      c.in_ok-len.ensures,
+      c.len_utf8.ensures.len,
+      c.loop-len.invariant,
+      size-chars text split.utf8,
+      on,
+    ) in
     rw c.from_residual-in_err-len-2.ensures past
 
 pub loop-len-preserved : goal.loop-len-preserved
 loop-len-preserved c =
     let split = c.split_fault.ensures in
     let text = c.split_fault.result.0.now in
-    let on = size_on c.split_fault.result.1 (λ l. l.now) c.loop-len.rest.now (chars text) c.in-Some.left c.in-Some.is split.text in
-    omega (arith, c.in_ok-len-2.ensures, c.in_ok-len.ensures, c.len_utf8.ensures.len, c.loop-len.invariant, size-chars text split.utf8, on)
+    let on = size_on c.split_fault.result.1 (λ l. l.now) c.loop-len.rest.now (chars text)
+    c.in-Some.left c.in-Some.is split.text in
+    omega (
+      arith,
+      c.in_ok-len-2.ensures,
+      c.in_ok-len.ensures,
+      c.len_utf8.ensures.len,
+      c.loop-len.invariant,
+      size-chars text split.utf8,
+      on,
+    )

@@ -17,6 +17,8 @@ returns-in-Err-clause-text c =
     let text = c.from_utf8_unchecked-text.ensures in
     let valid : IsValidUpTo bs c.valid_up_to.result =
     subst (IsValidUpTo bs) (sym c.valid_up_to.ensures) c.in-Err.ensures.cases.1 in
-    let left = take_rest after c.subpart_len.result ∙ ap (λ k. drop k after) c.subpart_len.ensures.value in
-    past_fault bs front after c.valid_up_to.result valid c.split_at.ensures.front c.split_at.ensures.back
+    let left = take_rest after c.subpart_len.result
+    ∙ ap (λ k. drop k after) c.subpart_len.ensures.value in
+    let split = c.split_at.ensures in
+    past_fault bs front after c.valid_up_to.result valid split.front split.back
     ∙ (λ i. chars (sym text i) ++ 0xFFFD ∷ lossy_utf8 (sym left i))

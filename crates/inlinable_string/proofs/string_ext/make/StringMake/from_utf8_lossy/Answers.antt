@@ -11,4 +11,5 @@ returns-in-Ok-clause-text g c =
     is.0 ∙ sym (encodes-chars _ is.1) ∙ ap bytes_of (sym (lossy_all _ is.1))
 
 pub returns-clause-text : goal.returns-clause-text
-returns-clause-text g c = sym (bytes-string c.in_ok-lossy.field-0) ∙ ap bytes_of c.in_ok-lossy.ensures
+returns-clause-text g c =
+    sym (bytes-string c.in_ok-lossy.field-0) ∙ ap bytes_of c.in_ok-lossy.ensures
