@@ -42,7 +42,8 @@ pub placed_insertion : (t u : List ℕ) (p : ℕ)
 placed_insertion t u p =
     done_by_parts t p (λ o. reply_of (insertion u o)) refl (λ parts. refl)
 
-pub placed_truncation : (t : List ℕ) (p : ℕ) → (reply_of (truncation (cut t p)) ≡ Done) ↔ IsPlace t p
+pub placed_truncation : (t : List ℕ) (p : ℕ)
+    → (reply_of (truncation (cut t p)) ≡ Done) ↔ IsPlace t p
 placed_truncation t p = done_by_parts t p (λ o. reply_of (truncation o)) refl (λ parts. refl)
 
 -- an insertion is answered as a bad place exactly where there is none

@@ -22,16 +22,19 @@ pub record Begins (bs : List ℕ) (c : ℕ) (rest : List ℕ) : Type 0 where
 -- UTF-8 that is not empty begins with a character
 first_of : (bs : List ℕ) → 0 < length bs → IsUtf8 bs → (c : ℕ) × (rest : List ℕ) × Begins bs c rest
 first_of bs some ([], (s, e)) = let none = ap length e in absurd (omega arith)
-first_of bs some (c ∷ cs, (s, e)) = (c, encode_utf8_all cs, record { scalar = (and_parts _ _ s).0; joined = sym e })
+first_of bs some (c ∷ cs, (s, e)) =
+    (c, encode_utf8_all cs, record { scalar = (and_parts _ _ s).0; joined = sym e })
 
 -- so does what has UTF-8 at its front, and the character is no longer than that
-front : (bs : List ℕ) (k : ℕ) → 0 < length bs → 0 < k → is_utf8 (take k bs) ≡ true → (c : ℕ) × (rest : List ℕ) × Begins bs c rest × (length (encode_utf8 c) ≤ k)
+front : (bs : List ℕ) (k : ℕ) → 0 < length bs → 0 < k → is_utf8 (take k bs) ≡ true
+    → (c : ℕ) × (rest : List ℕ) × Begins bs c rest × (length (encode_utf8 c) ≤ k)
 front bs k some pos h =
     let l = length-take k bs in
     let f = first_of (take k bs) (omega (arith, l)) (IsUtf8-from_is_utf8 _ h) in (
       f.0,
       f.1 ++ drop k bs,
-      record { scalar = f.2.scalar; joined = sym (take-append-drop k bs) ∙ ap (λ x. x ++ drop k bs) f.2.joined ∙ append_assoc (encode_utf8 f.0) f.1 (drop k bs) },
+      record { scalar = f.2.scalar; joined = sym (take-append-drop k bs)
+        ∙ ap (λ x. x ++ drop k bs) f.2.joined ∙ append_assoc (encode_utf8 f.0) f.1 (drop k bs) },
       omega (arith, l, ap length f.2.joined, length-append (encode_utf8 f.0) f.1),
     )
 
@@ -42,41 +45,61 @@ positive c = omega (arith, length-encode c, len_utf8_bounds c)
 abbrev first_passed : (ℕ → Bool) → ℕ
 first_passed p = cond (p 1) 1 (cond (p 2) 2 (cond (p 3) 3 (cond (p 4) 4 0)))
 
-passed : (p : ℕ → Bool) (n : ℕ) → 0 < n → n ≤ 4 → p n ≡ true → ((k : ℕ) → 0 < k → k < n → p k ≡ false) → first_passed p ≡ n
+passed : (p : ℕ → Bool) (n : ℕ) → 0 < n → n ≤ 4 → p n ≡ true
+    → ((k : ℕ) → 0 < k → k < n → p k ≡ false) → first_passed p ≡ n
 passed p zero a b t f = absurd (omega arith)
 passed p (suc zero) a b t f = cond-true _ _ _ t
-passed p (suc (suc zero)) a b t f = cond-false _ _ _ (f 1 (omega arith) (omega arith)) ∙ cond-true _ _ _ t
-passed p (suc (suc (suc zero))) a b t f = cond-false _ _ _ (f 1 (omega arith) (omega arith)) ∙ cond-false _ _ _ (f 2 (omega arith) (omega arith)) ∙ cond-true _ _ _ t
+passed p (suc (suc zero)) a b t f =
+    cond-false _ _ _ (f 1 (omega arith) (omega arith)) ∙ cond-true _ _ _ t
+passed p (suc (suc (suc zero))) a b t f =
+    cond-false _ _ _ (f 1 (omega arith) (omega arith))
+    ∙ cond-false _ _ _ (f 2 (omega arith) (omega arith)) ∙ cond-true _ _ _ t
 passed p (suc (suc (suc (suc zero)))) a b t f =
-    cond-false _ _ _ (f 1 (omega arith) (omega arith)) ∙ cond-false _ _ _ (f 2 (omega arith) (omega arith)) ∙ cond-false _ _ _ (f 3 (omega arith) (omega arith)) ∙ cond-true _ _ _ t
+    cond-false _ _ _ (f 1 (omega arith) (omega arith))
+    ∙ cond-false _ _ _ (f 2 (omega arith) (omega arith))
+    ∙ cond-false _ _ _ (f 3 (omega arith) (omega arith)) ∙ cond-true _ _ _ t
 passed p (suc (suc (suc (suc (suc n))))) a b t f = absurd (omega arith)
 
 none_passed : (p : ℕ → Bool) → ((k : ℕ) → 0 < k → p k ≡ false) → first_passed p ≡ 0
-none_passed p f = cond-false _ _ _ (f 1 (omega arith)) ∙ cond-false _ _ _ (f 2 (omega arith)) ∙ cond-false _ _ _ (f 3 (omega arith)) ∙ cond-false _ _ _ (f 4 (omega arith))
+none_passed p f =
+    cond-false _ _ _ (f 1 (omega arith)) ∙ cond-false _ _ _ (f 2 (omega arith))
+    ∙ cond-false _ _ _ (f 3 (omega arith)) ∙ cond-false _ _ _ (f 4 (omega arith))
 
 nonempty : (bs : List ℕ) (c : ℕ) (rest : List ℕ) → Begins bs c rest → 0 < length bs
-nonempty bs c rest b = omega (arith, ap length b.joined, length-append (encode_utf8 c) rest, positive c)
+nonempty bs c rest b =
+    omega (arith, ap length b.joined, length-append (encode_utf8 c) rest, positive c)
 
 -- no shorter front of a character is UTF-8
-shorter : (bs : List ℕ) (c : ℕ) (rest : List ℕ) → Begins bs c rest → (k : ℕ) → 0 < k → k < length (encode_utf8 c) → is_utf8 (take k bs) ≡ false
+shorter : (bs : List ℕ) (c : ℕ) (rest : List ℕ) → Begins bs c rest → (k : ℕ) → 0 < k
+    → k < length (encode_utf8 c) → is_utf8 (take k bs) ≡ false
 shorter bs c rest b k pos less = ⊎_elim (λ h.
     let f = front bs k (nonempty bs c rest b) pos h in
     let same = (encode_same c f.0 rest f.1 (sym b.joined ∙ f.2.joined)).0 in
-    absurd (omega (arith, f.3, less, ap (λ x. length (encode_utf8 x)) same))) (λ h. h) (cases_Bool (is_utf8 (take k bs)))
+    absurd (omega (arith, f.3, less, ap (λ x. length (encode_utf8 x)) same))) (λ h. h)
+    (cases_Bool (is_utf8 (take k bs)))
 
-pub len_of_char : (bs : List ℕ) (c : ℕ) (rest : List ℕ) → Begins bs c rest → char_len bs ≡ length (encode_utf8 c)
+pub len_of_char : (bs : List ℕ) (c : ℕ) (rest : List ℕ) → Begins bs c rest
+    → char_len bs ≡ length (encode_utf8 c)
 len_of_char bs c rest b =
     let n = length (encode_utf8 c) in
-    let whole : take n bs ≡ encode_utf8 c = ap (take n) b.joined ∙ take_at (encode_utf8 c) rest n refl in
-    let utf8 : is_utf8 (take n bs) ≡ true = ap is_utf8 whole ∙ is_utf8-from_IsUtf8 _ (IsUtf8-encode c b.scalar) in
-    passed (λ k. is_utf8 (take k bs)) n (positive c) (omega (arith, length-encode c, len_utf8_bounds c)) utf8 (shorter bs c rest b)
+    let whole : take n bs ≡ encode_utf8 c =
+    ap (take n) b.joined
+    ∙ take_at (encode_utf8 c) rest n refl in
+    let utf8 : is_utf8 (take n bs) ≡ true =
+    ap is_utf8 whole
+    ∙ is_utf8-from_IsUtf8 _ (IsUtf8-encode c b.scalar) in
+    passed (λ k. is_utf8 (take k bs)) n (positive c)
+    (omega (arith, length-encode c, len_utf8_bounds c)) utf8 (shorter bs c rest b)
 
 -- no character begins the bytes
 abbrev pub BeginsNone : List ℕ → Type 0
 BeginsNone bs = (c : ℕ) (rest : List ℕ) → Begins bs c rest → ⊥
 
 pub len_of_none : (bs : List ℕ) → 0 < length bs → BeginsNone bs → char_len bs ≡ 0
-len_of_none bs some none = none_passed (λ k. is_utf8 (take k bs)) (λ k pos. ⊎_elim (λ h. let f = front bs k some pos h in absurd (none f.0 f.1 f.2)) (λ h. h) (cases_Bool (is_utf8 (take k bs))))
+len_of_none bs some none =
+    none_passed (λ k. is_utf8 (take k bs))
+    (λ k pos. ⊎_elim (λ h. let f = front bs k some pos h in absurd (none f.0 f.1 f.2)) (λ h. h)
+    (cases_Bool (is_utf8 (take k bs))))
 
 -- to pass over bytes is to drop them
 past : (n : ℕ) (bs : List ℕ) → lossy_utf8_past n bs ≡ lossy_utf8 (drop n bs)
@@ -92,51 +115,74 @@ one_less zero b bs h = absurd (omega arith)
 one_less (suc n) b bs h = let e : suc n - 1 ≡ n = omega arith in ap (λ k. drop k bs) e
 
 -- where a character begins, it comes
-of_char : (bs : List ℕ) (c : ℕ) (rest : List ℕ) → Begins bs c rest → 0 < length bs → lossy_utf8 bs ≡ c ∷ lossy_utf8 rest
+of_char : (bs : List ℕ) (c : ℕ) (rest : List ℕ) → Begins bs c rest → 0 < length bs
+    → lossy_utf8 bs ≡ c ∷ lossy_utf8 rest
 of_char [] c rest b h = absurd (omega arith)
 of_char (x ∷ bs) c rest b h =
     let n = length (encode_utf8 c) in
     let l : char_len (x ∷ bs) ≡ n = len_of_char _ c rest b in
     let some : nat_eq (char_len (x ∷ bs)) 0 ≡ false = grind (arith, nat_tests, l, positive c) in
-    let whole : take (char_len (x ∷ bs)) (x ∷ bs) ≡ encode_utf8 c = (λ i. take (l i) (b.joined i)) ∙ take_at (encode_utf8 c) rest n refl in
-    let left : drop (char_len (x ∷ bs)) (x ∷ bs) ≡ rest = (λ i. drop (l i) (b.joined i)) ∙ drop_at (encode_utf8 c) rest n refl in
+    let whole : take (char_len (x ∷ bs)) (x ∷ bs) ≡ encode_utf8 c =
+    (λ i. take (l i) (b.joined i))
+    ∙ take_at (encode_utf8 c) rest n refl in
+    let left : drop (char_len (x ∷ bs)) (x ∷ bs) ≡ rest =
+    (λ i. drop (l i) (b.joined i))
+    ∙ drop_at (encode_utf8 c) rest n refl in
     cond-false _ _ _ some
     ∙ (λ i. chars (whole i) ++ past (char_len (x ∷ bs) - 1) bs i)
-    ∙ (λ i. chars_one c _ (IsUtf8-encode c b.scalar) refl i ++ lossy_utf8 (one_less (char_len (x ∷ bs)) x bs (omega (arith, l, positive c)) i))
+
+    ∙ (λ i. chars_one c _ (IsUtf8-encode c b.scalar) refl i
+    ++ lossy_utf8 (one_less (char_len (x ∷ bs)) x bs (omega (arith, l, positive c)) i))
     ∙ ap (λ r. c ∷ lossy_utf8 r) left
 
-pub lossy_char : (c : ℕ) (rest : List ℕ) → IsScalar c → lossy_utf8 (encode_utf8 c ++ rest) ≡ c ∷ lossy_utf8 rest
-lossy_char c rest s = let b : Begins (encode_utf8 c ++ rest) c rest = record { scalar = s; joined = refl } in of_char _ c rest b (nonempty _ c rest b)
+pub lossy_char : (c : ℕ) (rest : List ℕ) → IsScalar c
+    → lossy_utf8 (encode_utf8 c ++ rest) ≡ c ∷ lossy_utf8 rest
+lossy_char c rest s =
+    let b : Begins (encode_utf8 c ++ rest) c rest = record { scalar = s; joined = refl } in
+    of_char _ c rest b (nonempty _ c rest b)
 
-lossy_front : (cs rest : List ℕ) → all_scalars cs ≡ true → lossy_utf8 (encode_utf8_all cs ++ rest) ≡ cs ++ lossy_utf8 rest
+lossy_front : (cs rest : List ℕ) → all_scalars cs ≡ true
+    → lossy_utf8 (encode_utf8_all cs ++ rest) ≡ cs ++ lossy_utf8 rest
 lossy_front [] rest s = refl
 lossy_front (c ∷ cs) rest s =
     let p = and_parts _ _ s in
-    ap lossy_utf8 (append_assoc (encode_utf8 c) (encode_utf8_all cs) rest) ∙ lossy_char c (encode_utf8_all cs ++ rest) p.0 ∙ ap (λ l. c ∷ l) (lossy_front cs rest p.1)
+    ap lossy_utf8 (append_assoc (encode_utf8 c) (encode_utf8_all cs) rest)
+    ∙ lossy_char c (encode_utf8_all cs ++ rest) p.0 ∙ ap (λ l. c ∷ l) (lossy_front cs rest p.1)
 
 -- UTF-8 at the front is read as the text that it is
-pub lossy_valid : (valid rest : List ℕ) → IsUtf8 valid → lossy_utf8 (valid ++ rest) ≡ chars valid ++ lossy_utf8 rest
-lossy_valid valid rest u = ap (λ v. lossy_utf8 (v ++ rest)) (sym (encodes-chars valid u)) ∙ lossy_front (chars valid) rest (scalars-chars valid u)
+pub lossy_valid : (valid rest : List ℕ) → IsUtf8 valid
+    → lossy_utf8 (valid ++ rest) ≡ chars valid ++ lossy_utf8 rest
+lossy_valid valid rest u =
+    ap (λ v. lossy_utf8 (v ++ rest)) (sym (encodes-chars valid u))
+    ∙ lossy_front (chars valid) rest (scalars-chars valid u)
 
 pub lossy_all : (bs : List ℕ) → IsUtf8 bs → lossy_utf8 bs ≡ chars bs
 lossy_all bs u = ap lossy_utf8 (sym (append-nil bs)) ∙ lossy_valid bs [] u ∙ append-nil (chars bs)
 
 -- where none begins, U+FFFD comes, and the maximal subpart is passed over
-pub lossy_fault : (bs : List ℕ) → 0 < length bs → BeginsNone bs → lossy_utf8 bs ≡ 0xFFFD ∷ lossy_utf8 (drop (subpart_len bs) bs)
+pub lossy_fault : (bs : List ℕ) → 0 < length bs → BeginsNone bs
+    → lossy_utf8 bs ≡ 0xFFFD ∷ lossy_utf8 (drop (subpart_len bs) bs)
 lossy_fault [] h none = absurd (omega arith)
 lossy_fault (x ∷ bs) h none =
     let zero : nat_eq (char_len (x ∷ bs)) 0 ≡ true = ap (λ n. nat_eq n 0) (len_of_none _ h none) in
-    cond-true _ _ _ zero ∙ ap (λ l. 0xFFFD ∷ l) (past (subpart_len (x ∷ bs) - 1) bs ∙ ap lossy_utf8 (one_less (subpart_len (x ∷ bs)) x bs (omega arith)))
+    cond-true _ _ _ zero
+    ∙ ap (λ l. 0xFFFD ∷ l)
+    (past (subpart_len (x ∷ bs) - 1) bs
+    ∙ ap lossy_utf8 (one_less (subpart_len (x ∷ bs)) x bs (omega arith)))
 
 -- behind the longest front that is UTF-8 no character begins
 pub none_behind : (bs : List ℕ) (n : ℕ) → IsValidUpTo bs n → BeginsNone (drop n bs)
 none_behind bs n v c rest b =
     let m = n + length (encode_utf8 c) in
-    let split : bs ≡ (take n bs ++ encode_utf8 c) ++ rest = sym (take-append-drop n bs) ∙ ap (λ x. take n bs ++ x) b.joined ∙ sym (append_assoc (take n bs) (encode_utf8 c) rest) in
+    let split : bs ≡ (take n bs ++ encode_utf8 c) ++ rest = sym (take-append-drop n bs)
+    ∙ ap (λ x. take n bs ++ x) b.joined ∙ sym (append_assoc (take n bs) (encode_utf8 c) rest) in
     let short = v.short in
-    let long : length (take n bs ++ encode_utf8 c) ≡ m = length-append (take n bs) (encode_utf8 c) ∙ omega (arith, length-take n bs, short) in
-    let whole : take m bs ≡ take n bs ++ encode_utf8 c = ap (take m) split ∙ take_at (take n bs ++ encode_utf8 c) rest m long in
-    v.longest m (omega (arith, positive c)) (subst IsUtf8 (sym whole) (IsUtf8-append _ _ v.front (IsUtf8-encode c b.scalar)))
+    let long : length (take n bs ++ encode_utf8 c) ≡ m = length-append (take n bs) (encode_utf8 c)
+    ∙ omega (arith, length-take n bs, short) in
+    let whole : take m bs ≡ take n bs ++ encode_utf8 c = ap (take m) split
+    ∙ take_at (take n bs ++ encode_utf8 c) rest m long in
+    v.longest m (omega (arith, positive c))
+    (subst IsUtf8 (sym whole) (IsUtf8-append _ _ v.front (IsUtf8-encode c b.scalar)))
 
 -- one step over a text and the maximal subpart behind it
 pub past_fault : (bs valid after : List ℕ) (n : ℕ) → IsValidUpTo bs n → valid ≡ take n bs
