@@ -33,8 +33,11 @@ front bs k some pos h =
     let f = first_of (take k bs) (omega (arith, l)) (IsUtf8-from_is_utf8 _ h) in (
       f.0,
       f.1 ++ drop k bs,
-      record { scalar = f.2.scalar; joined = sym (take-append-drop k bs)
-        ∙ ap (λ x. x ++ drop k bs) f.2.joined ∙ append_assoc (encode_utf8 f.0) f.1 (drop k bs) },
+      record {
+        scalar = f.2.scalar;
+        joined = sym (take-append-drop k bs)
+            ∙ ap (λ x. x ++ drop k bs) f.2.joined ∙ append_assoc (encode_utf8 f.0) f.1 (drop k bs);
+      },
       omega (arith, l, ap length f.2.joined, length-append (encode_utf8 f.0) f.1),
     )
 
@@ -130,7 +133,6 @@ of_char (x ∷ bs) c rest b h =
     ∙ drop_at (encode_utf8 c) rest n refl in
     cond-false _ _ _ some
     ∙ (λ i. chars (whole i) ++ past (char_len (x ∷ bs) - 1) bs i)
-
     ∙ (λ i. chars_one c _ (IsUtf8-encode c b.scalar) refl i
     ++ lossy_utf8 (one_less (char_len (x ∷ bs)) x bs (omega (arith, l, positive c)) i))
     ∙ ap (λ r. c ∷ lossy_utf8 r) left
