@@ -1,7 +1,7 @@
 //! Texts that tests make empty, of every kind.
 ghost use Rattle.std.specs.Prelude.{◌≡◌, [], IfOk};
 
-use crate::ArrayText;
+use crate::{ArrayText, HeapText};
 use inlinable_string::{InlinableStringN, InlineStringN, StringExt, StringMake};
 use std::alloc::{AllocError, Global};
 
@@ -36,6 +36,15 @@ impl<const N: usize> EmptyText for ArrayText<N> {
         match room {
             Some(room) if N < room => Err(AllocError),
             _ => Ok(ArrayText(InlineStringN::new())),
+        }
+    }
+}
+
+impl EmptyText for HeapText {
+    fn empty(alloc: Global, room: Option<usize>) -> Result<Self, AllocError> {
+        match room {
+            Some(room) => StringMake::with_capacity(alloc, room),
+            None => Ok(StringMake::new(alloc)),
         }
     }
 }
