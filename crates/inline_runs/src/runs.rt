@@ -138,18 +138,27 @@ fn wrong_after(
     let (room, start, _) = row;
     // Of arrays, a row tells of those of its own limit alone.
     let mut is_told = !is_array(home) || home == Home::Array(row_limit);
-    let (mut content, mut place) = (start, where_at(start.len(), home));
+    let mut place = where_at(start.len(), home);
+    let mut last = None;
     for (step, &reply) in steps.iter().zip(replies) {
         if !is_told {
             return None;
         }
-        let (_, wanted, new_content, new_place) = step_on(home, content, *step);
+        let (_, wanted, _, new_place) = step_on(home, start, *step);
         if reply != wanted {
             return Some(Wrong::Replies);
         }
         is_told = goes_on(home, step);
-        (content, place) = (new_content, new_place);
+        place = new_place;
+        // What an array refuses leaves the text of the step before it.
+        if is_told {
+            last = Some(*step);
+        }
     }
+    let content = match last {
+        Some((_, _, content, _)) => content,
+        None => start,
+    };
     let storage = match home {
         Home::Either(limit) if limit != row_limit => end.storage,
         _ => storage_of(Kind { home, room }, place),
@@ -216,7 +225,9 @@ fn assert_rows_within<const N: usize>(
     alloc: Global,
     row_limit: usize,
     rows: &[Row],
-) {
+)
+    requires { N ≤ 300 }
+{
     assert_rows::<InlinableStringN<N>>(rt, alloc, Home::Either(N), row_limit, rows);
     assert_rows::<ArrayText<N>>(rt, alloc, Home::Array(N), row_limit, rows);
 }

@@ -1,4 +1,6 @@
 //! Limits other than 30 and 30 itself: none at all, some of few bytes, and one past a byte's range.
+ghost use Rattle.std.specs.Prelude.{◌≤◌};
+
 use crate::places;
 use crate::steps::{
     List, Tally, assert_right, play_alone_within, play_each_alone_within, play_each_within,
@@ -84,7 +86,9 @@ fn reservations_go_by_the_limit_of_the_type(rt: HostRuntime) {
 }
 
 /// Gives growths to a text of as many letters as its limit, at its front and its end.
-fn play_full<const N: usize>(rt: &impl Abort, alloc: Global) -> Tally {
+fn play_full<const N: usize>(rt: &impl Abort, alloc: Global) -> Tally
+    requires { N ≤ 300 }
+{
     let full = whole_of(rt, alloc, "a", N);
     let longer = whole_of(rt, alloc, "a", N.saturating_add(1));
     let (full, longer) = (full.as_str(), longer.as_str());
@@ -101,7 +105,9 @@ fn play_full<const N: usize>(rt: &impl Abort, alloc: Global) -> Tally {
 
 /// Fills the empty text and goes past its limit, by an edit that adds a letter, and gives growths
 /// to the full one.
-fn play_limit<const N: usize>(rt: &impl Abort, alloc: Global) -> Tally {
+fn play_limit<const N: usize>(rt: &impl Abort, alloc: Global) -> Tally
+    requires { N ≤ 300 }
+{
     let times = N.saturating_add(1);
     let pushed = play_repeated_within::<N>(rt, alloc, Push('a'), "a", times)?;
     let inserted = play_repeated_within::<N>(rt, alloc, Insert(0, 'a'), "a", times)?;
@@ -128,7 +134,9 @@ fn as_many_letters_as_the_limit_are_inline_and_no_more(rt: HostRuntime) {
 const CHARACTERS: &[char] = &['a', 'é', '€', '𝄞'];
 
 /// Puts a character in at both ends of so many letters.
-fn play_character<const N: usize>(rt: &impl Abort, alloc: Global, ch: char, count: usize) -> Tally {
+fn play_character<const N: usize>(rt: &impl Abort, alloc: Global, ch: char, count: usize) -> Tally
+    requires { N ≤ 300 }
+{
     let letters = whole_of(rt, alloc, "a", count);
     let mut back = whole_of(rt, alloc, "a", count);
     back.push(ch).expect(rt, "memory");
@@ -144,7 +152,9 @@ fn play_character<const N: usize>(rt: &impl Abort, alloc: Global, ch: char, coun
 }
 
 /// Characters that just fit, and those of which one byte finds no room.
-fn play_edge<const N: usize>(rt: &impl Abort, alloc: Global) -> Tally {
+fn play_edge<const N: usize>(rt: &impl Abort, alloc: Global) -> Tally
+    requires { N ≤ 300 }
+{
     let mut count = 0usize;
     for &ch in CHARACTERS {
         for whole in N..=N.saturating_add(1) {

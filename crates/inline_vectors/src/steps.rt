@@ -1,5 +1,5 @@
 //! Plays tables of steps by the calls of the traits, on every kind of text.
-ghost use Rattle.std.specs.Prelude.{◌≡◌, vec_len, IsOk};
+ghost use Rattle.std.specs.Prelude.{◌≡◌, ◌≤◌, vec_len, IsOk};
 
 use crate::texts::{is_text, text_of};
 use inlinable_string::inline_string::ReplaceError;
@@ -301,12 +301,9 @@ pub fn assert_each_alone(rt: &impl Abort, alloc: Global, lists: &[(&str, &[Step]
 }
 
 /// Plays the steps on an array of this limit and on an inline-or-heap text of it, made new.
-fn play_within<const N: usize>(
-    rt: &impl Abort,
-    alloc: Global,
-    start: &str,
-    steps: &[Step],
-) -> Tally {
+fn play_within<const N: usize>(rt: &impl Abort, alloc: Global, start: &str, steps: &[Step]) -> Tally
+    requires { N ≤ 300 }
+{
     let (array, either) = (new_kind(Home::Array(N)), new_kind(Home::Either(N)));
     let on_array = play_on::<ArrayText<N>>(rt, alloc, array, start, steps)?;
     let on_either = play_on::<InlinableStringN<N>>(rt, alloc, either, start, steps)?;
@@ -318,7 +315,9 @@ pub fn play_each_within<const N: usize>(
     rt: &impl Abort,
     alloc: Global,
     lists: &[(&str, &[Step])],
-) -> Tally {
+) -> Tally
+    requires { N ≤ 300 }
+{
     let mut count = 0usize;
     for (i, &(start, steps)) in lists.iter().enumerate() {
         count = and_list(count, i, play_within::<N>(rt, alloc, start, steps))?;
@@ -332,7 +331,9 @@ pub fn play_alone_within<const N: usize>(
     alloc: Global,
     start: &str,
     steps: &[Step],
-) -> Tally {
+) -> Tally
+    requires { N ≤ 300 }
+{
     let mut count = 0usize;
     for (i, step) in steps.iter().enumerate() {
         count = and_step(count, i, play_within::<N>(rt, alloc, start, &[*step]))?;
@@ -345,7 +346,9 @@ pub fn play_each_alone_within<const N: usize>(
     rt: &impl Abort,
     alloc: Global,
     lists: &[(&str, &[Step])],
-) -> Tally {
+) -> Tally
+    requires { N ≤ 300 }
+{
     let mut count = 0usize;
     for (i, &(start, steps)) in lists.iter().enumerate() {
         count = and_list(count, i, play_alone_within::<N>(rt, alloc, start, steps))?;
@@ -409,7 +412,9 @@ pub fn play_repeated_within<const N: usize>(
     command: Command,
     part: &str,
     times: usize,
-) -> Tally {
+) -> Tally
+    requires { N ≤ 300 }
+{
     let whole = whole_of(rt, alloc, part, times);
     let steps = repeated(rt, alloc, command, times, whole.as_str(), N);
     play_within::<N>(rt, alloc, "", steps.as_slice())
