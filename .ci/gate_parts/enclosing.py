@@ -12,7 +12,7 @@ from gate_parts.edit_files import place_of
 # What may hide braces from the eye: comments, texts and characters (and not lifetimes).
 HIDDEN = re.compile(r'//[^\n]*|/\*.*?\*/|"(?:[^"\\]|\\.)*"|' r"'(?:[^'\\\n]|\\[^\n]+?)'", re.DOTALL)
 # What stands before the brace of a clause, and not of a body.
-CLAUSE = re.compile(r'\b(?:requires|ensures|decreases|invariant|ghost|state|law)\b[^{}]*$')
+CLAUSE = re.compile(r'\b(?:requires|ensures|decreases|invariant|ghost|state(?!\s*:)|law)\b[^{}]*$')
 FUNCTION = re.compile(r'\bfn\s+(\w+)')
 MACRO = re.compile(r'\bmacro_rules!')
 MODULE = re.compile(r'\bmod\s+(\w+)\s*$')
@@ -20,6 +20,11 @@ TRAIT = re.compile(r'\btrait\s+(\w+)')
 IMPL = re.compile(r'\bimpl\b')
 # A part of a path in angle brackets, without further ones inside.
 IN_ANGLES = re.compile(r'<[^<>]*>')
+# The one type that a trait is given, by which a function's path tells it from the same trait of
+# another: `Extend<char>`, `TryFrom<&str>`.
+TRAIT_OF = re.compile(r"(\w+)<(&?)(?:'\w+ )?(?:\w+::)*(\w+)> for ")
+DECLARED = r'\b(?:struct|enum)\s+{}\b'
+IMPORTED = r'\buse\s+((?:\w+::)+)(?:\{{[^}}]*\b)?{}\b'
 
 
 class Body(NamedTuple):
@@ -49,12 +54,28 @@ def module_of(path):
 
 def name_of_impl(header):
     """An impl's part of the path: the type, and the trait behind it."""
+    header = TRAIT_OF.sub(with_its_type, header)
     before = None
     while before != header:
         before, header = header, IN_ANGLES.sub('', header)
     words = header.split('impl', 1)[1].split(' where ')[0].split()
     names = [word.split('::')[-1] for word in words if word != 'for']
     return ''.join(reversed(names))
+
+
+def with_its_type(found):
+    trait, reference, name = found.groups()
+    return f'{trait}{"Ref" if reference else ""}{name[0].upper()}{name[1:]} for '
+
+
+def module_of_type(name, path, text):
+    """The module of a type that a file has an `impl` of, without a trait: its own or another's."""
+    own = module_of(path)
+    found = re.search(IMPORTED.format(name), text)
+    if re.search(DECLARED.format(name), text) or not found:
+        return own
+    first, *others = found[1].split('::')[:-1]
+    return {'crate': [], 'super': own[:-1], 'self': own}.get(first, [first]) + others
 
 
 def opened(start, header, pending):
@@ -70,7 +91,7 @@ def opened(start, header, pending):
     if TRAIT.search(header):
         return Brace(start, 'part', TRAIT.search(header)[1])
     if IMPL.search(header):
-        return Brace(start, 'part', name_of_impl(header))
+        return Brace(start, 'part' if ' for ' in header else 'of a type', name_of_impl(header))
     return Brace(start, 'other', '')
 
 
@@ -96,8 +117,10 @@ def bodies(path, text):
             brace, brackets = stack.pop()
             header_start = at + 1
             if brace.kind == 'body' and all(outer.kind != 'macro' for outer, _ in stack):
-                parts = [outer.name for outer, _ in stack if outer.kind == 'part']
-                function = '::'.join([*module_of(path), *parts, brace.name])
+                parts = [outer.name for outer, _ in stack if outer.kind in ('part', 'of a type')]
+                types = [outer.name for outer, _ in stack if outer.kind == 'of a type']
+                module = module_of_type(types[0], path, plain) if types else module_of(path)
+                function = '::'.join([*module, *parts, brace.name])
                 found.append(Body(brace.start, at, function))
     return found
 
