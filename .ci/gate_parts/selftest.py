@@ -534,6 +534,17 @@ class Reading(unittest.TestCase):
             found = function_changed(source, Change('src/part.rt', old, new))
             self.assertEqual(found, function, (old, new))
 
+    def test_functions_are_named_as_the_prover_names_them(self):
+        source = ('use crate::kept::{Other, Text};\nuse super::Near;\nstruct Own;\n'
+                  'impl<const N: usize> Text<N> {\n    fn one(&self) { 1 }\n}\n'
+                  'impl Near {\n    fn two(&self) { 2 }\n}\nimpl Own {\n    fn three(&self) { 3 }\n}\n'
+                  "impl<'a, const N: usize> Extend<&'a str> for Text<N> {\n    fn four(&self) { 4 }\n}\n"
+                  'impl Hash for Text<3> {\n    fn five<H: Hasher>(&self, state: &mut H) { 5 }\n}\n')
+        for number, function in ((1, 'kept::Text::one'), (2, 'part::Near::two'), (3, 'part::joins::Own::three'),
+                                 (4, 'part::joins::TextExtendRefStr::four'), (5, 'part::joins::TextHash::five')):
+            change = Change('src/part/joins.rt', f'{{ {number} }}', f'{{ {number + 1} }}')
+            self.assertEqual(function_changed(source, change), function)
+
     def test_copies_are_cited_and_types_are_not(self):
         with tempfile.TemporaryDirectory() as place:
             os.mkdir(os.path.join(place, 'src'))
