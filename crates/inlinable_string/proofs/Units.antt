@@ -20,15 +20,18 @@ none_past : (v : List ℕ) (i : ℕ) → length v ≤ i → is_unpaired v i ≡ 
 none_past v i h = rw (get_or_past v i 0 h)
 
 -- so those before it decide
-pub none_unpaired : (v : List ℕ) → ((j : ℕ) → j < length v → is_unpaired v j ≡ false) → HasUnpaired v → ⊥
+pub none_unpaired : (v : List ℕ) → ((j : ℕ) → j < length v → is_unpaired v j ≡ false)
+    → HasUnpaired v → ⊥
 none_unpaired v none some =
-    ⊎_elim (λ h. clash some.1 (none some.0 h)) (λ h. clash some.1 (none_past v some.0 h)) (cases_lt some.0 (length v))
+    ⊎_elim (λ h. clash some.1 (none some.0 h)) (λ h. clash some.1 (none_past v some.0 h))
+    (cases_lt some.0 (length v))
 
 pub all_paired : (v : List ℕ) → (HasUnpaired v → ⊥) → (i : ℕ) → is_unpaired v i ≡ false
 all_paired v none i = ⊎_elim (λ h. absurd (none (i, h))) (λ h. h) (cases_Bool (is_unpaired v i))
 
 -- one more unit
-pub lossy_more : (v : List ℕ) (i : ℕ) → lossy_utf16_before v (i + 1) ≡ lossy_utf16_before v i ++ lossy_unit v i
+pub lossy_more : (v : List ℕ) (i : ℕ) → lossy_utf16_before v (i + 1) ≡ lossy_utf16_before v i
+    ++ lossy_unit v i
 lossy_more v i = ap (lossy_utf16_before v) (add-one i)
 
 -- more units give no fewer bytes
@@ -59,7 +62,8 @@ lossy_counted_within v i h =
 
 units-append : (a b : List ℕ) → units_of (a ++ b) ≡ units_of a ++ units_of b
 units-append [] b = refl
-units-append (c ∷ a) b = ap (λ u. encode_utf16 c ++ u) (units-append a b) ∙ sym (append_assoc (encode_utf16 c) (units_of a) (units_of b))
+units-append (c ∷ a) b = ap (λ u. encode_utf16 c ++ u) (units-append a b)
+    ∙ sym (append_assoc (encode_utf16 c) (units_of a) (units_of b))
 
 -- the numbers of surrogates
 pub high_range : (u : ℕ) → is_high_surrogate u ≡ true → (0xD800 ≤ u) × (u < 0xDC00)
@@ -86,22 +90,27 @@ paired_low false y false b e g f = absurd (clash g refl)
 paired_low true y l b e g f = absurd (clash refl e)
 
 -- what a unit that is paired gives
-gives_pair : (v : List ℕ) (i : ℕ) → is_unpaired v i ≡ false → is_high_at v i ≡ true → lossy_unit v i ≡ surrogate_pair_char (slice_index v i) (slice_index v (i + 1)) ∷ []
+gives_pair : (v : List ℕ) (i : ℕ) → is_unpaired v i ≡ false → is_high_at v i ≡ true
+    → lossy_unit v i ≡ surrogate_pair_char (slice_index v i) (slice_index v (i + 1)) ∷ []
 gives_pair v i u h = cond-false _ _ _ u ∙ cond-true _ _ _ h
 
-gives_none : (v : List ℕ) (i : ℕ) → is_unpaired v i ≡ false → is_high_at v i ≡ false → is_low_at v i ≡ true → lossy_unit v i ≡ []
+gives_none : (v : List ℕ) (i : ℕ) → is_unpaired v i ≡ false → is_high_at v i ≡ false
+    → is_low_at v i ≡ true → lossy_unit v i ≡ []
 gives_none v i u h l = cond-false _ _ _ u ∙ cond-false _ _ _ h ∙ cond-true _ _ _ l
 
-gives_itself : (v : List ℕ) (i : ℕ) → is_unpaired v i ≡ false → is_high_at v i ≡ false → is_low_at v i ≡ false → lossy_unit v i ≡ slice_index v i ∷ []
+gives_itself : (v : List ℕ) (i : ℕ) → is_unpaired v i ≡ false → is_high_at v i ≡ false
+    → is_low_at v i ≡ false → lossy_unit v i ≡ slice_index v i ∷ []
 gives_itself v i u h l = cond-false _ _ _ u ∙ cond-false _ _ _ h ∙ cond-false _ _ _ l
 
 one_unit : (c : ℕ) → c < 0x1_0000 → encode_utf16 c ≡ c ∷ []
 one_unit c h = cond-true _ _ _ (lt-ltb c 0x1_0000 h)
 
-two_units : (c : ℕ) → 0x1_0000 ≤ c → encode_utf16 c ≡ (0xD800 + (c - 0x1_0000) / 0x400) ∷ (0xDC00 + (c - 0x1_0000) % 0x400) ∷ []
+two_units : (c : ℕ) → 0x1_0000 ≤ c
+    → encode_utf16 c ≡ (0xD800 + (c - 0x1_0000) / 0x400) ∷ (0xDC00 + (c - 0x1_0000) % 0x400) ∷ []
 two_units c h = cond-false _ _ _ (le-ltb c 0x1_0000 h)
 
-pair_units : (h l : ℕ) → (0xD800 ≤ h) × (h < 0xDC00) → (0xDC00 ≤ l) × (l < 0xE000) → encode_utf16 (surrogate_pair_char h l) ≡ h ∷ l ∷ []
+pair_units : (h l : ℕ) → (0xD800 ≤ h) × (h < 0xDC00) → (0xDC00 ≤ l) × (l < 0xE000)
+    → encode_utf16 (surrogate_pair_char h l) ≡ h ∷ l ∷ []
 pair_units h l p q =
     let c = surrogate_pair_char h l in
     let first : 0xD800 + (c - 0x1_0000) / 0x400 ≡ h = omega (arith, p.0, p.1, q.0, q.1) in
@@ -118,14 +127,16 @@ module _ (v : List ℕ) (paired : (i : ℕ) → is_unpaired v i ≡ false) where
   low_here (suc i) h = ap (is_low_at v) (sym (add-one i)) ∙ low_after i h
 
   not_before : (i : ℕ) → is_low_at v i ≡ false → is_high_before v i ≡ false
-  not_before i l = ⊎_elim (λ h. absurd (clash (low_here i h) l)) (λ h. h) (cases_Bool (is_high_before v i))
+  not_before i l = ⊎_elim (λ h. absurd (clash (low_here i h) l)) (λ h. h)
+      (cases_Bool (is_high_before v i))
 
   -- how many units those before n have given: a pair is given by its first
   abbrev read_to : ℕ → ℕ
   read_to n = if is_high_before v n then n + 1 else n
 
   low_within : (i : ℕ) → is_low_at v i ≡ true → i < length v
-  low_within i l = ⊎_elim (λ h. h) (λ h. absurd (clash l (rw (get_or_past v i 0 h) refl))) (cases_lt i (length v))
+  low_within i l = ⊎_elim (λ h. h) (λ h. absurd (clash l (rw (get_or_past v i 0 h) refl)))
+      (cases_lt i (length v))
 
   module _ (fits : (i : ℕ) → slice_index v i < 0x1_0000) where
     abbrev StepsAt : ℕ → Type 0
@@ -138,12 +149,15 @@ module _ (v : List ℕ) (paired : (i : ℕ) → is_unpaired v i ≡ false) where
         let l : is_low_at v (n + 1) ≡ true = low_after n h in
         let before : is_high_before v n ≡ false = not_before n (high_is_not_low u h) in
         let gives : units_of (lossy_unit v n) ≡ u ∷ w ∷ [] =
-        ap units_of (gives_pair v n (paired n) h) ∙ append-nil _ ∙ pair_units u w (high_range u h) (low_range w l) in
+        ap units_of (gives_pair v n (paired n) h) ∙ append-nil _
+        ∙ pair_units u w (high_range u h) (low_range w l) in
         let from : take (read_to n) v ≡ take n v = ap (λ k. take k v) (cond-false _ _ _ before) in
-        let to : take (read_to (suc n)) v ≡ take (n + 1 + 1) v = ap (λ k. take k v) (cond-true _ _ _ h ∙ ap (λ k. k + 1) (sym (add-one n))) in
+        let to : take (read_to (suc n)) v ≡ take (n + 1 + 1) v =
+        ap (λ k. take k v) (cond-true _ _ _ h ∙ ap (λ k. k + 1) (sym (add-one n))) in
         let within : n + 1 < length v = low_within (n + 1) l in
         let both : take (n + 1 + 1) v ≡ take n v ++ u ∷ w ∷ [] =
-        take_more v (n + 1) 0 within ∙ ap (λ x. x ++ w ∷ []) (take_more v n 0 below) ∙ append_assoc (take n v) (u ∷ []) (w ∷ []) in
+        take_more v (n + 1) 0 within ∙ ap (λ x. x ++ w ∷ []) (take_more v n 0 below)
+        ∙ append_assoc (take n v) (u ∷ []) (w ∷ []) in
         (λ i. from i ++ gives i) ∙ sym both ∙ sym to
 
     one_more : (n : ℕ) → is_high_at v n ≡ false → take (read_to (suc n)) v ≡ take (n + 1) v
@@ -152,19 +166,24 @@ module _ (v : List ℕ) (paired : (i : ℕ) → is_unpaired v i ≡ false) where
     low : (n : ℕ) → is_high_at v n ≡ false → is_low_at v n ≡ true → StepsAt n
     low n h l =
         let before : is_high_before v n ≡ true = paired_low _ _ _ _ h l (paired n) in
-        let from : take (read_to n) v ≡ take (n + 1) v = ap (λ k. take k v) (cond-true _ _ _ before) in
-        (λ i. from i ++ units_of (gives_none v n (paired n) h l i)) ∙ append-nil _ ∙ sym (one_more n h)
+        let from : take (read_to n) v ≡ take (n + 1) v =
+        ap (λ k. take k v) (cond-true _ _ _ before) in
+        (λ i. from i ++ units_of (gives_none v n (paired n) h l i)) ∙ append-nil _
+        ∙ sym (one_more n h)
 
     plain : (n : ℕ) → n < length v → is_high_at v n ≡ false → is_low_at v n ≡ false → StepsAt n
     plain n below h l =
         let u = slice_index v n in
         let before : is_high_before v n ≡ false = not_before n l in
         let from : take (read_to n) v ≡ take n v = ap (λ k. take k v) (cond-false _ _ _ before) in
-        let gives : units_of (lossy_unit v n) ≡ u ∷ [] = ap units_of (gives_itself v n (paired n) h l) ∙ append-nil _ ∙ one_unit u (fits n) in
+        let gives : units_of (lossy_unit v n) ≡ u ∷ [] =
+        ap units_of (gives_itself v n (paired n) h l) ∙ append-nil _ ∙ one_unit u (fits n) in
         (λ i. from i ++ gives i) ∙ sym (take_more v n 0 below) ∙ sym (one_more n h)
 
     step : (n : ℕ) → n < length v → StepsAt n
-    step n below = ⊎_elim (high n below) (λ h. ⊎_elim (low n h) (plain n below h) (cases_Bool (is_low_at v n))) (cases_Bool (is_high_at v n))
+    step n below = ⊎_elim (high n below)
+        (λ h. ⊎_elim (low n h) (plain n below h) (cases_Bool (is_low_at v n)))
+        (cases_Bool (is_high_at v n))
 
     read : (n : ℕ) → n ≤ length v → units_of (lossy_utf16_before v n) ≡ take (read_to n) v
     read zero h = refl
@@ -176,58 +195,82 @@ module _ (v : List ℕ) (paired : (i : ℕ) → is_unpaired v i ≡ false) where
     -- units of which each is paired are those of the text that they are read as
     pub units-lossy : units_of (lossy_utf16 v) ≡ v
     units-lossy =
-        let none : is_low_at v (length v) ≡ false = rw (get_or_past v (length v) 0 (omega arith)) refl in
-        read (length v) (omega arith) ∙ ap (λ k. take k v) (cond-false _ _ _ (not_before (length v) none)) ∙ take_all (length v) v (omega arith)
+        let none : is_low_at v (length v) ≡ false =
+        rw (get_or_past v (length v) 0 (omega arith)) refl in
+        read (length v) (omega arith)
+        ∙ ap (λ k. take k v) (cond-false _ _ _ (not_before (length v) none))
+        ∙ take_all (length v) v (omega arith)
 
 -- the other way round: of a text's units each is paired
 -- the same with the next place as a successor, which computes
 abbrev unpaired_next : List ℕ → ℕ → ℕ → Bool
-unpaired_next v i next = (is_high_at v i && not (is_low_at v next)) || (is_low_at v i && not (is_high_before v i))
+unpaired_next v i next = (is_high_at v i && not (is_low_at v next)) ||
+    (is_low_at v i && not (is_high_before v i))
 
 by_next : (v : List ℕ) (i : ℕ) → is_unpaired v i ≡ unpaired_next v i (suc i)
 by_next v i = ap (unpaired_next v i) (add-one i)
 
-past_first : (u : ℕ) (v : List ℕ) (i : ℕ) → is_high_surrogate u ≡ false → is_unpaired (u ∷ v) (suc i) ≡ is_unpaired v i
-past_first u v zero h = ap (λ b. (is_high_at v 0 && not (is_low_at v 1)) || (is_low_at v 0 && not b)) h
+past_first : (u : ℕ) (v : List ℕ) (i : ℕ) → is_high_surrogate u ≡ false
+    → is_unpaired (u ∷ v) (suc i) ≡ is_unpaired v i
+past_first u v zero h = ap
+    (λ b. (is_high_at v 0 && not (is_low_at v 1)) || (is_low_at v 0 && not b)) h
 past_first u v (suc i) h = by_next (u ∷ v) (suc (suc i)) ∙ sym (by_next v (suc i))
 
-scalar_is_no_surrogate : (c : ℕ) → IsScalar c → (is_high_surrogate c ≡ false) × (is_low_surrogate c ≡ false)
+scalar_is_no_surrogate : (c : ℕ) → IsScalar c
+    → (is_high_surrogate c ≡ false) × (is_low_surrogate c ≡ false)
 scalar_is_no_surrogate c s = ⊎_elim
     (λ h. (and_left _ _ (lt-leb 0xD800 c h), and_left _ _ (lt-leb 0xDC00 c (omega (arith, h)))))
-    (λ h. (and_right _ _ (le-ltb c 0xDC00 (omega (arith, h.0))), and_right _ _ (le-ltb c 0xE000 h.0)))
+    (λ h. (
+      and_right _ _ (le-ltb c 0xDC00 (omega (arith, h.0))),
+      and_right _ _
+          (le-ltb c 0xE000 h.0),
+    ))
     (scalar_cases c s)
 
 scalar_below : (c : ℕ) → IsScalar c → c < 0x11_0000
 scalar_below c s = ⊎_elim (λ h. omega (arith, h)) (λ h. h.1) (scalar_cases c s)
 
 -- the two units of a character above U+FFFF
-first_is_high : (c : ℕ) → 0x1_0000 ≤ c → c < 0x11_0000 → is_high_surrogate (0xD800 + (c - 0x1_0000) / 0x400) ≡ true
-first_is_high c l h = let u = 0xD800 + (c - 0x1_0000) / 0x400 in and_from _ _ (le-leb 0xD800 u (omega arith)) (lt-ltb u 0xDC00 (omega (arith, l, h)))
+first_is_high : (c : ℕ) → 0x1_0000 ≤ c → c < 0x11_0000
+    → is_high_surrogate (0xD800 + (c - 0x1_0000) / 0x400) ≡ true
+first_is_high c l h = let u =
+    0xD800 + (c - 0x1_0000) / 0x400 in
+    and_from _ _ (le-leb 0xD800 u (omega arith)) (lt-ltb u 0xDC00 (omega (arith, l, h)))
 
 second_is_low : (c : ℕ) → is_low_surrogate (0xDC00 + (c - 0x1_0000) % 0x400) ≡ true
-second_is_low c = let u = 0xDC00 + (c - 0x1_0000) % 0x400 in and_from _ _ (le-leb 0xDC00 u (omega arith)) (lt-ltb u 0xE000 (omega arith))
+second_is_low c = let u =
+    0xDC00 + (c - 0x1_0000) % 0x400 in
+    and_from _ _ (le-leb 0xDC00 u (omega arith)) (lt-ltb u 0xE000 (omega arith))
 
 low_is_not_high : (u : ℕ) → is_low_surrogate u ≡ true → is_high_surrogate u ≡ false
 low_is_not_high u l = and_right _ _ (le-ltb u 0xDC00 (low_range u l).0)
 
-pair_is_paired : (h l : ℕ) (v : List ℕ) → is_high_surrogate h ≡ true → is_low_surrogate l ≡ true → ((i : ℕ) → is_unpaired v i ≡ false) → (i : ℕ) → is_unpaired (h ∷ l ∷ v) i ≡ false
+pair_is_paired : (h l : ℕ) (v : List ℕ) → is_high_surrogate h ≡ true → is_low_surrogate l ≡ true
+    → ((i : ℕ) → is_unpaired v i ≡ false) → (i : ℕ) → is_unpaired (h ∷ l ∷ v) i ≡ false
 pair_is_paired h l v p q rest zero = rw (p, q, high_is_not_low h p) refl
 pair_is_paired h l v p q rest (suc zero) = rw (p, q, low_is_not_high l q) refl
-pair_is_paired h l v p q rest (suc (suc i)) = by_next (h ∷ l ∷ v) (suc (suc i)) ∙ sym (by_next (l ∷ v) (suc i)) ∙ past_first l v i (low_is_not_high l q) ∙ rest i
+pair_is_paired h l v p q rest (suc (suc i)) =
+    by_next (h ∷ l ∷ v) (suc (suc i)) ∙ sym (by_next (l ∷ v) (suc i))
+    ∙ past_first l v i (low_is_not_high l q) ∙ rest i
 
-one_is_paired : (u : ℕ) (v : List ℕ) → is_high_surrogate u ≡ false → is_low_surrogate u ≡ false → ((i : ℕ) → is_unpaired v i ≡ false) → (i : ℕ) → is_unpaired (u ∷ v) i ≡ false
+one_is_paired : (u : ℕ) (v : List ℕ) → is_high_surrogate u ≡ false → is_low_surrogate u ≡ false
+    → ((i : ℕ) → is_unpaired v i ≡ false) → (i : ℕ) → is_unpaired (u ∷ v) i ≡ false
 one_is_paired u v p q rest zero = rw (p, q) refl
 one_is_paired u v p q rest (suc i) = past_first u v i p ∙ rest i
 
-pub text_is_paired : (t : List ℕ) → all_scalars t ≡ true → (i : ℕ) → is_unpaired (units_of t) i ≡ false
+pub text_is_paired : (t : List ℕ) → all_scalars t ≡ true → (i : ℕ)
+    → is_unpaired (units_of t) i ≡ false
 text_is_paired [] s i = none_past [] i (omega arith)
 text_is_paired (c ∷ t) s i =
     let p = and_parts _ _ s in
     let rest = text_is_paired t p.1 in
     let n = scalar_is_no_surrogate c p.0 in
     ⊎_elim
-    (λ h. ap (λ u. is_unpaired (u ++ units_of t) i) (one_unit c h) ∙ one_is_paired c (units_of t) n.0 n.1 rest i)
-    (λ h. ap (λ u. is_unpaired (u ++ units_of t) i) (two_units c h) ∙ pair_is_paired _ _ (units_of t) (first_is_high c h (scalar_below c p.0)) (second_is_low c) rest i)
+    (λ h. ap (λ u. is_unpaired (u ++ units_of t) i) (one_unit c h)
+    ∙ one_is_paired c (units_of t) n.0 n.1 rest i)
+    (λ h. ap (λ u. is_unpaired (u ++ units_of t) i) (two_units c h)
+    ∙ pair_is_paired _ _ (units_of t) (first_is_high c h (scalar_below c p.0))
+    (second_is_low c) rest i)
     (cases_lt c 0x1_0000)
 
 -- a text's units are read as the text
@@ -245,7 +288,8 @@ next_behind u v n =
 behind_one : (u : ℕ) (v : List ℕ) (n : ℕ) → is_high_surrogate u ≡ false
     → lossy_unit (u ∷ v) (suc n) ≡ lossy_unit v n
 behind_one u v n h i =
-    given (past_first u v n h i) (is_high_at v n) (is_low_at v n) (slice_index v n) (next_behind u v n i)
+    given (past_first u v n h i) (is_high_at v n) (is_low_at v n) (slice_index v n)
+    (next_behind u v n i)
 
 -- so they do behind a pair
 behind_pair : (h l : ℕ) (v : List ℕ) (n : ℕ) → is_high_surrogate l ≡ false
@@ -254,7 +298,8 @@ behind_pair h l v n not_high =
     let paired : is_unpaired (h ∷ l ∷ v) (suc (suc n)) ≡ is_unpaired (l ∷ v) (suc n) =
     by_next (h ∷ l ∷ v) (suc (suc n)) ∙ sym (by_next (l ∷ v) (suc n)) in
     let same : lossy_unit (h ∷ l ∷ v) (suc (suc n)) ≡ lossy_unit (l ∷ v) (suc n) =
-    λ i. given (paired i) (is_high_at v n) (is_low_at v n) (slice_index v n) (next_behind h (l ∷ v) (suc n) i) in
+    λ i. given (paired i) (is_high_at v n) (is_low_at v n) (slice_index v n)
+    (next_behind h (l ∷ v) (suc n) i) in
     same ∙ behind_one l v n not_high
 
 -- what the first units give is followed by what those behind them give
@@ -270,8 +315,10 @@ read_behind w v x at first more (suc n) =
 one_is_read : (u : ℕ) (v : List ℕ) → is_high_surrogate u ≡ false → is_low_surrogate u ≡ false
     → lossy_utf16 (u ∷ v) ≡ u ∷ lossy_utf16 v
 one_is_read u v h l =
-    let first : lossy_utf16_before (u ∷ v) 1 ≡ u ∷ [] = gives_itself (u ∷ v) 0 (rw (h, l) refl) h l in
-    read_behind (u ∷ v) v (u ∷ []) suc first (λ n. ap (λ y. lossy_utf16_before (u ∷ v) (suc n) ++ y) (behind_one u v n h)) (length v)
+    let first : lossy_utf16_before (u ∷ v) 1 ≡ u ∷ [] =
+    gives_itself (u ∷ v) 0 (rw (h, l) refl) h l in
+    read_behind (u ∷ v) v (u ∷ []) suc first
+    (λ n. ap (λ y. lossy_utf16_before (u ∷ v) (suc n) ++ y) (behind_one u v n h)) (length v)
 
 pair_is_read : (h l : ℕ) (v : List ℕ) → is_high_surrogate h ≡ true → is_low_surrogate l ≡ true
     → lossy_utf16 (h ∷ l ∷ v) ≡ surrogate_pair_char h l ∷ lossy_utf16 v
@@ -282,7 +329,9 @@ pair_is_read h l v p q =
     gives_pair w 0 (rw (p, q, high_is_not_low h p) refl) p in
     let low : lossy_unit w 1 ≡ [] = gives_none w 1 (rw (p, q, not_high) refl) not_high q in
     let first : lossy_utf16_before w 2 ≡ surrogate_pair_char h l ∷ [] = λ i. high i ++ low i in
-    read_behind w v (surrogate_pair_char h l ∷ []) (λ n. suc (suc n)) first (λ n. ap (λ y. lossy_utf16_before w (suc (suc n)) ++ y) (behind_pair h l v n not_high)) (length v)
+    read_behind w v (surrogate_pair_char h l ∷ []) (λ n. suc (suc n)) first
+    (λ n. ap (λ y. lossy_utf16_before w (suc (suc n)) ++ y) (behind_pair h l v n not_high))
+    (length v)
 
 pair_of : (c : ℕ) → 0x1_0000 ≤ c
     → surrogate_pair_char (0xD800 + (c - 0x1_0000) / 0x400) (0xDC00 + (c - 0x1_0000) % 0x400) ≡ c

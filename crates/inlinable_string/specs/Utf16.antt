@@ -1,5 +1,6 @@
 -- UTF-16: the units of a text, and what any list of units is read as (the Unicode Standard,
--- sections 3.8 and 3.9). A high surrogate directly before a low one is a pair, and they are partners.
+-- sections 3.8 and 3.9). A high surrogate directly before a low one is a pair, and they are
+-- partners.
 use Rattle.std.specs.Prelude.{ℕ, zero, suc, ◌+◌, List, [], ◌∷◌, ◌++◌, length, Bool, false, not, ◌&&◌, ◌||◌, if◌then◌else◌, IsTrue, slice_index}
 use Rattle.std.specs.List.{flat_map}
 use Rattle.std.specs.Char.Escape.{encode_utf16}
