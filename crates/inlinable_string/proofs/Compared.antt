@@ -1,5 +1,5 @@
 -- Equality and order, which go by the bytes.
-use Rattle.std.proofs.Common.{◌≡◌, ◌↔◌, ℕ, List, Bool, true, IsTrue, refl, sym, ap, ◌∙◌, nat_eq}
+use Rattle.std.proofs.Common.{◌≡◌, ◌↔◌, ℕ, List, true, IsTrue, refl, sym, ap, ◌∙◌, nat_eq}
 use Rattle.std.specs.Str.{all_scalars}
 use Rattle.std.specs.Ordering.{is_eq, nat_cmp}
 use Rattle.std.specs.Cmp.Lexicographic.{pointwise, slice_cmp, texts_ties, bytes_decides}
