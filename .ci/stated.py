@@ -16,7 +16,7 @@ STATED = {
         '{crates} crates, the {edits_alone} edits of `must-fail/`, {tests} tests',
         '{edits_together} edits of code ({library_edits} of the library, {plain_edits} of the plain '
         'program, {script_edits} of the script language)',
-        '{wrong_definitions} wrong definitions, each alone',
+        '{wrong_definitions} wrong definitions, several in one check where none changes what another goes by',
         '{callers} callers, and {wrong_clauses} weaker clauses',
         '{refusal_builds} builds of tests, with each request for memory refused in turn: '
         '{requests} of them, met {meetings} times',
