@@ -41,4 +41,4 @@ WRONG_DEFINITIONS = {'inlinable_string': 140, 'script_language': 98}
 
 # Edits in `wrong-clauses/`, and public functions of `callers` that promise something.
 WRONG_CLAUSES = 5
-CALLERS = 141
+CALLERS = 142

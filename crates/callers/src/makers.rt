@@ -1,5 +1,5 @@
 //! Texts from bytes and from UTF-16, and taken apart again.
-ghost use Rattle.std.specs.Prelude.{◌≡◌, ◌≤◌, ◌<◌, ◌↔◌, [], ◌∷◌, length, IfOk, IfErr, IfSome, IfNone, IsOk, Err, IsUtf8, true};
+ghost use Rattle.std.specs.Prelude.{◌≡◌, ◌≤◌, ◌<◌, ◌↔◌, [], ◌∷◌, ◌++◌, length, IfOk, IfErr, IfSome, IfNone, IsOk, Err, IsUtf8, true};
 ghost use Rattle.std.specs.Str.{chars};
 ghost use Rattle.std.specs.String.{string_bytes};
 ghost use Rattle.std.specs.Cow.{IsBorrowedStr};
@@ -7,6 +7,7 @@ ghost use Rattle.inlinable_string.specs.Text.{bytes_of, size};
 ghost use Rattle.inlinable_string.specs.Utf16.{units_of, HasUnpaired, lossy_utf16};
 ghost use Rattle.inlinable_string.specs.Values.{inlinable_state};
 
+use inlinable_string::laws::bytes_of_parts;
 use inlinable_string::string_ext::laws::{bytes_give_the_text_back, utf16_is_read_as_it_is};
 use inlinable_string::{
     InlinableString, InlinableStringN, InlineStringN, Storage, StringExt, StringMake, Utf16Error,
@@ -80,6 +81,18 @@ pub fn through_bytes<S: StringMake + Drop>(alloc: Global, text: S) -> Result<S, 
     let _ = text.len();
     let bytes = text.into_bytes()?;
     Ok(unsafe { S::from_utf8_unchecked(alloc, bytes) })
+}
+
+/// The bytes of a text and of a word behind it, or nothing where memory is refused.
+pub fn bytes_with<S: StringMake + Drop>(text: S, word: &str) -> Option<Vec<u8>>
+    ensures { IfSome result (λ bytes. bytes.items ≡ bytes_of (S.state text).text ++ word.now) }
+{
+    bytes_of_parts();
+    let mut text = text;
+    match text.push_str(word) {
+        Ok(()) => text.into_bytes().ok(),
+        Err(AllocError) => None,
+    }
 }
 
 /// Bytes to be printed: they are copied only where they are not UTF-8.

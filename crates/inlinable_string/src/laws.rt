@@ -51,6 +51,13 @@ pub fn parts_are_told_by_their_size()
     ensures { (a b : List ℕ) → cut (a ++ b) (size a) ≡ Some (a, b) }
 {}
 
+/// The bytes of a text in two parts are those of the first and then those of the second, and the
+/// bytes of the text of a `&str` are its own.
+pub fn bytes_of_parts()
+    ensures joined { (a b : List ℕ) → bytes_of (a ++ b) ≡ bytes_of a ++ bytes_of b }
+    ensures string { (bs : List ℕ) → IsUtf8 bs → bytes_of (chars bs) ≡ bs }
+{}
+
 /// How many bytes a text in two parts has, a character at most, and the text of a `&str`.
 pub fn sizes_of_parts()
     ensures joined { (a b : List ℕ) → size (a ++ b) ≡ size a + size b }
