@@ -31,9 +31,20 @@ def below(crate, function):
 
 
 def errors_in(said):
-    """Each error: its line, the file, and what is wrong."""
-    errors = map(ERROR.match, said.splitlines())
+    """Each error: its line with those behind it, the file, and what is wrong."""
+    errors = map(ERROR.match, joined_lines(said))
     return [(found[0], found[1], found[2]) for found in errors if found]
+
+
+def joined_lines(said):
+    """The lines of a text, each with the indented ones behind it, in which it goes on."""
+    lines = []
+    for line in said.splitlines():
+        if lines and line.startswith('  '):
+            lines[-1] += ' ' + line.strip()
+        else:
+            lines.append(line)
+    return lines
 
 
 def refused_in(crate, said):
