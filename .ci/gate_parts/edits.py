@@ -5,13 +5,15 @@ it.
 
 Most of the time of a check goes to reading what an edit has not changed. So edits that each change
 the body of one function, no two of the same one, are tried in one check. It is as strict as to try
-each alone, and stricter than `rt must-fail`: the check must leave open, in each function, the goals
-that the edit names, and no other function may be refused by a goal of its own. One that is refused
-only since it calls such a function does not count.
+each alone: a function is proved from the contracts of those that it calls, so a changed body breaks
+no other, and in each function the goals must stay open that the edit names. One that is refused only
+since it calls such a function does not count. Nor does a goal whose answer names what the edit has
+taken away: such an edit brings the answers up to date too, so that what refuses it is the goal.
 
 An edit of several functions, or of anything but the body of the function that it names (a macro, a
-constant), has a check of its own: what it breaks beyond that can't be taken for the work of another
-edit, nor stand for another's goal.
+constant), has a check of its own: what it breaks beyond that can't stand for another edit's goal.
+
+Only the functions that the edits name are checked: what else an edit breaks is not looked for.
 """
 import os
 import sys
@@ -19,13 +21,14 @@ from collections import Counter
 from concurrent.futures import ThreadPoolExecutor
 from functools import partial
 from queue import SimpleQueue
+from time import monotonic
 
 from floors import EDITS
 from gate_parts.edit_files import edits_of, texts_with
 from gate_parts.enclosing import function_changed
 from gate_parts.options import options
-from gate_parts.rooms import changed_files, check, copies, require_proofs
-from gate_parts.said import ill_formed, open_goals, refused_in
+from gate_parts.rooms import changed_files, check, copies, only, require_proofs
+from gate_parts.said import answers_of, ill_formed, open_goals, refused_in
 from gate_parts.tree import Failure, crate_folder, crates_with, text_of
 
 FOLDER = 'must-fail-together'
@@ -44,10 +47,16 @@ def own_edits(crate):
 
 
 def stays_in_its_function(crate, edit):
-    """Whether the edit changes nothing but the body of the one function that it names."""
-    changed = {function_changed(text_of(os.path.join(crate_folder(crate), change.path)), change)
-               for change in edit.changes}
+    """Whether the edit changes nothing but the body of the one function that it names, and its answers."""
+    changed = {function_whose(crate, change) for change in edit.changes}
     return changed == {goal.function for goal in edit.goals} and len(changed) == 1
+
+
+def function_whose(crate, change):
+    """The function whose body or whose answers the change stands in; None where it is neither."""
+    if change.path.startswith('proofs/'):
+        return answers_of(change.path)
+    return function_changed(text_of(os.path.join(crate_folder(crate), change.path)), change)
 
 
 def groups_of(crate, edits):
@@ -81,13 +90,15 @@ def changes_a_definition(group):
 
 def breaches(group, refused):
     """In words, what the check did not refuse as the edits say."""
-    goals = [goal for edit in group for goal in edit.goals]
-    for goal in goals:
+    for goal in (goal for edit in group for goal in edit.goals):
         left = refused.get(goal.function, ())
         if goal.name not in left:
             yield f'{goal.function}: {goal.name} is not refused; open goals of it: {listed(left)}'
-    for function in sorted(refused.keys() - {goal.function for goal in goals}):
-        yield f'{function} is refused too: {listed(refused[function])}'
+
+
+def functions_of(group):
+    """The words by which `rt` checks alone the functions that the group names."""
+    return only(sorted({goal.function for edit in group for goal in edit.goals}))
 
 
 def listed(names):
@@ -97,17 +108,17 @@ def listed(names):
 def tried(rooms, task):
     """Tries a group of edits of a crate in a copy that no other try uses."""
     crate, group = task
-    room = rooms.get()
+    room, start = rooms.get(), monotonic()
     try:
         folder = crate_folder(crate, room)
         with changed_files(folder, texts_with(folder, group)):
-            said, _ = check(room, crate, 1)
+            said, _ = check(room, crate, 1, *functions_of(group))
     finally:
         rooms.put(room)
     found = list(breaches(group, refused_by(crate, group, said)))
     names = ', '.join(edit.name for edit in group)
     how = 'NOT AS THEY MUST BE' if found else 'refused'
-    print(f'{crate}: {how}: {names}', *found, sep='\n    ')
+    print(f'{crate}: {how}, after {monotonic() - start:.0f} s: {names}', *found, sep='\n    ')
     if found:
         print(said)
     sys.stdout.flush()

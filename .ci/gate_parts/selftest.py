@@ -152,8 +152,9 @@ class Edits(InSmallRepository):
     def test_edit_whose_goal_stays_proved(self):
         self.assert_fails('returns-clause-value is not refused', 'edits', '--jobs', '1', WORD='    2\n', REFUSED='')
 
-    def test_edit_that_another_function_refuses_too(self):
-        self.assert_fails('other is refused too', 'edits', '--jobs', '1', WORD='    2\n', REFUSED='toy/one toy/other')
+    def test_edit_is_tried_at_the_functions_that_it_names(self):
+        self.assert_passes('edits', '--jobs', '1', WORD='    2\n', REFUSED='toy/one toy/other')
+        self.assert_fails('returns-clause-value is not refused', 'edits', '--jobs', '1', WORD='    2\n', REFUSED='toy/other')
 
     def test_edit_of_another_goal(self):
         self.write('crates/toy/must-fail-together/lib.edits', EDIT.replace('clause-value', 'clause-other'))
@@ -583,8 +584,10 @@ class Reading(unittest.TestCase):
                      './specs/Run.antt:98:23: error: `IsMet`: expected type `ℕ`',
                      './proofs/Free.antt:7:215: error: module `Rattle.toy.specs.Run` has no `IsMet` that can be named '
                      'from here (did you mean `IsMeet`?)',
-                     './proofs/a/Answers.antt:1:1: error: `returns`: `c.requires` has no field `place`'):
-            self.assertEqual(said.ill_formed(line), [line])
+                     './proofs/a/Answers.antt:1:1: error: `returns`: `c.requires` has no field `place`',
+                     './proofs/a/Answers.antt:1:1: error: `returns`: record `After-push`\n  has no field `new`'):
+            found = ' '.join(each.strip() for each in line.splitlines())
+            self.assertEqual(said.ill_formed(line), [found])
             self.assertEqual(said.refused_in('toy', line).get('a'), None)
 
 
