@@ -10,7 +10,7 @@ use crate::inline_string::{InlineStringN, NotEnoughSpaceError};
 use crate::string_ext::StringExt;
 use std::str::FromStr;
 
-/// Fails exactly where the text has more than `N` bytes.
+/// The same as `try_from` of a `&str`: fails exactly where the text has more than `N` bytes.
 impl<const N: usize> FromStr for InlineStringN<N> {
     type Err = NotEnoughSpaceError;
 
@@ -18,10 +18,7 @@ impl<const N: usize> FromStr for InlineStringN<N> {
         (λ made. (made ≡ chars bytes) × (length bytes ≤ N)) (λ _. N < length bytes) };
 
     fn from_str(s: &str) -> Result<Self, NotEnoughSpaceError> {
-        if N < s.len() {
-            return Err(NotEnoughSpaceError);
-        }
-        Ok(Self::from(s))
+        Self::try_from(s)
     }
 }
 
