@@ -4,7 +4,7 @@ use Rattle.std.specs.Prelude.{slice_index, if◌then◌else◌}
 use Rattle.std.specs.Char.{IsScalar}
 use Rattle.std.specs.Char.Escape.{encode_utf16}
 use Rattle.std.specs.Char.Utf16.{is_high_surrogate, is_low_surrogate, surrogate_pair_char}
-use Rattle.std.specs.Str.{all_scalars}
+use Rattle.std.specs.Str.{all_scalars, IsAscii}
 use lib.Utf8.{scalar_cases}
 use Rattle.std.proofs.lemmas.Bool.{cases_lt, cases_Bool, and_parts, leb-true, ltb-true, cond-true, cond-false, le-leb, lt-ltb, lt-leb, le-ltb, and_left, and_right, and_from}
 use Rattle.std.proofs.lemmas.List.{get_or_past, take_more, take_all}
@@ -200,6 +200,25 @@ module _ (v : List ℕ) (paired : (i : ℕ) → is_unpaired v i ≡ false) where
         read (length v) (omega arith)
         ∙ ap (λ k. take k v) (cond-false _ _ _ (not_before (length v) none))
         ∙ take_all (length v) v (omega arith)
+
+-- units of ASCII are read as they are
+ascii_gives : (v : List ℕ) → IsAscii v → (i : ℕ) → lossy_unit v i ≡ slice_index v i ∷ []
+ascii_gives v a i =
+    let u = slice_index v i in
+    let high : is_high_at v i ≡ false = and_left _ _ (lt-leb 0xD800 u (omega (arith, a i))) in
+    let low : is_low_at v i ≡ false = and_left _ _ (lt-leb 0xDC00 u (omega (arith, a i))) in
+    gives_itself v i (rw (high, low) refl) high low
+
+ascii_read : (v : List ℕ) → IsAscii v → (n : ℕ) → n ≤ length v → lossy_utf16_before v n ≡ take n v
+ascii_read v a zero h = refl
+ascii_read v a (suc n) h =
+    ap (λ t. t ++ lossy_unit v n) (ascii_read v a n (omega (arith, h)))
+    ∙ ap (λ t. take n v ++ t) (ascii_gives v a n)
+    ∙ sym (take_more v n 0 (omega (arith, h)))
+    ∙ ap (λ k. take k v) (add-one n)
+
+pub lossy_ascii : (v : List ℕ) → IsAscii v → lossy_utf16 v ≡ v
+lossy_ascii v a = ascii_read v a (length v) (omega arith) ∙ take_all (length v) v (omega arith)
 
 -- the other way round: of a text's units each is paired
 -- the same with the next place as a successor, which computes

@@ -1,7 +1,7 @@
 //! UTF-16 read as text: each unit by itself and its two neighbours.
 ghost use Rattle.std.specs.Prelude.{◌≡◌, ◌<◌, ◌≤◌, ◌^◌, ◌↔◌, [], ◌∷◌, length, IfOk, IsTrue, MatchOption};
 ghost use Rattle.std.specs.Char.Utf16.{is_high_surrogate, is_low_surrogate, surrogate_pair_char};
-ghost use Rattle.std.specs.Str.{chars};
+ghost use Rattle.std.specs.Str.{chars, IsAscii};
 ghost use Rattle.std.specs.String.{string_bytes};
 ghost use Rattle.inlinable_string.specs.Text.{size};
 ghost use Rattle.inlinable_string.specs.Utf16.{is_unpaired, HasUnpaired, lossy_unit, lossy_utf16};
@@ -12,6 +12,9 @@ use std::alloc::{AllocError, Global};
 pub(super) fn has_unpaired(units: &[u16]) -> bool
     ensures { IsTrue result ↔ HasUnpaired units.now }
 {
+    if is_ascii(units) {
+        return false;
+    }
     for i in 0..units.len() {
         if is_unpaired(units, i) {
             return true;
@@ -23,6 +26,49 @@ pub(super) fn has_unpaired(units: &[u16]) -> bool
 /// The text of the units, with U+FFFD for each that is unpaired. Memory is asked for once, for the
 /// exact size; a size past `usize::MAX` is want of memory.
 pub(super) fn lossy(alloc: Global, units: &[u16]) -> Result<String, AllocError>
+    ensures { IfOk result (λ made. chars (string_bytes made) ≡ lossy_utf16 units.now) }
+{
+    if is_ascii(units) {
+        return ascii_text(alloc, units);
+    }
+    lossy_by_units(alloc, units)
+}
+
+/// Whether each unit is of ASCII.
+// No unit ends the loop, so that several are tested at a time.
+fn is_ascii(units: &[u16]) -> bool
+    ensures { IsTrue result ↔ IsAscii units.now }
+{
+    let mut is_ascii = true;
+    for i in 0..units.len() {
+        is_ascii &= units[i] < 0x80;
+    }
+    is_ascii
+}
+
+/// The text of units of ASCII.
+fn ascii_text(alloc: Global, units: &[u16]) -> Result<String, AllocError>
+    requires { IsAscii units.now }
+    ensures { IfOk result (λ made. chars (string_bytes made) ≡ lossy_utf16 units.now) }
+{
+    let mut bytes = vec![in alloc; 0u8; units.len()]?;
+    write_ascii(units, bytes.as_mut_slice());
+    Ok(unsafe { String::from_utf8_unchecked(bytes) })
+}
+
+/// Writes units of ASCII, a byte each.
+fn write_ascii(units: &[u16], bytes: &mut [u8])
+    requires ascii { IsAscii units.now }
+    requires room { length bytes.old ≡ length units.now }
+    ensures { bytes.new ≡ units.now }
+{
+    for i in 0..units.len() {
+        bytes[i] = units[i] as u8;
+    }
+}
+
+/// The same as [`lossy`], unit by unit.
+fn lossy_by_units(alloc: Global, units: &[u16]) -> Result<String, AllocError>
     ensures { IfOk result (λ made. chars (string_bytes made) ≡ lossy_utf16 units.now) }
 {
     let Some(len) = lossy_len(units) else {

@@ -5,7 +5,7 @@ use Rattle.std.proofs.lemmas.Str.{chars-nil, IsUtf8-string_bytes}
 use Rattle.inlinable_string.specs.Utf16.{lossy_utf16_before}
 use Rattle.inlinable_string.proofs.Text.{popped-chars}
 use Rattle.inlinable_string.proofs.Units.{lossy_more}
-use Rattle.inlinable_string.proofs.string_ext.utf16.lossy.Goals as goal
+use Rattle.inlinable_string.proofs.string_ext.utf16.lossy_by_units.Goals as goal
 
 pub loop-i-init : goal.loop-i-init
 loop-i-init c = ap chars c.in_ok-made.ensures.bytes ∙ chars-nil

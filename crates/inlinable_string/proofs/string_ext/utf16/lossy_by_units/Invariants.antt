@@ -2,7 +2,7 @@ use Rattle.std.proofs.Common.{◌≡◌}
 use Rattle.std.specs.Str.{chars}
 use Rattle.std.specs.String.{string_bytes}
 use Rattle.inlinable_string.specs.Utf16.{lossy_utf16_before}
-use Rattle.inlinable_string.proofs.string_ext.utf16.lossy.Given as goal
+use Rattle.inlinable_string.proofs.string_ext.utf16.lossy_by_units.Given as goal
 
 abbrev pub invariant-loop-i : goal.invariant-loop-i
 invariant-loop-i l = chars (string_bytes l.made) ≡ lossy_utf16_before l.units l.i

@@ -1,0 +1,26 @@
+use Rattle.std.proofs.Common.{◌≡◌, ◌++◌, ℕ, List, take, length, sym, ap, ◌∙◌, subst, arith}
+use Rattle.std.specs.Prelude.{IsUtf8}
+use Rattle.std.specs.Str.{chars}
+use Rattle.std.proofs.Math.Seq.{take-append_seam}
+use Rattle.std.proofs.lemmas.Str.{IsUtf8-from_ascii, chars-IsAscii}
+use Rattle.inlinable_string.proofs.Units.{lossy_ascii}
+use Rattle.inlinable_string.proofs.string_ext.utf16.ascii_text.Goals as goal
+
+-- what fills the room is all that it shows
+filled : (xs ys v : List ℕ) (n : ℕ) → xs ≡ v → n ≡ length v → take n (xs ++ ys) ≡ v
+filled xs ys v n e l = rw (e, l) (take-append_seam v ys)
+
+pub from_utf8_unchecked-requires : goal.from_utf8_unchecked-requires
+from_utf8_unchecked-requires c =
+    let len : c.in_ok-bytes.bytes.len ≡ length c.args.units.now =
+    omega (arith, c.in_ok-bytes.ensures.len) in
+    subst IsUtf8 (sym (filled _ _ _ _ c.write_ascii.ensures len)) (IsUtf8-from_ascii _ c.requires)
+
+pub returns : goal.returns
+returns c =
+    let v = c.args.units.now in
+    let len : c.in_ok-bytes.bytes.len ≡ length c.args.units.now =
+    omega (arith, c.in_ok-bytes.ensures.len) in
+    ap (λ bytes. chars bytes.items) c.from_utf8_unchecked.ensures.value
+    ∙ ap chars (filled _ _ v _ c.write_ascii.ensures len)
+    ∙ chars-IsAscii v c.requires ∙ sym (lossy_ascii v c.requires)
