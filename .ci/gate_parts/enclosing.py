@@ -21,8 +21,8 @@ IMPL = re.compile(r'\bimpl\b')
 # A part of a path in angle brackets, without further ones inside.
 IN_ANGLES = re.compile(r'<[^<>]*>')
 # The one type that a trait is given, by which a function's path tells it from the same trait of
-# another: `Extend<char>`, `TryFrom<&str>`.
-TRAIT_OF = re.compile(r"(\w+)<(&?)(?:'\w+ )?(?:\w+::)*(\w+)> for ")
+# another: `Extend<char>`, `TryFrom<&str>`, `TryFrom<Text<N>>`.
+TRAIT_OF = re.compile(r"(\w+)<(&?)(?:'\w+ )?(?:\w+::)*(\w+)(?:<[^<>]*>)?> for ")
 DECLARED = r'\b(?:struct|enum)\s+{}\b'
 IMPORTED = r'\buse\s+((?:\w+::)+)(?:\{{[^}}]*\b)?{}\b'
 

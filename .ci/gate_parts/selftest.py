@@ -540,9 +540,11 @@ class Reading(unittest.TestCase):
                   'impl<const N: usize> Text<N> {\n    fn one(&self) { 1 }\n}\n'
                   'impl Near {\n    fn two(&self) { 2 }\n}\nimpl Own {\n    fn three(&self) { 3 }\n}\n'
                   "impl<'a, const N: usize> Extend<&'a str> for Text<N> {\n    fn four(&self) { 4 }\n}\n"
-                  'impl Hash for Text<3> {\n    fn five<H: Hasher>(&self, state: &mut H) { 5 }\n}\n')
+                  'impl Hash for Text<3> {\n    fn five<H: Hasher>(&self, state: &mut H) { 5 }\n}\n'
+                  'impl<const N: usize> From<Other<N>> for Text<N> {\n    fn six(text: Other<N>) { 6 }\n}\n')
         for number, function in ((1, 'kept::Text::one'), (2, 'part::Near::two'), (3, 'part::joins::Own::three'),
-                                 (4, 'part::joins::TextExtendRefStr::four'), (5, 'part::joins::TextHash::five')):
+                                 (4, 'part::joins::TextExtendRefStr::four'), (5, 'part::joins::TextHash::five'),
+                                 (6, 'part::joins::TextFromOther::six')):
             change = Change('src/part/joins.rt', f'{{ {number} }}', f'{{ {number + 1} }}')
             self.assertEqual(function_changed(source, change), function)
 
