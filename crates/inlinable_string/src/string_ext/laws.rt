@@ -80,8 +80,12 @@ pub fn utf16_errors_print_their_reason()
         ≡ Some (codes "there is no memory") }
 {}
 
-/// Want of memory, passed on by `?`, is [`Utf16Error::NoMemory`].
-pub fn want_of_memory_is_no_memory()
-    ensures { (want : AllocError) (error : Utf16Error)
+/// Want of memory is [`Utf16Error::NoMemory`], as `?` passes it on: this calls the conversion, and
+/// gives what came of it.
+pub fn want_of_memory_is_no_memory() -> Utf16Error
+    ensures gives { (want : AllocError) (error : Utf16Error)
         → ⟦<Utf16Error as From<AllocError>>⟧.from_gives want error ↔ (error ≡ Utf16Error.NoMemory) }
-{}
+    ensures given { result ≡ Utf16Error.NoMemory }
+{
+    Utf16Error::from(AllocError)
+}
