@@ -1,12 +1,18 @@
 //! Each generic caller once at std's `String`, at `InlinableStringN<8>` or at `InlinableString`, so
 //! that its bounds are known to be met.
+ghost use Rattle.std.specs.Prelude.{◌≡◌, ◌≤◌, ◌⊎◌, ◌↔◌, [], ◌∷◌, length, IfOk, IsTrue};
+ghost use Rattle.inlinable_string.specs.Text.{size};
+ghost use Rattle.inlinable_string.specs.Utf16.{units_of};
+ghost use Rattle.inlinable_string.specs.Values.{inlinable_state, string_state};
 
 use crate::editor::Line;
 use crate::{
-    buffers, compares, cuts, finds, growths, joined, joins, makes, replacements, room, runs, takes,
-    views, wholes,
+    buffers, compares, cuts, finds, growths, joined, joins, makers, makes, replacements, room,
+    runs, takes, views, wholes,
 };
-use inlinable_string::{InlinableString, InlinableStringN, InlineStringN, StringExt, StringMake};
+use inlinable_string::{
+    InlinableString, InlinableStringN, InlineStringN, StringExt, StringMake, Utf16Error,
+};
 use std::alloc::{AllocError, Global};
 
 /// Eight bytes lie inline.
@@ -118,6 +124,66 @@ pub fn make(alloc: Global) -> Result<String, AllocError> {
     joins::move_to(&mut short, &mut string)?;
     joins::add_text(&made, &mut string)?;
     Ok(string)
+}
+
+/// A name read from UTF-16, twice, and taken through its bytes; "é" where the units are no text.
+pub fn read_string(alloc: Global, units: &[u16]) -> Result<String, Utf16Error>
+    ensures { IfOk result (λ made. (units_of (string_state made).text ≡ units.now)
+        ⊎ ((string_state made).text ≡ 0xE9 ∷ [])) }
+{
+    let Some(name) = makers::file_name::<String>(alloc, units)? else {
+        return makers::accent(alloc);
+    };
+    let same = makers::same_name(alloc, &name, units)?;
+    match makers::through_bytes(alloc, same) {
+        Ok(text) => Ok(text),
+        Err(text) => Ok(text),
+    }
+}
+
+/// The same at a limit of 30 bytes.
+pub fn read_inlinable(alloc: Global, units: &[u16]) -> Result<InlinableString, Utf16Error>
+    ensures { IfOk result (λ made. (units_of (inlinable_state 30 made).text ≡ units.now)
+        ⊎ ((inlinable_state 30 made).text ≡ 0xE9 ∷ [])) }
+{
+    let Some(name) = makers::file_name::<InlinableString>(alloc, units)? else {
+        return makers::accent(alloc);
+    };
+    let same = makers::same_name(alloc, &name, units)?;
+    match makers::through_bytes(alloc, same) {
+        Ok(text) => Ok(text),
+        Err(text) => Ok(text),
+    }
+}
+
+/// The same at a limit of eight.
+pub fn read_short(alloc: Global, units: &[u16]) -> Result<Short, Utf16Error>
+    ensures { IfOk result (λ made. (units_of (inlinable_state 8 made).text ≡ units.now)
+        ⊎ ((inlinable_state 8 made).text ≡ 0xE9 ∷ [])) }
+{
+    let Some(name) = makers::file_name::<Short>(alloc, units)? else {
+        return makers::accent(alloc);
+    };
+    let same = makers::same_name(alloc, &name, units)?;
+    match makers::through_bytes(alloc, same) {
+        Ok(text) => Ok(text),
+        Err(text) => Ok(text),
+    }
+}
+
+/// Whether a word has at most eight bytes, by arrays of eight and of 30.
+pub fn is_short_word(word: &str) -> bool
+    ensures { IsTrue result ↔ (length word.now ≤ 8) }
+{
+    makers::word::<30>(word).is_some() && makers::word::<8>(word).is_some()
+}
+
+/// Whether both texts go into arrays.
+pub fn are_settled(text: InlinableString, short: Short) -> bool
+    ensures { IsTrue result ↔ ((size (inlinable_state 30 text).text ≤ 30)
+        × (size (inlinable_state 8 short).text ≤ 8)) }
+{
+    makers::settled(text).is_ok() && makers::settled(short).is_ok()
 }
 
 /// Buffers that are used again.

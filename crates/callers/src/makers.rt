@@ -1,5 +1,5 @@
 //! Texts from bytes and from UTF-16, and taken apart again.
-ghost use Rattle.std.specs.Prelude.{◌≡◌, ◌≤◌, ◌<◌, ◌↔◌, [], ◌∷◌, ◌++◌, length, IfOk, IfErr, IfSome, IfNone, IsOk, Err, IsUtf8, true};
+ghost use Rattle.std.specs.Prelude.{◌≡◌, ◌≤◌, ◌<◌, ◌↔◌, [], ◌∷◌, ◌++◌, length, IfOk, IfErr, IfSome, IfNone, IsOk, Err, IsUtf8, true, IsSome};
 ghost use Rattle.std.specs.Str.{chars};
 ghost use Rattle.std.specs.String.{string_bytes};
 ghost use Rattle.std.specs.Cow.{IsBorrowedStr};
@@ -121,7 +121,7 @@ pub fn interned(alloc: Global, name: String) -> InlinableStringN<24>
 /// A word of a command line, in an array; none where it is too long.
 pub fn word<const N: usize>(word: &str) -> Option<InlineStringN<N>>
     ensures some { IfSome result (λ made. made ≡ chars word.now) }
-    ensures none { IfNone result (N < length word.now) }
+    ensures fits { IsSome result ↔ (length word.now ≤ N) }
 {
     match word.parse::<InlineStringN<N>>() {
         Ok(made) => Some(made),
