@@ -14,6 +14,7 @@ use std::string::FromUtf8Error;
 use test_support::HeapText;
 use test_support::letters::{LETTERS_30, LETTERS_31};
 
+mod conversions;
 mod memory;
 mod wrong_tables;
 

@@ -1,4 +1,5 @@
 //! Tests of the tests: rows of which the second is wrong in one value, and has to be found.
+use super::conversions::{FitRow, wrong_conversion};
 use super::{
     BytesRow, CapacityRow, CommandRow, TextRow, wrong_bytes, wrong_capacity, wrong_command,
     wrong_text,
@@ -57,6 +58,18 @@ fn replies_texts_and_storages_that_are_others_are_found(rt: HostRuntime) {
             alloc,
             &[shrunk, (Pop, Char('a'), LETTERS_30, Inline)],
         ),
+    ];
+    assert_found(&rt, wrong);
+}
+
+#[test]
+fn texts_that_fit_otherwise_are_found(rt: HostRuntime) {
+    let alloc = rt.alloc();
+    let empty: FitRow = (4, "", true);
+    let wrong = [
+        wrong_conversion(alloc, &[empty, (4, "abcd", false)]),
+        wrong_conversion(alloc, &[empty, (4, "abcde", true)]),
+        wrong_conversion(alloc, &[empty, (5, "abcde", true)]),
     ];
     assert_found(&rt, wrong);
 }
