@@ -10,6 +10,8 @@ mod encodings;
 #[cfg(test)]
 mod growths;
 #[cfg(test)]
+mod held;
+#[cfg(test)]
 mod inline;
 #[cfg(test)]
 mod limits;

@@ -1,7 +1,7 @@
 //! Makers of texts, and the bytes of texts.
 ghost use Rattle.std.specs.Prelude.{◌≤◌};
 
-use crate::texts::is_text;
+use crate::texts::is_lying;
 use Storage::{Heap, Inline};
 use inlinable_string::run::Command::{self, Pop, ShrinkToFit};
 use inlinable_string::run::Reply::{self, Char, Done, NoChar};
@@ -17,11 +17,6 @@ use test_support::letters::{LETTERS_30, LETTERS_31};
 mod conversions;
 mod memory;
 mod wrong_tables;
-
-/// Whether the text is this and lies there.
-fn is_lying<S: StringExt>(text: &S, content: &str, storage: Storage) -> bool {
-    is_text(text, content) && text.storage() == storage
-}
 
 /// Whether the text is this, lies there, and gives its bytes.
 fn is_whole<S: StringMake + Drop>(text: S, content: &str, storage: Storage) -> bool {
@@ -282,7 +277,7 @@ pub fn wrong_command<S: StringMake + Drop>(
     for (i, &(command, reply, content, storage)) in rows.iter().enumerate() {
         let mut replies = [NoChar];
         run(&mut text, &[command], &mut replies);
-        if replies != [reply] || !is_text(&text, content) || text.storage() != storage {
+        if replies != [reply] || !is_lying(&text, content, storage) {
             return Some(i);
         }
     }

@@ -1,6 +1,7 @@
 //! Calls while every request for memory is refused: a test holds all memory that can be had, makes
 //! its calls, gives the memory back, and then asserts.
 use crate::growths::CHARACTERS_THAT_FIT;
+use crate::held::all_memory;
 use crate::steps::{Tally, assert_right, play, whole_of};
 use crate::texts::{assert_text, is_text, letters, text_of};
 use inlinable_string::run::Command::{
@@ -13,22 +14,17 @@ use inlinable_string::{
 };
 use std::alloc::Global;
 use std::process::Abort;
+use test_support::EmptyText;
 use test_support::letters::{
     LETTERS_26, LETTERS_27, LETTERS_28, LETTERS_29, LETTERS_30, LETTERS_31,
 };
 use test_support::step::Where::{AsMade, OnHeap, Shrunk};
 use test_support::step::{HEAP_ROOM, Home, Kind, Step, new_kind};
 use test_support::tally::{and_list, and_step};
-use test_support::{EmptyText, Hoard};
 
 mod filled;
 mod one_block;
 mod wrong_tables;
-
-/// All memory that can be had.
-fn all_memory(rt: &impl Abort, alloc: Global) -> Hoard {
-    Hoard::take(alloc).expect(rt, "memory cannot be used up here")
-}
 
 /// Plays the steps while no memory can be had.
 fn play_without_memory<S: StringExt>(

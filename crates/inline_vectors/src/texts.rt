@@ -42,10 +42,16 @@ pub fn is_text<S: StringExt>(text: &S, content: &str) -> bool
     ensures { IsTrue result → bytes_of (S.state text.now).text ≡ content.now }
 {
     text.as_str() == content
+        && text.eq_str(content)
         && text.as_bytes() == content.as_bytes()
         && text.len() == content.len()
         && text.is_empty() == content.is_empty()
         && text.capacity() >= content.len()
+}
+
+/// Whether the text is this and lies there.
+pub fn is_lying<S: StringExt>(text: &S, content: &str, storage: Storage) -> bool {
+    is_text(text, content) && text.storage() == storage
 }
 
 /// Asserts what the text is and where it lies.

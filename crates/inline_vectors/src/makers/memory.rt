@@ -3,10 +3,9 @@
 //! and then asserts.
 ghost use Rattle.std.specs.Prelude.{◌≤◌};
 
-use super::{
-    BYTES, BytesRow, assert_no_wrong_row, copies_of, is_lying, is_taken, is_taken_unchecked,
-};
-use crate::texts::{is_text, text_of};
+use super::{BYTES, BytesRow, assert_no_wrong_row, copies_of, is_taken, is_taken_unchecked};
+use crate::held::{all_but, all_memory};
+use crate::texts::{is_lying, is_text, text_of};
 use Answer::{NoMemory, Other, Right, Unpaired};
 use Call::{FromUtf8Lossy, FromUtf16, FromUtf16Lossy};
 use Storage::{Heap, Inline};
@@ -19,25 +18,9 @@ use std::process::Abort;
 use std::string::FromUtf8Error;
 use test_support::letters::{LETTERS_30, LETTERS_31};
 use test_support::step::HEAP_ROOM;
-use test_support::{EmptyText, HeapText, Hoard};
+use test_support::{EmptyText, HeapText};
 
 mod wrong_tables;
-
-/// All memory that can be had.
-fn all_memory(rt: &impl Abort, alloc: Global) -> Hoard {
-    Hoard::take(alloc).expect(rt, "memory cannot be used up here")
-}
-
-/// All memory that can be had but for one block of so many bytes, or for none.
-fn all_but(rt: &impl Abort, alloc: Global, block: Option<usize>) -> Hoard {
-    let block: Option<Vec<u8>> = match block {
-        Some(size) => Some(Vec::with_capacity(alloc, size).expect(rt, "memory")),
-        None => None,
-    };
-    let hoard = all_memory(rt, alloc);
-    drop(block);
-    hoard
-}
 
 /// A reader, and what it is given.
 #[derive(Clone, Copy)]

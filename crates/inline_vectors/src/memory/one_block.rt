@@ -1,6 +1,6 @@
 //! Calls while one block of memory can be had: one request of its size is granted, and the next one
 //! is refused.
-use super::all_memory;
+use crate::held::all_but;
 use crate::steps::{assert_right, play, reply_by_call};
 use crate::texts::letters;
 use inlinable_string::InlinableStringN;
@@ -10,9 +10,9 @@ use inlinable_string::run::Command::{
 use inlinable_string::run::Reply::{self, Char, Done, NoMemory};
 use std::alloc::Global;
 use std::process::Abort;
+use test_support::EmptyText;
 use test_support::step::Where::{OnHeap, Shrunk};
 use test_support::step::{Home, Step, new_kind};
-use test_support::{EmptyText, Hoard};
 
 /// The calls that add four bytes, or room for them, to a text of 36.
 const GROWTHS: &[Command] = &[
@@ -24,15 +24,6 @@ const GROWTHS: &[Command] = &[
     ReserveExact(4),
 ];
 
-/// All memory that can be had but for one block of `size` bytes.
-fn all_but_one_block(rt: &impl Abort, alloc: Global, size: usize) -> Hoard {
-    let block: Result<Vec<u8>, _> = Vec::with_capacity(alloc, size);
-    let block = block.expect(rt, "memory");
-    let hoard = all_memory(rt, alloc);
-    drop(block);
-    hoard
-}
-
 /// Gives a growth to a text of 36 letters, made new, while one block of `size` bytes can be had.
 fn reply_with_one_block<S: EmptyText + Drop>(
     rt: &impl Abort,
@@ -41,7 +32,7 @@ fn reply_with_one_block<S: EmptyText + Drop>(
     growth: Command,
 ) -> Reply {
     let mut text: S = letters(rt, alloc, None, 36);
-    let hoard = all_but_one_block(rt, alloc, size);
+    let hoard = all_but(rt, alloc, Some(size));
     let reply = reply_by_call(&mut text, growth);
     drop(hoard);
     reply
@@ -111,7 +102,7 @@ const THERE_AND_BACK: &[Step] = &[
 fn a_text_that_comes_back_inline_gives_its_block_back(rt: HostRuntime) {
     let (alloc, kind) = (rt.alloc(), new_kind(Home::Either(39)));
     let mut text: InlinableStringN<39> = letters(&rt, alloc, None, 36);
-    let hoard = all_but_one_block(&rt, alloc, 40);
+    let hoard = all_but(&rt, alloc, Some(40));
     let answer = play(&mut text, kind, "", THERE_AND_BACK);
     drop(hoard);
     assert_right(&rt, answer);

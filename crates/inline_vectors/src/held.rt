@@ -1,0 +1,20 @@
+//! All memory held by a test, while it makes its calls.
+use std::alloc::Global;
+use std::process::Abort;
+use test_support::Hoard;
+
+/// All memory that can be had.
+pub fn all_memory(rt: &impl Abort, alloc: Global) -> Hoard {
+    Hoard::take(alloc).expect(rt, "memory cannot be used up here")
+}
+
+/// All memory that can be had but for one block of so many bytes, or for none.
+pub fn all_but(rt: &impl Abort, alloc: Global, block: Option<usize>) -> Hoard {
+    let block: Option<Vec<u8>> = match block {
+        Some(size) => Some(Vec::with_capacity(alloc, size).expect(rt, "memory")),
+        None => None,
+    };
+    let hoard = all_memory(rt, alloc);
+    drop(block);
+    hoard
+}
