@@ -4,6 +4,8 @@
 #[cfg(test)]
 mod carried;
 #[cfg(test)]
+mod compared;
+#[cfg(test)]
 mod cuts;
 #[cfg(test)]
 mod encodings;
@@ -31,5 +33,7 @@ mod room;
 mod steps;
 #[cfg(test)]
 mod texts;
+#[cfg(test)]
+mod ways;
 #[cfg(test)]
 mod wrong_tables;
