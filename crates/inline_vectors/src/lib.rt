@@ -26,6 +26,8 @@ mod objects;
 #[cfg(test)]
 mod places;
 #[cfg(test)]
+mod printed;
+#[cfg(test)]
 mod replacements;
 #[cfg(test)]
 mod room;
