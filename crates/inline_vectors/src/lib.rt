@@ -16,6 +16,8 @@ mod held;
 #[cfg(test)]
 mod inline;
 #[cfg(test)]
+mod joined;
+#[cfg(test)]
 mod limits;
 #[cfg(test)]
 mod makers;
