@@ -40,4 +40,6 @@ mod texts;
 #[cfg(test)]
 mod ways;
 #[cfg(test)]
+mod wrong_rows;
+#[cfg(test)]
 mod wrong_tables;
