@@ -9,6 +9,7 @@ use std::process::Abort;
 use std::test::Fail;
 use test_support::Refusals;
 
+mod joins;
 mod makers;
 mod runs;
 mod wrong_tables;

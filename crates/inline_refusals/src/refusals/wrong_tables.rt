@@ -1,6 +1,9 @@
-//! Tests of the tests: growths, replies, readings and texts that are wrong in one value, and what
-//! has to be found.
+//! Tests of the tests: growths, replies, readings, joins and texts that are wrong in one value, and
+//! what has to be found.
 //! They too pass whichever of their requests is refused.
+use super::joins::Extension::{Own, Std};
+use super::joins::Items::Chars;
+use super::joins::{CHARS, Joining, wrong_join, wrong_new};
 use super::makers::Answer::{self, Text, Unpaired};
 use super::makers::Call::{FromUtf8Lossy, FromUtf16, FromUtf16Lossy};
 use super::makers::{Reading, readings, wrong_giving, wrong_making};
@@ -65,6 +68,20 @@ fn a_reading_that_gives_another_answer_is_found(rt: HostRuntime) {
         let answer = readings::<InlinableString>(rt.alloc(), &mut refusals, rows);
         assert!(&rt; answer == Err((1, Wrong::Text)), "{answer:?}");
     }
+}
+
+#[test]
+fn items_that_are_joined_to_another_text_are_found(rt: HostRuntime) {
+    let (alloc, mut refusals) = (rt.alloc(), Refusals::none());
+    let joining = Joining {
+        whole: "b",
+        ..CHARS
+    };
+    let wrong = [
+        wrong_join(&rt, alloc, &mut refusals, Own, joining),
+        wrong_new(alloc, &mut refusals, Std, Chars(&['a'; 31]), "b"),
+    ];
+    assert!(&rt; wrong == [Some(Wrong::Text); 2], "{wrong:?}");
 }
 
 /// A text that lies elsewhere, or is another: where a request is refused, that is one too many.
