@@ -16,6 +16,7 @@ mod borrowed;
 mod collected;
 mod compared;
 mod joins;
+mod limits;
 mod makers;
 mod printed;
 

@@ -1,7 +1,7 @@
 //! Texts that lie inline where they fit, and texts that take over what lies on the heap.
 ghost use Rattle.std.specs.Prelude.{◌≡◌, ◌≤◌, [], length, IfOk, IsOk};
 ghost use Rattle.std.specs.Str.{chars};
-ghost use Rattle.std.specs.String.{string_bytes};
+ghost use Rattle.std.specs.String.{string_bytes, string_capacity};
 ghost use Rattle.inlinable_string.specs.State.{storage_when_made};
 ghost use Rattle.inlinable_string.specs.Values.{inlinable_policy, inlinable_state};
 
@@ -42,13 +42,15 @@ impl<const N: usize> InlinableStringN<N> {
         Self::from(alloc, s)
     }
 
-    /// The text of `string`, inline where it has at most `N` bytes; else it is kept as it is. It
-    /// takes no memory.
+    /// The text of `string`, inline where it has at most `N` bytes; else it is kept as it is, with
+    /// its capacity. It takes no memory.
     pub fn from_string(alloc: Global, string: String) -> Self
         ensures text { (inlinable_state N result).text ≡ chars (string_bytes string) }
         ensures storage { (inlinable_state N result).storage
             ≡ storage_when_made (inlinable_policy N) (length (string_bytes string)) }
         ensures policy { (inlinable_state N result).policy ≡ inlinable_policy N }
+        ensures room { (inlinable_state N result).storage ≡ Storage.Heap
+            → (inlinable_state N result).capacity ≡ string_capacity string }
     {
         if string.len() <= N {
             let inline = InlineStringN::from(string.as_str());
