@@ -11,6 +11,7 @@ mod boxable_string;
 mod cells;
 mod conversions;
 mod inlinable_string;
+pub mod inline_json;
 pub mod inline_string;
 pub mod laws;
 pub mod run;
