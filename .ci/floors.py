@@ -5,7 +5,7 @@ counts, with the reason.
 """
 
 # Edits in `must-fail-together/`, by crate.
-EDITS = {'inlinable_string': 164, 'inline_model': 34, 'script_language': 40}
+EDITS = {'inlinable_string': 183, 'inline_model': 34, 'script_language': 40}
 
 # By crate: requests for memory refused one after the other, and how often a test met one.
 REFUSALS = {'inline_refusals': (4, 60), 'inline_script': (7, 36)}
@@ -41,4 +41,7 @@ WRONG_DEFINITIONS = {'inlinable_string': 140, 'script_language': 98}
 
 # Edits in `wrong-clauses/`, and public functions of `callers` that promise something.
 WRONG_CLAUSES = 5
-CALLERS = 142
+CALLERS = 153
+
+# Functions that `docs/PROMISES.md` names, each time that it does.
+PROMISES = 147

@@ -1,14 +1,15 @@
-"""gate counts: prints how long the tree is, and holds the numbers of the documents against it.
+"""gate counts: prints how long the tree is, and holds numbers and names of the documents against it.
 
 The sentences that state numbers stand in `.ci/stated.py`. One that is not found in its document, or
-found with another number than is counted, fails.
+found with another number than is counted, fails. So does a function or a clause that
+`docs/PROMISES.md` names and the sources do not have.
 """
 import os
 import re
 from collections import Counter
 
-from floors import HOSTILE_INPUTS, READINGS, REFUSALS, STORED
-from gate_parts import readings
+from floors import HOSTILE_INPUTS, PROMISES, READINGS, REFUSALS, STORED
+from gate_parts import promises, readings
 from gate_parts.callers import require_callers
 from gate_parts.digests import STEP
 from gate_parts.edit_files import edits_of
@@ -177,4 +178,13 @@ def main(words):
                 wrong += 1
     print(f'{sum(map(len, STATED.values()))} sentences with numbers, '
           f'{wrong} that the tree does not bear out')
+    return promises_stand() and not wrong
+
+
+def promises_stand():
+    """Whether what the promises name stands in the sources, and is as much as it must be."""
+    named, wrong = promises.checked()
+    if named < PROMISES:
+        raise Failure(f'{promises.DOCUMENT} names {named} functions, and must name {PROMISES}')
+    print(*wrong, f'{named} functions that carry promises, {len(wrong)} that do not stand as named', sep='\n')
     return not wrong

@@ -14,7 +14,7 @@ import unittest
 from collections import Counter
 from unittest import mock
 
-from gate_parts import hostile_inputs, reading_inputs, said, specified
+from gate_parts import hostile_inputs, promises, reading_inputs, said, specified
 from gate_parts.callers import promising
 from gate_parts.counts import misstatements
 from gate_parts.definitions import Reach, cite_copies
@@ -34,7 +34,7 @@ REFUSALS = {'toy': (2, 3)}
 STORED = {'a.cases': 2, 'b.cases': 1, 'digests': 0}
 READINGS, READINGS_OF_EACH, READING_KINDS, READING_ANSWERS = {'values': 40, 'digests': 2}, 0, (), ()
 HOSTILE_INPUTS, HOSTILE_ACCEPTED_PART, HOSTILE_OF_EACH, HOSTILE_REPLIES, HOSTILE_FAULTS = 1, 0, 0, (), ()
-WRONG_DEFINITIONS, WRONG_CLAUSES, CALLERS = {'toy': 1}, 1, 1
+WRONG_DEFINITIONS, WRONG_CLAUSES, CALLERS, PROMISES = {'toy': 1}, 1, 1, 0
 '''
 SOURCE = '''pub const LIMIT: usize = 1;
 
@@ -556,6 +556,15 @@ class Reading(unittest.TestCase):
             cite_copies(place, 'toy', 'above', ['Word'])
             self.assertEqual(text_of(path), 'Rattle.above.specs.Word.{word} Rattle.toy.specs.declared.a '
                                             'Rattle.toy.specs.Words.{b}')
+
+    def test_promises_name_what_stands(self):
+        text = ('| Promise | Carried by |\n|---|---|\n| the `text` | `push` (`text`, `len`), `inline_runs` |\n'
+                '| none | `pop`, `push` (`err`) |\n')
+        known = {'push': [{'text'}, {'text', 'len', 'room'}]}
+        self.assertEqual([(each.function, each.clauses) for each in promises.named_in(text)],
+                         [('push', {'text', 'len'}), ('pop', set()), ('push', {'err'})])
+        self.assertEqual(list(promises.wrong_names(text, known)),
+                         ['docs/PROMISES.md: there is no function pop', 'docs/PROMISES.md: no push has the clauses err'])
 
     def test_open_goals_of_a_row(self):
         text = ('note: src/worked/room.rt:1:1: it is not proved that what the function ensures holds when it returns '
