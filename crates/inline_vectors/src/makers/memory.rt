@@ -108,6 +108,14 @@ const PAIRS: &[u16] = &[
 
 const TEN_CLEFS: &str = "𝄞𝄞𝄞𝄞𝄞𝄞𝄞𝄞𝄞𝄞";
 
+const LETTERS: &[u16] = &[
+    0x61, 0x61, 0x61, 0x61, 0x61, 0x61, 0x61, 0x61, 0x61, 0x61, 0x61, 0x61, 0x61, 0x61, 0x61, 0x61,
+    0x61, 0x61, 0x61, 0x61, 0x61, 0x61, 0x61, 0x61, 0x61, 0x61, 0x61, 0x61, 0x61, 0x61, 0x61, 0x61,
+    0x61, 0x61, 0x61, 0x61, 0x61, 0x61, 0x61, 0x61,
+];
+
+const FORTY_LETTERS: &str = "aaaaaaaaaaaaaaaaaaaaaaaaaaaaaaaaaaaaaaaa";
+
 /// Units and bytes that are read as 40 bytes of text.
 const UNPAIRED: &[u16] = &[
     0xDC00, 0xDC00, 0xDC00, 0xDC00, 0xDC00, 0xDC00, 0xDC00, 0xDC00, 0xDC00, 0xDC00, 0xDC00, 0xDC00,
@@ -125,6 +133,9 @@ const READ_WITH_ONE_BLOCK: &[ReaderRow] = &[
     (FromUtf16(PAIRS), TEN_CLEFS, Some(40), Right),
     (FromUtf16(PAIRS), TEN_CLEFS, None, NoMemory),
     (FromUtf16Lossy(PAIRS), TEN_CLEFS, Some(40), Right),
+    (FromUtf16(LETTERS), FORTY_LETTERS, Some(40), Right),
+    (FromUtf16(LETTERS), FORTY_LETTERS, None, NoMemory),
+    (FromUtf16Lossy(LETTERS), FORTY_LETTERS, Some(40), Right),
     (FromUtf16Lossy(UNPAIRED), TWELVE_SIGNS, Some(40), Right),
     (FromUtf16Lossy(UNPAIRED), TWELVE_SIGNS, None, NoMemory),
     (FromUtf8Lossy(NO_UTF8), TWELVE_SIGNS, Some(40), Right),
