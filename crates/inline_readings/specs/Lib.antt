@@ -2,3 +2,4 @@ pub mod Answer
 pub mod Digits
 pub mod Fault
 pub mod Line
+pub mod Pair

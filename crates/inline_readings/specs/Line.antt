@@ -1,10 +1,12 @@
 -- What a line of the input is written as.
 use Rattle.std.specs.Prelude.{ℕ, List, ◌++◌, codes}
 use Rattle.inline_readings.specs.Digits.{digits_of_bytes, digits_of_units}
+use Rattle.inline_readings.specs.Pair.{pair_line}
 use Rattle.inline_readings.specs.declared.line.Asked.{Asked}
-use Rattle.inline_readings.specs.declared.line.Asked.TheVariants.{Bytes, Units}
+use Rattle.inline_readings.specs.declared.line.Asked.TheVariants.{Bytes, Pair, Units}
 
 -- the line that asks for this
 abbrev pub line_of : Asked → List ℕ
 line_of (Bytes bytes) = codes "bytes " ++ digits_of_bytes bytes.items
 line_of (Units units) = codes "units " ++ digits_of_units units.items
+line_of (Pair pair) = codes "pair " ++ pair_line pair

@@ -1,4 +1,4 @@
-//! Lines that tell what was read.
+//! Lines that tell what was read, and the form of every line.
 ghost use Rattle.std.specs.Prelude.{◌≡◌, ◌++◌, OnOk};
 ghost use Rattle.inline_readings.specs.Answer.{answer_line};
 
@@ -45,7 +45,7 @@ pub fn push_units_read<S: StringExt + Drop>(
 }
 
 /// Adds a line: who answers, how, and the digits of the bytes.
-fn push_line(
+pub fn push_line(
     answers: &mut Vec<u8>,
     name: &str,
     outcome: &str,

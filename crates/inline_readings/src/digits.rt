@@ -47,7 +47,8 @@ fn unit_of(digits: [u8; 4]) -> Option<u16>
     Some(256 * high + low)
 }
 
-fn byte_of(digits: [u8; 2]) -> Option<u8>
+/// The byte of two digits.
+pub fn byte_of(digits: [u8; 2]) -> Option<u8>
     ensures { IfSome result (λ byte. digits ≡ byte_digits byte) }
 {
     let [high, low] = digits;

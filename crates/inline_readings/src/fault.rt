@@ -1,8 +1,9 @@
 //! Why lines were not answered, or not to their end.
 ghost use Rattle.std.specs.Prelude.{◌≡◌, Some};
 ghost use Rattle.inline_readings.specs.Fault.{status_of, line_of};
-ghost use Rattle.inline_readings.specs.declared.fault.ReadingFault.TheVariants.{NoMemory};
+ghost use Rattle.inline_readings.specs.declared.fault.ReadingFault.TheVariants.{NoMemory, TooLong};
 
+use inlinable_string::inline_string::NotEnoughSpaceError;
 use std::alloc::AllocError;
 use std::{fmt, io};
 
@@ -13,6 +14,8 @@ pub enum ReadingFault {
     BadLine(usize),
     /// Memory was refused.
     NoMemory,
+    /// A text for an array has more bytes than that.
+    TooLong,
     /// A line could not be read, or an answer could not be written.
     Stream,
 }
@@ -23,7 +26,7 @@ impl ReadingFault {
         ensures { result ≡ status_of self }
     {
         match self {
-            ReadingFault::BadLine(_) => 2,
+            ReadingFault::BadLine(_) | ReadingFault::TooLong => 2,
             ReadingFault::NoMemory | ReadingFault::Stream => 1,
         }
     }
@@ -36,6 +39,7 @@ impl fmt::Display for ReadingFault {
         match self {
             ReadingFault::BadLine(number) => write!(f, "line {number}: no input"),
             ReadingFault::NoMemory => f.write_str("no memory"),
+            ReadingFault::TooLong => f.write_str("a text does not fit its array"),
             ReadingFault::Stream => f.write_str("read or write fault"),
         }
     }
@@ -46,6 +50,14 @@ impl From<AllocError> for ReadingFault {
 
     fn from(_error: AllocError) -> ReadingFault {
         ReadingFault::NoMemory
+    }
+}
+
+impl From<NotEnoughSpaceError> for ReadingFault {
+    ghost from_gives = { λ _ fault. fault ≡ TooLong };
+
+    fn from(_error: NotEnoughSpaceError) -> ReadingFault {
+        ReadingFault::TooLong
     }
 }
 

@@ -3,6 +3,7 @@ ghost use Rattle.std.specs.Prelude.{◌≡◌, IfOk, IfSome};
 ghost use Rattle.inline_readings.specs.Line.{line_of};
 
 use crate::digits::{bytes_of, units_of};
+use crate::pair::{Pair, pair_of};
 use std::alloc::{AllocError, Global};
 
 /// What a line asks to read.
@@ -12,6 +13,8 @@ pub enum Asked {
     Bytes(Vec<u8>),
     /// Units, by `from_utf16` and `from_utf16_lossy`.
     Units(Vec<u16>),
+    /// Two texts, to be compared, hashed and printed.
+    Pair(Pair),
 }
 
 /// What a line asks to read; `None` where it asks for nothing.
@@ -29,6 +32,12 @@ pub fn asked_of(alloc: Global, line: &str) -> Result<Option<Asked>, AllocError>
             return Ok(None);
         };
         return Ok(Some(Asked::Units(units)));
+    }
+    if let Some(rest) = line.strip_prefix("pair ") {
+        let Some(pair) = pair_of(alloc, rest)? else {
+            return Ok(None);
+        };
+        return Ok(Some(Asked::Pair(pair)));
     }
     Ok(None)
 }

@@ -1,23 +1,29 @@
-//! Prints what the readers of bytes and of UTF-16 make of each line of standard input.
+//! Prints what the library answers to each line of standard input.
 //!
-//! A line is `bytes` or `units`, a space, and hexadecimal digits: two for each byte, four for each
-//! unit. For each line the answers of both types of text are printed, a line each.
+//! A line of the readers is `bytes` or `units`, a space, and hexadecimal digits: two for each byte,
+//! four for each unit. The answers of both types of text are printed, a line each. A line of a pair
+//! of texts is `pair` and what `pair.rt` says: where both lie is printed, and how they compare, hash
+//! and print.
 #![tactic(auto)]
 
 mod answers;
+mod compared;
 mod digits;
 mod fault;
 mod line;
+mod made;
+mod pair;
 mod readings;
 #[cfg(test)]
 mod tests;
 
 use answers::{push_bytes_read, push_units_read};
+use compared::push_pair;
 use fault::ReadingFault;
 use inlinable_string::InlinableString;
 use line::{Asked, asked_of};
 use readings::{read_bytes, read_units};
-use std::alloc::{AllocError, Global};
+use std::alloc::Global;
 use std::io::{self, BufRead, BufReader, BufWriter, Write};
 use std::process::ExitCode;
 
@@ -60,20 +66,22 @@ fn answer_lines<B: BufRead + Drop, W: Write>(
     Ok(())
 }
 
-/// Adds the answers of both types.
-fn push_answers(alloc: Global, asked: &Asked, answers: &mut Vec<u8>) -> Result<(), AllocError> {
+/// Adds the answers to a line.
+fn push_answers(alloc: Global, asked: &Asked, answers: &mut Vec<u8>) -> Result<(), ReadingFault> {
     match asked {
         Asked::Bytes(bytes) => {
             let bytes = bytes.as_slice();
             push_bytes_read(answers, "String", &read_bytes::<String>(alloc, bytes)?)?;
             let inlinable = read_bytes::<InlinableString>(alloc, bytes)?;
-            push_bytes_read(answers, "InlinableString", &inlinable)
+            push_bytes_read(answers, "InlinableString", &inlinable)?;
         }
         Asked::Units(units) => {
             let units = units.as_slice();
             push_units_read(answers, "String", &read_units::<String>(alloc, units)?)?;
             let inlinable = read_units::<InlinableString>(alloc, units)?;
-            push_units_read(answers, "InlinableString", &inlinable)
+            push_units_read(answers, "InlinableString", &inlinable)?;
         }
+        Asked::Pair(pair) => push_pair(alloc, pair, answers)?,
     }
+    Ok(())
 }

@@ -31,6 +31,21 @@ fn a_line_of_another_form_asks_for_nothing(rt: HostRuntime) -> Result<(), Fail> 
         "units 00610",
         "units 006g",
         "units 006A",
+        "pair",
+        "pair ",
+        "pair InlineString plain 00 00 made 61",
+        "pair InlineString plain 00 00 made 61 made",
+        "pair InlineString plain 00 00 made 61 made 61 ",
+        "pair InlineString plain 00 00  made 61 made 61",
+        "pair inlinestring plain 00 00 made 61 made 61",
+        "pair InlineString none 00 00 made 61 made 61",
+        "pair InlineString plain 0 00 made 61 made 61",
+        "pair InlineString plain 00 000 made 61 made 61",
+        "pair InlineString plain 00 0A made 61 made 61",
+        "pair InlineString plain 00 00 shrunk 61 made 61",
+        "pair InlineString plain 00 00 made 6 made 61",
+        "pair InlineString plain 00 00 made 61 made ff",
+        "pair InlineString plain 00 00 made eda080 made 61",
     ];
     for line in lines {
         assert!(rt; asked_of(rt.alloc(), line)?.is_none(), "{line:?}");
@@ -48,5 +63,23 @@ fn the_lines_before_a_bad_one_are_answered(rt: HostRuntime) -> Result<(), Fail> 
     let first = b"String from_utf8 text 61\nString from_utf8_lossy borrowed 61\n\
         InlinableString from_utf8 text 61\nInlinableString from_utf8_lossy borrowed 61\n";
     assert_eq!(rt; out.as_slice(), first.as_slice());
+    Ok(())
+}
+
+#[test]
+fn a_text_that_does_not_fit_its_array_is_a_fault(rt: HostRuntime) -> Result<(), Fail> {
+    let alloc = rt.alloc();
+    let inputs = [
+        "pair InlineString plain 00 00 made \
+            61626364656667686961626364656667686961626364656667686961626364 made 61",
+        "pair InlineString plain 00 00 made 61 removed_wide \
+            616263646566676869616263646566676869616263646566676869",
+    ];
+    for input in inputs {
+        let mut out = Vec::new(alloc);
+        let answered = answer_lines(alloc, input.as_bytes().lines(alloc), &mut out);
+        assert_eq!(rt; answered, Err(ReadingFault::TooLong), "{input}");
+        assert!(rt; out.is_empty(), "{input}");
+    }
     Ok(())
 }
