@@ -26,6 +26,27 @@ READING_ANSWERS = tuple(f'{name} {answer}' for name in ('String', 'InlinableStri
     'from_utf8 text', 'from_utf8 fault', 'from_utf8_lossy borrowed', 'from_utf8_lossy owned',
     'from_utf16 text', 'from_utf16 fault', 'from_utf16_lossy text'))
 
+# Pairs of texts: the same. The words are the formats, and for each type the ways in which a text of it
+# comes about.
+PAIRS = {'values': 500, 'digests': 1000}
+PAIRS_OF_EACH = 2_000
+PAIR_KINDS = (
+    'equal_texts', 'front_of_other', 'other_last', 'same_size', 'an_empty_text', 'at_the_limits',
+    'escaped', 'marks', 'edges', 'any_characters')
+PAIR_WORDS = (
+    'plain', 'wide', 'left', 'right', 'center', 'cut', 'cut_left', 'cut_right', 'cut_center',
+    *(f'{name} {way}' for name in ('InlineString', 'InlinableString', 'InlinableStringN<8>')
+      for way in ('made', 'truncated', 'popped', 'removed', 'removed_wide')),
+    'InlinableString reserved', 'InlinableStringN<8> reserved',
+    'equal in two ways', 'equal where one was reserved')
+PAIR_ANSWERS = (
+    *(f'{name} {answer}' for name in ('InlineString', 'InlinableString', 'InlinableStringN<8>')
+      for answer in (
+          'lies inline', 'eq true', 'eq false', 'cmp less', 'cmp equal', 'cmp greater',
+          'partial_cmp less', 'partial_cmp equal', 'partial_cmp greater',
+          'hash DefaultHasher', 'printed Display', 'printed Debug')),
+    'InlinableString lies heap', 'InlinableStringN<8> lies heap')
+
 # Hostile inputs: how many, the part of them that is accepted and so runs, and how many there must be
 # of each reply and of each fault that an input can lead to. (Want of memory before a run can't be
 # brought about by an input.)

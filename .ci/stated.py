@@ -10,7 +10,8 @@ STATED = {
         '`crates/callers` has {callers} such functions',
         '{lists} generated lists of commands',
         'and {hostile_inputs} hostile inputs',
-        'on {reading_values} stored and {read_inputs} generated inputs; {reading_inputs} once',
+        'on {reading_values} stored and {run_lines} generated inputs; {reading_inputs} once',
+        'on {pair_values} stored and {run_lines} generated pairs; {pair_inputs} once',
     ),
     'docs/TESTING.md': (
         '{crates} crates, the {edits_alone} edits of `must-fail/`, {tests} tests',
@@ -22,14 +23,19 @@ STATED = {
         '{requests} of them, met {meetings} times',
         '{stored_cases} stored cases and {replayed_answers} generated scripts, on each of two builds',
         '{hostile_inputs} inputs on each of two builds',
-        '{reading_values} inputs by value and {read_inputs} by digests, on each of two builds',
+        '{reading_values} inputs by value and {run_lines} by digests, on each of two builds',
+        '{pair_values} pairs by value and {run_lines} by digests, on each of two builds',
         '**Lists of commands**, {lists} from seed',
         '**Scripts**, {stored_answers}, of which the gate runs the first {replayed_answers}',
         '**Hostile inputs**, {hostile_inputs} from seed',
         '**Inputs for the readers**, {reading_inputs} from seed',
-        'the gate runs the first {read_inputs} on each build and `.ci/gate readings --all`',
+        'the gate runs the first {run_lines} on each build and `.ci/gate readings --all`',
+        '**Pairs of texts**, {pair_inputs} from seed',
+        'the gate runs the first {run_lines} on each build and `.ci/gate pairs --all`',
         'inputs for the readers answered by Rust\'s own std, and by `inline_readings` '
         '| {reading_inputs} |',
+        'pairs of texts compared, hashed and printed by Rust\'s own `str`, and by `inline_readings` '
+        '| {pair_inputs} |',
         'generated scripts answered by the original crate, for the digests | {stored_answers} |',
     ),
     'replay/README.md': (
@@ -37,7 +43,10 @@ STATED = {
         'all cases and the first {replayed_answers} scripts',
         '{reading_values} inputs, as many of each kind',
         'a line for each thousand of {reading_inputs} generated inputs, of which the gate runs the '
-        'first {read_inputs}',
+        'first {run_lines}',
+        '{pair_values} pairs, as many of each kind',
+        'a line for each thousand of {pair_inputs} generated pairs, of which the gate runs the '
+        'first {run_lines}',
         'They are the first {sparrow_cases} and the first {wren_cases} that a Python program drew',
     ),
 }

@@ -8,8 +8,8 @@ import os
 import re
 from collections import Counter
 
-from floors import HOSTILE_INPUTS, PROMISES, READINGS, REFUSALS, STORED
-from gate_parts import promises, readings
+from floors import HOSTILE_INPUTS, PAIRS, PROMISES, READINGS, REFUSALS, STORED
+from gate_parts import answered_lines, promises
 from gate_parts.callers import require_callers
 from gate_parts.digests import STEP
 from gate_parts.edit_files import edits_of
@@ -139,7 +139,8 @@ def counted():
         'stored_answers': STORED['digests'] * STEP, 'replayed_answers': THOUSANDS * STEP,
         'hostile_inputs': HOSTILE_INPUTS,
         'reading_values': READINGS['values'], 'reading_inputs': READINGS['digests'] * STEP,
-        'read_inputs': readings.THOUSANDS * STEP,
+        'pair_values': PAIRS['values'], 'pair_inputs': PAIRS['digests'] * STEP,
+        'run_lines': answered_lines.THOUSANDS * STEP,
     }
 
 

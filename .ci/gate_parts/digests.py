@@ -3,7 +3,7 @@
 A line of a file of digests has a seed, the number of the first of a thousand inputs, a digest of the
 inputs, and one of a judge's answers to them. A digest is a SHA-256. Of the inputs' digest the first
 16 digits are enough: it only tells whether the inputs are still those that the judge answered.
-`script_digests.py` and `reading_digests.py` say of what bytes the digests are.
+`script_digests.py` and `line_digests.py` say of what bytes the digests are.
 """
 import os
 from collections import Counter

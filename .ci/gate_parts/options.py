@@ -11,6 +11,7 @@ KNOWN = {
     'crates': {'nargs': '*', 'metavar': 'CRATE'},
     'programs': {'nargs': '*', 'metavar': 'PROGRAM'},
     'judge': {'metavar': 'JUDGE'},
+    'family': {'choices': ('readings', 'pairs')},
     'what': {'choices': ('digests', 'values')},
     '--named': {'default': '', 'metavar': 'WORD'},
     '--jobs': {'type': int, 'default': PROCESSORS, 'metavar': 'N'},

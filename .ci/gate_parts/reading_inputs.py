@@ -1,23 +1,16 @@
-"""gate reading_inputs [--seed S] [--first N]: prints a thousand of the inputs that `gate readings` draws.
+"""Inputs for the readers: lines of bytes or units of UTF-16, in hexadecimal digits.
 
-An input is a line as `inline_readings` takes it: bytes or units of UTF-16, in hexadecimal digits. It
-is made of pieces of a kind, near an edge of its encoding, and of others about them. This is no part
-of the gate.
+Each is made of pieces of a kind, near an edge of its encoding, and of others about them. An input has
+the kind of its chief piece.
 """
 from typing import Callable, NamedTuple
 
-from gate_parts.draw import Draw, check_draws
+from floors import READING_ANSWERS, READING_KINDS, READINGS_OF_EACH
+from floors import READINGS as HELD
+from gate_parts.draw import Draw
 from gate_parts.generated import spoilt
 from gate_parts.good_scripts import a_char
-from gate_parts.options import options
-
-STEP = 1000
-
-
-class Input(NamedTuple):
-    """A line, and the kind of its chief piece."""
-    kind: str
-    line: str
+from gate_parts.lines import Family, Input
 
 
 # Pieces of bytes.
@@ -192,18 +185,11 @@ def reading_input(seed, number):
     return Input(chief.__name__, f'{encoding.word} {digits}')
 
 
-def inputs_from(seed, first):
-    """A thousand of a seed."""
-    return [reading_input(seed, number) for number in range(first, first + STEP)]
+def counted(drawn):
+    return [drawn.kind]
 
 
-def text_of_inputs(inputs):
-    """What a program reads."""
-    return ''.join(each.line + '\n' for each in inputs).encode()
-
-
-def main(words):
-    given = options('reading_inputs', __doc__, words, '--seed', '--first')
-    check_draws()
-    print(text_of_inputs(inputs_from(given.seed, given.first)).decode(), end='')
-    return True
+# Each input has two answers of each of two types.
+READINGS = Family(
+    name='readings', drawn=reading_input, kinds=tuple(kinds()),
+    counted=counted, answers=4, held=HELD, wanted=(*READING_KINDS, *READING_ANSWERS), of_each=READINGS_OF_EACH)

@@ -14,25 +14,30 @@ import unittest
 from collections import Counter
 from unittest import mock
 
-from gate_parts import hostile_inputs, promises, reading_inputs, said, specified
+from floors import PAIR_ANSWERS, READING_ANSWERS
+from gate_parts import hostile_inputs, pair_inputs, promises, reading_inputs, said, specified, stored_lines
+from gate_parts.answered_lines import shortfalls
 from gate_parts.callers import promising
 from gate_parts.counts import misstatements
 from gate_parts.definitions import Reach, cite_copies
 from gate_parts.edit_files import Change, Edit, read_edits, texts_with
 from gate_parts.edits import refused_by
 from gate_parts.enclosing import function_changed
+from gate_parts.families import FAMILIES
 from gate_parts.hostile import Tally, tried
-from gate_parts.readings import shortfalls
 from gate_parts.reach import reached_by, words_by_definition
+from gate_parts.lines import inputs_from
 from gate_parts.options import options
 from gate_parts.tree import Failure, in_tree, text_of, write_text
 
+ANSWERS = (*READING_ANSWERS, *PAIR_ANSWERS)
 CRATES = 'toy:\nabove: toy\ncallers: toy\n'
 FLOORS = '''
 EDITS = {'toy': 1}
 REFUSALS = {'toy': (2, 3)}
 STORED = {'a.cases': 2, 'b.cases': 1, 'digests': 0}
 READINGS, READINGS_OF_EACH, READING_KINDS, READING_ANSWERS = {'values': 40, 'digests': 2}, 0, (), ()
+PAIRS, PAIRS_OF_EACH, PAIR_KINDS, PAIR_WORDS, PAIR_ANSWERS = {'values': 40, 'digests': 2}, 0, (), (), ()
 HOSTILE_INPUTS, HOSTILE_ACCEPTED_PART, HOSTILE_OF_EACH, HOSTILE_REPLIES, HOSTILE_FAULTS = 1, 0, 0, (), ()
 WRONG_DEFINITIONS, WRONG_CLAUSES, CALLERS, PROMISES = {'toy': 1}, 1, 1, 0
 '''
@@ -293,7 +298,8 @@ class Replay(InSmallRepository):
         self.write('replay/b.cases', CASES.format('b').partition('case b_2')[0])
         self.write('replay/digests', '')
         self.write('replay/README.md', '')
-        os.mkdir(os.path.join(self.place, 'replay/readings'))
+        for name in ('judge', 'pairs', 'readings'):
+            os.mkdir(os.path.join(self.place, 'replay', name))
         self.write('bin/program', '#!/bin/sh\necho done\n')
         self.program = os.path.join(self.place, 'bin/program')
         os.chmod(self.program, 0o755)
@@ -335,18 +341,24 @@ class Replay(InSmallRepository):
         self.assert_fails('is not there', 'replay')
 
 
-class Readings(InSmallRepository):
-    # It answers a line with four that say it again.
-    ECHO = "#!/bin/sh\nexec sed 'h;s/^/1 /p;g;s/^/2 /p;g;s/^/3 /p;g;s/^/4 /'\n"
+class AnsweredLines:
+    """Of the part of a family: a program that answers each line with as many that say it again."""
 
     def setUp(self):
         super().setUp()
-        self.program = self.program_of('echo', self.ECHO)
-        self.write('replay/readings/judge.rs', '')
+        self.last = self.FAMILY.answers
+        again = (f's/^/{number} /p;g' for number in range(1, self.last))
+        self.echo = f"#!/bin/sh\nexec sed 'h;{';'.join(again)};s/^/{self.last} /'\n"
+        self.program = self.program_of('echo', self.echo)
+        for name in stored_lines.JUDGE:
+            self.write(f'replay/judge/{name}', '')
         for name in ('digests', 'values'):
-            status, stored = self.gate('store_readings', self.program, name)
+            status, stored = self.gate('store_lines', self.program, self.FAMILY.name, name)
             self.assertEqual(status, 0, stored)
-            self.write('replay/readings/' + name, stored)
+            self.write(self.path_of(name), stored)
+
+    def path_of(self, name):
+        return os.path.join(self.place, 'replay', self.FAMILY.name, name)
 
     def program_of(self, name, text):
         self.write('bin/' + name, text)
@@ -355,64 +367,94 @@ class Readings(InSmallRepository):
         return path
 
     def changed(self, name, old, new):
-        path = os.path.join(self.place, 'replay/readings', name)
-        text = text_of(path)
+        text = text_of(self.path_of(name))
         self.assertIn(old, text)
-        write_text(path, text.replace(old, new, 1))
+        write_text(self.path_of(name), text.replace(old, new, 1))
+
+    def assert_part_passes(self, program):
+        self.assert_passes(self.FAMILY.name, program)
+
+    def assert_part_fails(self, why, program):
+        self.assert_fails(why, self.FAMILY.name, program)
 
     def test_answers_as_they_are_stored(self):
-        self.assert_passes('readings', self.program)
+        self.assert_part_passes(self.program)
 
     def test_answers_that_are_not(self):
-        other = self.program_of('other', self.ECHO.replace('4', '5'))
-        self.assert_fails('0 passed, 42 failed', 'readings', other)
-        late = self.program_of('late', self.ECHO.replace('s/^/4 /', 's/^/4 /;999s/4/5/'))
-        self.assert_fails('40 passed, 2 failed', 'readings', late)
+        other = self.program_of('other', self.echo.replace(f'{self.last} /', 'other /'))
+        self.assert_part_fails('0 passed, 42 failed', other)
+        late = self.program_of('late', self.echo.replace(f'{self.last} /', f'{self.last} /;999s/[0-9]/other/'))
+        self.assert_part_fails('40 passed, 2 failed', late)
 
     def test_program_that_does_not_take_the_lines(self):
-        self.assert_fails('ends with 2', 'readings', self.program_of('fault', '#!/bin/sh\nexit 2\n'))
+        self.assert_part_fails('ends with 2', self.program_of('fault', '#!/bin/sh\nexit 2\n'))
 
     def test_stored_value_that_is_another(self):
-        self.changed('values', '\n4 ', '\n5 ')
-        self.assert_fails('41 passed, 1 failed', 'readings', self.program)
+        self.changed('values', f'\n{self.last} ', '\nother ')
+        self.assert_part_fails('41 passed, 1 failed', self.program)
 
     def test_values_that_are_cut(self):
-        path = os.path.join(self.place, 'replay/readings/values')
+        path = self.path_of('values')
         write_text(path, text_of(path).rpartition('\n\n')[0])
-        self.assert_fails('has 39 values, and must have 40', 'readings', self.program)
+        self.assert_part_fails('has 39 values, and must have 40', self.program)
         write_text(path, text_of(path).rpartition('\n')[0])
-        self.assert_fails('not each input has a kind', 'readings', self.program)
+        self.assert_part_fails('not each input has a kind', self.program)
 
     def test_digests_that_are_cut(self):
-        path = os.path.join(self.place, 'replay/readings/digests')
+        path = self.path_of('digests')
         write_text(path, text_of(path).split('\n')[0] + '\n')
-        self.assert_fails('has 1 digests, and must have 2', 'readings', self.program)
+        self.assert_part_fails('has 1 digests, and must have 2', self.program)
 
     def test_inputs_that_are_others(self):
-        self.changed('digests', text_of(os.path.join(self.place, 'replay/readings/digests')).split(' ')[2], '0' * 16)
-        self.assert_fails('not those that the judge answered', 'readings', self.program)
+        self.changed('digests', text_of(self.path_of('digests')).split(' ')[2], '0' * 16)
+        self.assert_part_fails('not those that the judge answered', self.program)
 
     def test_file_that_is_gone(self):
-        os.remove(os.path.join(self.place, 'replay/readings/judge.rs'))
-        self.assert_fails('missing, or read by nothing: judge.rs', 'readings', self.program)
+        os.remove(os.path.join(self.place, 'replay/judge/main.rs'))
+        self.assert_part_fails('missing, or read by nothing: main.rs', self.program)
+
+
+class Readings(AnsweredLines, InSmallRepository):
+    FAMILY = reading_inputs.READINGS
 
     def test_too_few_of_each(self):
-        self.write('.ci/floors.py', FLOORS.replace('0, (), ()\nHOSTILE', "1, (), ('String from_utf8 text',)\nHOSTILE"))
-        self.assert_fails('TOO FEW: 0 are `String from_utf8 text`', 'readings', self.program)
+        self.write('.ci/floors.py', FLOORS.replace('0, (), ()\nPAIRS', "1, (), ('String from_utf8 text',)\nPAIRS"))
+        self.assert_part_fails('TOO FEW: 0 are `String from_utf8 text`', self.program)
 
 
-class ReadingInputs(unittest.TestCase):
-    def lacking(self):
-        tally = Counter(each.kind for each in reading_inputs.inputs_from('selftest', 0))
-        return [text for text in shortfalls(tally, 10) if 'String' not in text]
+class Pairs(AnsweredLines, InSmallRepository):
+    FAMILY = pair_inputs.PAIRS
+
+    def test_too_few_of_each(self):
+        self.write('.ci/floors.py', FLOORS.replace('0, (), (), ()\n', "1, (), ('cut_left',), ('InlineString eq true',)\n"))
+        self.assert_part_fails('TOO FEW: 0 are `InlineString eq true`', self.program)
+
+
+class LineInputs(unittest.TestCase):
+    """What is drawn of a thousand inputs, for which the floors are too high, and without answers."""
+
+    def lacking(self, family):
+        tally = Counter(name for each in inputs_from(family, 'selftest', 0) for name in family.counted(each))
+        return list(shortfalls([name for name in family.wanted if name not in ANSWERS], 10, tally))
 
     def test_inputs_are_of_every_kind(self):
-        self.assertEqual(self.lacking(), [])
+        for family in FAMILIES.values():
+            self.assertEqual(self.lacking(family), [])
 
-    def test_generator_that_makes_only_noise(self):
+    def test_readings_that_are_only_noise(self):
         noise = {reading_inputs.noise_bytes: 1}
         with mock.patch.dict(reading_inputs.BYTES.pieces, noise, clear=True):
-            self.assertIn('0 are `row_of_table`, and at least 10 must be', self.lacking())
+            self.assertIn('0 are `row_of_table`, and at least 10 must be', self.lacking(reading_inputs.READINGS))
+
+    def test_pairs_that_are_never_equal(self):
+        with mock.patch.object(pair_inputs, 'KINDS', (pair_inputs.front_of_other,)):
+            self.assertIn('0 are `equal in two ways`, and at least 10 must be', self.lacking(pair_inputs.PAIRS))
+
+    def test_pairs_that_are_all_in_one_storage(self):
+        with mock.patch.object(pair_inputs, 'ways', lambda text_type, size: ['made']):
+            lacking = ' '.join(self.lacking(pair_inputs.PAIRS))
+        for name in ('InlineString popped', 'InlinableString reserved', 'equal where one was reserved'):
+            self.assertIn(f'0 are `{name}`', lacking)
 
 
 class Hostile(unittest.TestCase):

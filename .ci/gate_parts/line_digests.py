@@ -1,15 +1,16 @@
-"""Digests of the generated inputs for the readers, and of what programs answer to them.
+"""Digests of the generated lines of a family, and of what programs answer to them.
 
 They are of a thousand lines as a program reads them, and of its whole standard output. A program is
 run once for a thousand.
 """
 from collections import Counter
+from functools import partial
 from hashlib import sha256
 
 from gate_parts.cases import Case
 from gate_parts.digests import Generated, Thousand
+from gate_parts.lines import inputs_from, text_of_inputs
 from gate_parts.quick_runs import QuickRuns, TooSlow
-from gate_parts.reading_inputs import inputs_from, text_of_inputs
 from gate_parts.tree import Failure
 
 
@@ -28,26 +29,28 @@ def answers_of(program, name, lines):
 
 
 def kind_of_answer(line):
-    """The type, the call and how it came out: all but the text."""
+    """The type, the call and how it came out: all but the bytes."""
     return ' '.join(line.split(' ')[:3])
 
 
-def digests_from(programs, start):
+def digests_from(family, programs, start):
     """The digest of a thousand inputs, that of what each program answers, and the kinds of both."""
-    inputs = inputs_from(*start)
+    inputs = inputs_from(family, *start)
     lines = text_of_inputs(inputs)
     answers = [answers_of(program, f'the inputs from {start[1]} on', lines) for program in programs]
-    tally = Counter(each.kind for each in inputs)
+    tally = Counter(name for each in inputs for name in family.counted(each))
     # the answers of the first program: where those of another differ, its digest does
     tally += Counter(map(kind_of_answer, answers[0].decode().splitlines()))
     return Thousand(sha256(lines).hexdigest()[:16], [sha256(each).hexdigest() for each in answers], tally)
 
 
-def first_difference(program, digest):
+def first_difference(family, program, digest):
     """How to find it: no answers but the judge's are there to compare with."""
-    given = f'.ci/gate reading_inputs --seed {digest.seed} --first {digest.first}'
+    given = f'.ci/gate draw_lines {family.name} --seed {digest.seed} --first {digest.first}'
     return (f'To see at which, with JUDGE built as replay/README.md says:\n'
             f'    {given} >INPUTS; JUDGE <INPUTS >WANTED; {program} <INPUTS | diff WANTED -')
 
 
-READINGS = Generated('inputs', digests_from, first_difference, 'store_readings')
+def generated_lines(family):
+    """What is generated of a family."""
+    return Generated('inputs', partial(digests_from, family), partial(first_difference, family), 'store_lines')

@@ -1,0 +1,40 @@
+"""The builds of `inline_readings` on the lines of a family, against what `replay/` holds of it."""
+from gate_parts.digests import STEP, failed_digests
+from gate_parts.line_digests import generated_lines
+from gate_parts.options import options
+from gate_parts.programs import chosen
+from gate_parts.stored_lines import failed_values, stored_line_digests, stored_values
+
+# So many thousands of generated inputs are run, unless all are.
+THOUSANDS = 100
+
+
+def shortfalls(wanted, of_each, tally):
+    """In words, of what there is less than there must be."""
+    for name in wanted:
+        if tally[name] < of_each:
+            yield f'{tally[name]} are `{name}`, and at least {of_each} must be'
+
+
+def is_answered(family, builds, is_whole):
+    """Whether every build, each a name and a path, answers as is stored, and there is enough of each kind."""
+    values, digests = stored_values(family), stored_line_digests(family)
+    run = digests if is_whole else digests[:THOUSANDS]
+    failed, tally = failed_digests(generated_lines(family), builds, run)
+    for kind, count in sorted(tally.items()):
+        print(f'{count:>9,}  {kind}')
+    for name, path in builds.items():
+        failed[name] += failed_values(family, name, path, values)
+    for name, count in failed.items():
+        print(f'{name}: {len(values)} inputs and {len(run)} digests of {STEP} inputs: '
+              f'{len(values) + len(run) - count} passed, {count} failed')
+    lacking = list(shortfalls(family.wanted, family.of_each, tally))
+    for text in lacking:
+        print(f'TOO FEW: {text}')
+    return not lacking and not any(failed.values())
+
+
+def part_of(family, told, words):
+    """The part of the gate that runs a family."""
+    given = options(family.name, told, words, 'programs', '--all')
+    return is_answered(family, chosen(given.programs, 'inline_readings'), given.all)

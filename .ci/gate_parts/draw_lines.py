@@ -1,0 +1,15 @@
+"""gate draw_lines FAMILY [--seed S] [--first N]: prints a thousand of the inputs that a part draws.
+
+FAMILY is the name of the part, `readings` or `pairs`. This is no part of the gate.
+"""
+from gate_parts.draw import check_draws
+from gate_parts.families import FAMILIES
+from gate_parts.lines import inputs_from, text_of_inputs
+from gate_parts.options import options
+
+
+def main(words):
+    given = options('draw_lines', __doc__, words, 'family', '--seed', '--first')
+    check_draws()
+    print(text_of_inputs(inputs_from(FAMILIES[given.family], given.seed, given.first)).decode(), end='')
+    return True

@@ -1,0 +1,39 @@
+"""Inputs that are lines of `inline_readings`, in families that are drawn, stored and answered alike."""
+from typing import Callable, NamedTuple
+
+STEP = 1000
+
+
+class Input(NamedTuple):
+    """A line, and its kind among those of its family."""
+    kind: str
+    line: str
+
+
+class Family(NamedTuple):
+    """Lines of one sort, and what must be there of them."""
+    # that of the part of the gate, and of a folder of `replay/`
+    name: str
+    # an input, of a seed and a number: always the same one
+    drawn: Callable
+    # the names of the kinds
+    kinds: tuple
+    # what an input counts as
+    counted: Callable
+    # how many lines answer an input
+    answers: int
+    # how many have their answers by value, and how many digests there are
+    held: dict
+    # of each of these so many must be among the inputs and answers of what is run
+    wanted: tuple
+    of_each: int
+
+
+def inputs_from(family, seed, first):
+    """A thousand of a seed."""
+    return [family.drawn(seed, number) for number in range(first, first + STEP)]
+
+
+def text_of_inputs(inputs):
+    """What a program reads."""
+    return ''.join(each.line + '\n' for each in inputs).encode()

@@ -1,0 +1,22 @@
+"""gate store_lines JUDGE FAMILY WHAT [--seed S]: writes the digests of a judge's answers, or its answers.
+
+To standard output goes the file WHAT, `digests` or `values`, of the folder of `replay/` that has the
+name of the family. The judge is a program that answers the lines of `inline_readings`. This is no
+part of the gate.
+"""
+from gate_parts.digests import print_digests
+from gate_parts.families import FAMILIES
+from gate_parts.line_digests import generated_lines
+from gate_parts.options import options
+from gate_parts.programs import checked
+from gate_parts.stored_lines import answered, drawn_values, told
+
+
+def main(words):
+    given = options('store_lines', __doc__, words, 'judge', 'family', 'what', '--seed')
+    judge, family = checked(given.judge), FAMILIES[given.family]
+    if given.what == 'digests':
+        print_digests(generated_lines(family), judge, given.seed, family.held['digests'])
+    else:
+        print('\n\n'.join(map(told, answered(family, judge, drawn_values(family, f'{given.seed} values')))))
+    return True

@@ -1,0 +1,83 @@
+"""What `replay/` holds of a family of lines: digests, and answers by value, each below its input and its kind.
+
+    cut_character
+    bytes e282
+    String from_utf8 fault e282
+    String from_utf8_lossy owned efbfbd
+    InlinableString from_utf8 fault e282
+    InlinableString from_utf8_lossy owned efbfbd
+
+Empty lines part them. `replay/judge/` has the program that answered them.
+"""
+import os
+from itertools import count
+from typing import NamedTuple
+
+from gate_parts.digests import stored_digests
+from gate_parts.line_digests import answers_of
+from gate_parts.lines import Input, text_of_inputs
+from gate_parts.stored import FOLDER, check_count, check_files
+from gate_parts.tree import Failure, text_of
+
+JUDGE = ('main.rs', 'digits.rs', 'pairs.rs', 'readings.rs')
+
+
+class Answered(NamedTuple):
+    """An input, and the lines that answer it."""
+    input: Input
+    answers: list
+
+
+def path_of(family, name):
+    return os.path.join(FOLDER, family.name, name)
+
+
+def stored_line_digests(family):
+    check_files(os.path.join(FOLDER, 'judge'), *JUDGE)
+    check_files(os.path.join(FOLDER, family.name), *family.held)
+    return stored_digests(path_of(family, 'digests'), family.held['digests'])
+
+
+def stored_values(family):
+    """The inputs that have their answers by value."""
+    path = path_of(family, 'values')
+    blocks = [block.split('\n') for block in text_of(path).rstrip('\n').split('\n\n')]
+    if any(len(block) != 2 + family.answers for block in blocks):
+        raise Failure(f'{path}: not each input has a kind and {family.answers} answers')
+    values = [Answered(Input(kind, line), answers) for kind, line, *answers in blocks]
+    check_count(path, 'values', len({each.input.line for each in values}), family.held['values'])
+    return values
+
+
+def answered(family, program, inputs):
+    """What a program answers to each of the inputs."""
+    lines = answers_of(program, 'the stored values', text_of_inputs(inputs)).decode().splitlines()
+    size = family.answers
+    return [Answered(each, lines[at * size:(at + 1) * size]) for at, each in enumerate(inputs)]
+
+
+def told(each):
+    return '\n'.join((*each.input, *each.answers))
+
+
+def failed_values(family, name, program, values):
+    """Of how many inputs a program does not answer as is stored; each is printed."""
+    failed = 0
+    for given, wanted in zip(answered(family, program, [each.input for each in values]), values):
+        if given != wanted:
+            failed += 1
+            print(f'{name}: FAILED, wanted\n{told(wanted)}\nand given\n{told(given)}\n')
+    return failed
+
+
+def drawn_values(family, seed):
+    """Inputs of each kind, the same number of each and no two alike: as many as are stored."""
+    found, lines = {kind: [] for kind in family.kinds}, set()
+    most = family.held['values'] // len(found)
+    for number in count():
+        drawn = family.drawn(seed, number)
+        if len(found[drawn.kind]) < most and drawn.line not in lines:
+            found[drawn.kind].append(drawn)
+            lines.add(drawn.line)
+        if len(lines) == most * len(found):
+            return [each for inputs in found.values() for each in inputs]
