@@ -343,6 +343,8 @@ class Replay(InSmallRepository):
 
 class AnsweredLines:
     """Of the part of a family: a program that answers each line with as many that say it again."""
+    # What it answers, by family and file: the same in each test.
+    STORED = {}
 
     def setUp(self):
         super().setUp()
@@ -353,9 +355,15 @@ class AnsweredLines:
         for name in stored_lines.JUDGE:
             self.write(f'replay/judge/{name}', '')
         for name in ('digests', 'values'):
-            status, stored = self.gate('store_lines', self.program, self.FAMILY.name, name)
-            self.assertEqual(status, 0, stored)
-            self.write(self.path_of(name), stored)
+            self.write(self.path_of(name), self.stored(name))
+
+    def stored(self, name):
+        asked = self.FAMILY.name, name
+        if asked not in self.STORED:
+            status, said = self.gate('store_lines', self.program, *asked)
+            self.assertEqual(status, 0, said)
+            self.STORED[asked] = said
+        return self.STORED[asked]
 
     def path_of(self, name):
         return os.path.join(self.place, 'replay', self.FAMILY.name, name)
