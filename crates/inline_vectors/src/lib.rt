@@ -24,6 +24,8 @@ mod makers;
 #[cfg(test)]
 mod memory;
 #[cfg(test)]
+mod moves;
+#[cfg(test)]
 mod objects;
 #[cfg(test)]
 mod places;
