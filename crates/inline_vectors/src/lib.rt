@@ -18,6 +18,8 @@ mod inline;
 #[cfg(test)]
 mod joined;
 #[cfg(test)]
+mod json;
+#[cfg(test)]
 mod limits;
 #[cfg(test)]
 mod makers;
