@@ -24,7 +24,7 @@ impl<const N: usize> InlinableStringN<N> {
 
         // What fits inline, and what lies on the heap, is not refused; and there the capacity is
         // kept.
-        ensures inline_granted { size (inlinable_state N self.entry).text ≤ M → IsOk result }
+        ensures granted { size (inlinable_state N self.entry).text ≤ M → IsOk result }
         ensures heap_granted { (inlinable_state N self.entry).storage ≡ Storage.Heap
             → IsOk result }
         ensures room { IfOk result (λ moved. (inlinable_state N self.entry).storage ≡ Storage.Heap
