@@ -10,7 +10,9 @@ use std::test::Fail;
 use test_support::Refusals;
 
 mod joins;
+mod json;
 mod makers;
+mod moves;
 mod runs;
 mod wrong_tables;
 

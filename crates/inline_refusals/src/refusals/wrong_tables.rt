@@ -4,12 +4,14 @@
 use super::joins::Extension::{Own, Std};
 use super::joins::Items::Chars;
 use super::joins::{CHARS, Joining, wrong_join, wrong_new};
+use super::json::wrong_round_trip;
 use super::makers::Answer::{self, Text, Unpaired};
 use super::makers::Call::{FromUtf8Lossy, FromUtf16, FromUtf16Lossy};
 use super::makers::{Reading, readings, wrong_giving, wrong_making};
+use super::moves::wrong_moving;
 use super::runs::Wrong::{Replies, SecondRefusal};
 use super::runs::{Wrong as WrongRun, refused_in};
-use super::{Added, Growth, INLINE, Wrong, grown};
+use super::{Added, Growth, INLINE, Start, Wrong, grown};
 use inlinable_string::run::Reply::{self, Char, Done, NoMemory};
 use inlinable_string::{InlinableString, Storage};
 use std::process::Abort;
@@ -94,6 +96,20 @@ fn a_text_that_is_made_elsewhere_is_found(rt: HostRuntime) {
         wrong_making::<8>(alloc, &mut refusals, "123456789", Storage::Inline),
         wrong_giving::<InlinableString>(&rt, alloc, &mut refusals, (0, "a", Storage::Heap)),
         wrong_giving::<String>(&rt, alloc, &mut refusals, (1, "a", Storage::Inline)),
+    ];
+    assert!(&rt; !wrong.contains(&None), "{wrong:?}");
+}
+
+const SHORT: Start = (0, "a", Storage::Inline);
+
+/// The same of a text that was moved, or has come back through JSON.
+#[test]
+fn a_text_that_goes_elsewhere_is_found(rt: HostRuntime) {
+    let alloc = rt.alloc();
+    let mut refusals = Refusals::none();
+    let wrong = [
+        wrong_moving::<30, 8>(&rt, alloc, &mut refusals, INLINE, Storage::Inline),
+        wrong_round_trip::<8>(&rt, alloc, &mut refusals, SHORT, Storage::Heap),
     ];
     assert!(&rt; !wrong.contains(&None), "{wrong:?}");
 }
