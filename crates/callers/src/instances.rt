@@ -7,9 +7,11 @@ ghost use Rattle.inlinable_string.specs.Values.{inlinable_state, string_state};
 
 use crate::editor::Line;
 use crate::{
-    buffers, compares, cuts, finds, growths, joined, joins, makers, makes, replacements, room,
-    runs, takes, views, wholes,
+    buffers, compares, cuts, finds, growths, joined, joins, json, makers, makes, moves,
+    replacements, room, runs, takes, views, wholes,
 };
+use inlinable_string::inline_json::JsonError;
+use inlinable_string::run::{Command, Reply};
 use inlinable_string::{
     InlinableString, InlinableStringN, InlineStringN, StringExt, StringMake, Utf16Error,
 };
@@ -249,6 +251,24 @@ pub fn run_lists(string: &mut String, short: &mut Short) {
     runs::pop_of_nothing(short);
     runs::push_by_run(string, 'c');
     runs::add_by_run(short, "more");
+}
+
+/// Texts that go through JSON, and move to another capacity between two runs.
+pub fn carry(alloc: Global, short: &Short) -> Result<InlinableString, JsonError> {
+    let back = json::there_and_back(alloc, short)?;
+    let mut first = [Reply::NoMemory; 1];
+    let mut second = [Reply::NoMemory; 1];
+    let moved: Result<InlinableString, Short> = moves::run_move_run(
+        back,
+        &[Command::Pop],
+        &[Command::Push('c')],
+        &mut first,
+        &mut second,
+    );
+    match moved {
+        Ok(moved) => Ok(moved),
+        Err(_) => Err(JsonError::NoMemory),
+    }
 }
 
 /// The line editor, and other callers of a text in an array.

@@ -1,5 +1,5 @@
 //! Texts that move from one capacity to another.
-ghost use Rattle.std.specs.Prelude.{◌≡◌, ◌≤◌, ◌<◌, ◌++◌, length, IfOk, IfErr, IsOk};
+ghost use Rattle.std.specs.Prelude.{◌≡◌, ◌≤◌, ◌<◌, ◌++◌, length, IfOk, IfErr};
 ghost use Rattle.inlinable_string.specs.Text.{size};
 ghost use Rattle.inlinable_string.specs.Edit.{text_after};
 ghost use Rattle.inlinable_string.specs.Values.{inlinable_state};
