@@ -144,6 +144,21 @@ fn what_is_written_into_a_text_is_appended_or_refused_whole(rt: HostRuntime) {
     assert!(&rt; wrong == [None; 2], "{wrong:?}");
 }
 
+#[test]
+fn a_character_is_written_where_it_fits(rt: HostRuntime) {
+    let mut array = array_of(&rt, LETTERS_28);
+    let mut text: InlinableString = text_of(&rt, rt.alloc(), None, LETTERS_28);
+    let answers = [
+        array.write_char('é'),
+        array.write_char('a'),
+        text.write_char('é'),
+        text.write_char('a'),
+    ];
+    assert!(&rt; answers == [Ok(()), Err(fmt::Error), Ok(()), Ok(())]);
+    assert!(&rt; array.as_str() == "aaaaaaaaaaaaaaaaaaaaaaaaaaaaé");
+    assert!(&rt; is_lying(&text, "aaaaaaaaaaaaaaaaaaaaaaaaaaaaéa", Storage::Heap));
+}
+
 /// An entry of a list, with its text in it.
 #[derive(Drop)]
 struct Entry {
