@@ -168,19 +168,25 @@ impl Iterator for SomeLetters {
     }
 }
 
+/// Joins the letters that a filter leaves to one text, and three that come with no hint to another.
+fn join_letters(
+    filtered: &mut InlinableString,
+    unannounced: &mut InlinableString,
+) -> [Result<(), AllocError>; 2] {
+    [
+        filtered.extend_chars(MIXED.chars().filter(|ch| *ch == 'a')),
+        unannounced.extend_chars(SomeLetters { left: 3 }),
+    ]
+}
+
 #[test]
 fn items_of_a_filter_and_of_an_iterator_with_no_hint_are_joined(rt: HostRuntime) {
     let alloc = rt.alloc();
-    assert!(&rt; MIXED.chars().count() == 100);
     let mut filtered = InlinableString::new(alloc);
     let mut unannounced = InlinableString::new(alloc);
-    let answers = [
-        filtered.extend_chars(MIXED.chars().filter(|ch| *ch == 'a')),
-        unannounced.extend_chars(SomeLetters { left: 3 }),
-    ];
-    assert!(&rt; answers == [Ok(()); 2]);
-    assert!(&rt; is_lying(&filtered, LETTERS_31, Heap));
-    assert!(&rt; is_lying(&unannounced, "aaa", Inline));
+    let answers = join_letters(&mut filtered, &mut unannounced);
+    let are_right = is_lying(&filtered, LETTERS_31, Heap) && is_lying(&unannounced, "aaa", Inline);
+    assert!(&rt; answers == [Ok(()); 2] && are_right && MIXED.chars().count() == 100);
 }
 
 /// A text, what is added, the whole, and where it lies if it was made new.

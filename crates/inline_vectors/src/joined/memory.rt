@@ -1,7 +1,7 @@
 //! Joins while every request for memory is refused, or every one but the first, of one size: what
 //! was joined before the item that is refused stays.
 use super::Items::{self, Chars, Strs};
-use super::{EXTENSIONS, Extension, MIXED, SomeLetters, collected, extend, is_made, joined};
+use super::{EXTENSIONS, Extension, collected, extend, is_made, join_letters, joined};
 use crate::held::{all_but, all_memory};
 use crate::texts::{LONG, is_lying, text_of};
 use Storage::{Heap, Inline};
@@ -146,14 +146,11 @@ fn no_hint_of_an_iterator_asks_for_memory(rt: HostRuntime) {
     let mut filtered = InlinableString::new(alloc);
     let mut unannounced = InlinableString::new(alloc);
     let hoard = all_memory(&rt, alloc);
-    let answers = [
-        filtered.extend_chars(MIXED.chars().filter(|ch| *ch == 'a')),
-        unannounced.extend_chars(SomeLetters { left: 3 }),
-    ];
+    let answers = join_letters(&mut filtered, &mut unannounced);
     drop(hoard);
-    assert!(&rt; answers == [Err(AllocError), Ok(())]);
-    assert!(&rt; is_lying(&filtered, LETTERS_30, Inline));
-    assert!(&rt; is_lying(&unannounced, "aaa", Inline));
+    let are_right = is_lying(&filtered, LETTERS_30, Inline)
+        && is_lying(&unannounced, "aaa", Inline);
+    assert!(&rt; answers == [Err(AllocError), Ok(())] && are_right);
 }
 
 /// A text with the room that it is made with, what is added, whether that is refused, and the text
