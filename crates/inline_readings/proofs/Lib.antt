@@ -1,1 +1,2 @@
+mod FirstDigits
 pub mod Passed

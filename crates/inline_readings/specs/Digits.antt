@@ -1,5 +1,5 @@
 -- Bytes and units as hexadecimal digits.
-use Rattle.std.specs.Prelude.{ℕ, ◌+◌, ◌/◌, ◌%◌, List, [], ◌∷◌, ◌++◌, if◌then◌else◌}
+use Rattle.std.specs.Prelude.{◌≡◌, ℕ, ◌+◌, ◌/◌, ◌%◌, ◌<◌, ◌^◌, List, [], ◌∷◌, ◌++◌, All, if◌then◌else◌}
 use Rattle.std.specs.Int.{is_in_range}
 use Rattle.std.specs.List.{flat_map}
 
@@ -22,3 +22,13 @@ digits_of_bytes bytes = flat_map byte_digits bytes
 -- those of each unit
 abbrev pub digits_of_units : List ℕ → List ℕ
 digits_of_units units = flat_map unit_digits units
+
+-- these are the digits of some bytes
+abbrev pub AreOfBytes : List ℕ → Type 0
+AreOfBytes digits =
+    (bytes : List ℕ) × All (λ byte. byte < 2 ^ 8) bytes × (digits ≡ digits_of_bytes bytes)
+
+-- these are the digits of some units
+abbrev pub AreOfUnits : List ℕ → Type 0
+AreOfUnits digits =
+    (units : List ℕ) × All (λ unit. unit < 2 ^ 16) units × (digits ≡ digits_of_units units)

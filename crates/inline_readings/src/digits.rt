@@ -1,13 +1,14 @@
 //! Bytes and units as hexadecimal digits: 0 to 9 and a to f.
-ghost use Rattle.std.specs.Prelude.{◌≡◌, ◌<◌, ◌++◌, ◌∷◌, [], IfOk, IfSome, OnOk};
-ghost use Rattle.inline_readings.specs.Digits.{digit, byte_digits, unit_digits, digits_of_bytes, digits_of_units};
+ghost use Rattle.std.specs.Prelude.{◌≡◌, ℕ, ◌<◌, ◌^◌, ◌++◌, ◌∷◌, [], IfOk, IfSome, IfNone, OnOk};
+ghost use Rattle.inline_readings.specs.Digits.{digit, byte_digits, unit_digits, digits_of_bytes, digits_of_units, AreOfBytes, AreOfUnits};
 
 use std::alloc::{AllocError, Global};
 
 /// The bytes whose digits these are, two for each; `None` where they are those of none.
 pub fn bytes_of(alloc: Global, digits: &[u8]) -> Result<Option<Vec<u8>>, AllocError>
-    ensures { IfOk result (λ found.
+    ensures some { IfOk result (λ found.
         IfSome found (λ bytes. digits.now ≡ digits_of_bytes bytes.items)) }
+    ensures none { IfOk result (λ found. IfNone found (¬ (AreOfBytes digits.now))) }
 {
     let mut bytes = Vec::new(alloc);
     let mut rest = digits;
@@ -23,8 +24,9 @@ pub fn bytes_of(alloc: Global, digits: &[u8]) -> Result<Option<Vec<u8>>, AllocEr
 
 /// The units whose digits these are, four for each; `None` where they are those of none.
 pub fn units_of(alloc: Global, digits: &[u8]) -> Result<Option<Vec<u16>>, AllocError>
-    ensures { IfOk result (λ found.
+    ensures some { IfOk result (λ found.
         IfSome found (λ units. digits.now ≡ digits_of_units units.items)) }
+    ensures none { IfOk result (λ found. IfNone found (¬ (AreOfUnits digits.now))) }
 {
     let mut units = Vec::new(alloc);
     let mut rest = digits;
@@ -39,7 +41,8 @@ pub fn units_of(alloc: Global, digits: &[u8]) -> Result<Option<Vec<u16>>, AllocE
 }
 
 fn unit_of(digits: [u8; 4]) -> Option<u16>
-    ensures { IfSome result (λ unit. digits ≡ unit_digits unit) }
+    ensures some { IfSome result (λ unit. digits ≡ unit_digits unit) }
+    ensures none { IfNone result ((unit : ℕ) → unit < 2 ^ 16 → ¬ (digits ≡ unit_digits unit)) }
 {
     let [first, second, third, fourth] = digits;
     let high = byte_of([first, second])? as u16;
@@ -49,7 +52,8 @@ fn unit_of(digits: [u8; 4]) -> Option<u16>
 
 /// The byte of two digits.
 pub fn byte_of(digits: [u8; 2]) -> Option<u8>
-    ensures { IfSome result (λ byte. digits ≡ byte_digits byte) }
+    ensures some { IfSome result (λ byte. digits ≡ byte_digits byte) }
+    ensures none { IfNone result ((byte : ℕ) → byte < 2 ^ 8 → ¬ (digits ≡ byte_digits byte)) }
 {
     let [high, low] = digits;
     Some(16 * value_of(high)? + value_of(low)?)
@@ -59,6 +63,7 @@ pub fn byte_of(digits: [u8; 2]) -> Option<u8>
 fn value_of(code: u8) -> Option<u8>
     ensures value { IfSome result (λ value. digit value ≡ code) }
     ensures below { IfSome result (λ value. value < 16) }
+    ensures none { IfNone result ((value : ℕ) → value < 16 → ¬ (digit value ≡ code)) }
 {
     match code {
         b'0'..=b'9' => Some(code - b'0'),

@@ -1,7 +1,7 @@
 //! Why lines were not answered, or not to their end.
 ghost use Rattle.std.specs.Prelude.{◌≡◌, Some};
 ghost use Rattle.inline_readings.specs.Fault.{status_of, line_of};
-ghost use Rattle.inline_readings.specs.declared.fault.ReadingFault.TheVariants.{NoMemory, TooLong};
+ghost use Rattle.inline_readings.specs.declared.fault.ReadingFault.TheVariants.{NoMemory, Stream, TooLong};
 
 use inlinable_string::inline_string::NotEnoughSpaceError;
 use std::alloc::AllocError;
@@ -62,6 +62,8 @@ impl From<NotEnoughSpaceError> for ReadingFault {
 }
 
 impl From<io::Error> for ReadingFault {
+    ghost from_gives = { λ _ fault. fault ≡ Stream };
+
     fn from(_error: io::Error) -> ReadingFault {
         ReadingFault::Stream
     }

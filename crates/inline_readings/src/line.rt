@@ -1,5 +1,6 @@
 //! One line, as what it asks to read.
-ghost use Rattle.std.specs.Prelude.{◌≡◌, IfOk, IfSome};
+ghost use Rattle.std.specs.Prelude.{◌≡◌, ℕ, List, ◌++◌, IfOk, IfSome, IfNone, codes};
+ghost use Rattle.inline_readings.specs.Digits.{AreOfBytes, AreOfUnits};
 ghost use Rattle.inline_readings.specs.Line.{line_of};
 
 use crate::digits::{bytes_of, units_of};
@@ -19,7 +20,11 @@ pub enum Asked {
 
 /// What a line asks to read; `None` where it asks for nothing.
 pub fn asked_of(alloc: Global, line: &str) -> Result<Option<Asked>, AllocError>
-    ensures { IfOk result (λ found. IfSome found (λ asked. line.now ≡ line_of asked)) }
+    ensures some { IfOk result (λ found. IfSome found (λ asked. line.now ≡ line_of asked)) }
+    ensures no_bytes { IfOk result (λ found. IfNone found ((digits : List ℕ) → AreOfBytes digits
+        → ¬ (line.now ≡ codes "bytes " ++ digits))) }
+    ensures no_units { IfOk result (λ found. IfNone found ((digits : List ℕ) → AreOfUnits digits
+        → ¬ (line.now ≡ codes "units " ++ digits))) }
 {
     if let Some(digits) = line.strip_prefix("bytes ") {
         let Some(bytes) = bytes_of(alloc, digits.as_bytes())? else {
