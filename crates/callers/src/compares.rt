@@ -11,7 +11,7 @@ ghost use Rattle.inlinable_string.specs.State.{IsSameText};
 ghost use Rattle.inlinable_string.specs.Values.{inlinable_state};
 
 use inlinable_string::laws::compared::{
-    equality_inline_is_that_of_texts, equality_is_that_of_texts,
+    equality_inline_is_that_of_texts, equality_is_that_of_texts, order_is_that_of_the_bytes,
 };
 use inlinable_string::{InlinableString, InlinableStringN, InlineStringN, Storage, StringExt};
 use std::alloc::AllocError;
@@ -62,8 +62,13 @@ pub fn order_of<const N: usize>(a: &InlinableStringN<N>, b: &InlinableStringN<N>
 
 /// The later of two texts.
 pub fn later<const N: usize>(a: InlinableStringN<N>, b: InlinableStringN<N>) -> InlinableStringN<N>
-    ensures { (result ≡ a.entry) ⊎ (result ≡ b.entry) }
+    ensures one { (result ≡ a.entry) ⊎ (result ≡ b.entry) }
+    ensures first { ¬ (slice_cmp nat_cmp (bytes_of (inlinable_state N a.entry).text)
+        (bytes_of (inlinable_state N result).text) ≡ Ordering.Greater) }
+    ensures second { ¬ (slice_cmp nat_cmp (bytes_of (inlinable_state N b.entry).text)
+        (bytes_of (inlinable_state N result).text) ≡ Ordering.Greater) }
 {
+    order_is_that_of_the_bytes::<N>();
     a.max(b)
 }
 
@@ -127,10 +132,9 @@ pub struct Entry {
 
 /// Whether two entries are the same.
 pub fn is_same_entry(a: &Entry, b: &Entry) -> bool
-    ensures name { IsTrue result
-        → bytes_of (inlinable_state 30 a.now.name).text
-        ≡ bytes_of (inlinable_state 30 b.now.name).text }
-    ensures code { IsTrue result → bytes_of a.now.code ≡ bytes_of b.now.code }
+    ensures { IsTrue result ↔ ((bytes_of (inlinable_state 30 a.now.name).text
+        ≡ bytes_of (inlinable_state 30 b.now.name).text)
+        × (bytes_of a.now.code ≡ bytes_of b.now.code)) }
 {
     a == b
 }

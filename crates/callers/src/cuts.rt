@@ -113,6 +113,7 @@ pub fn split_off<S: StringMake + Drop>(
     requires { IsPlace (S.state text.old).text at }
     ensures ok { IfOk result (λ tail.
         (S.state text.old).text ≡ (S.state text.new).text ++ (S.state tail).text) }
+    ensures place { IfOk result (λ _. size (S.state text.new).text ≡ at) }
     ensures err { OnErr result (IsSameText (S.state text.old) (S.state text.new)) }
 {
     places_are_boundaries();

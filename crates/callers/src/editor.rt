@@ -34,7 +34,10 @@ impl<const N: usize> Line<N> {
         ensures place { IsPlace self.new.text self.new.cursor }
         ensures text { IsTrue result
             → IsSplice self.old.text self.old.cursor (ch ∷ []) self.new.text }
+        ensures moved { IsTrue result → self.new.cursor ≡ self.old.cursor + size (ch ∷ []) }
         ensures room { size self.old.text + 4 ≤ N → IsTrue result }
+        ensures full { ¬ (IsTrue result)
+            → (self.new.text ≡ self.old.text) × (self.new.cursor ≡ self.old.cursor) }
     {
         match self.text.insert(self.cursor, ch) {
             Ok(()) => {
@@ -149,6 +152,7 @@ impl<const N: usize> Line<N> {
     /// Moves the cursor to the start.
     pub fn home(&mut self)
         ensures place { IsPlace self.new.text self.new.cursor }
+        ensures start { self.new.cursor ≡ 0 }
         ensures text { self.new.text ≡ self.old.text }
     {
         self.cursor = 0;
@@ -157,6 +161,7 @@ impl<const N: usize> Line<N> {
     /// Moves the cursor to the end.
     pub fn end(&mut self)
         ensures place { IsPlace self.new.text self.new.cursor }
+        ensures end { self.new.cursor ≡ size self.new.text }
         ensures text { self.new.text ≡ self.old.text }
     {
         self.cursor = self.text.len();

@@ -1,7 +1,7 @@
 //! What std's searches find in `as_str()` is a place of the text, so that it can be cut there.
 ghost use Rattle.std.specs.Prelude.{◌≡◌, ◌⊎◌, ◌==◌, ℕ, ◌+◌, ◌<◌, ◌≤◌, List, ◌++◌, [], ◌∷◌, drop, OnOk, OnErr, slice_index};
 ghost use Rattle.std.specs.List.{before_first, position_or_len};
-ghost use Rattle.std.specs.Str.{chars, trim_end, NoCharPasses};
+ghost use Rattle.std.specs.Str.{chars, trim_end, IsCharBoundary, NoCharPasses};
 ghost use Rattle.std.specs.Str.Pattern.{LacksTextAt};
 ghost use Rattle.inlinable_string.specs.Text.{bytes_of, size, IsPlace, IsSplice};
 ghost use Rattle.inlinable_string.specs.State.{IsSameText};
@@ -81,6 +81,8 @@ pub fn strip_comment<const N: usize>(line: &mut InlineStringN<N>)
 pub fn shorten<S: StringExt>(text: &mut S, most: usize)
     ensures short { size (S.state text.new).text ≤ most }
     ensures front { (rest : List ℕ) × ((S.state text.old).text ≡ (S.state text.new).text ++ rest) }
+    ensures longest { (p : ℕ) → size (S.state text.new).text < p → p ≤ most
+        → ¬ (IsCharBoundary (bytes_of (S.state text.old).text) p) }
 {
     let end = text.as_str().floor_char_boundary(most);
     text.truncate(end);

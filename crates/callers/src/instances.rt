@@ -1,6 +1,6 @@
 //! Each generic caller once at std's `String`, at `InlinableStringN<8>` or at `InlinableString`, so
 //! that its bounds are known to be met.
-ghost use Rattle.std.specs.Prelude.{◌≡◌, ◌≤◌, ◌⊎◌, ◌↔◌, [], ◌∷◌, length, IfOk, IsTrue};
+ghost use Rattle.std.specs.Prelude.{◌≡◌, ◌≤◌, ◌⊎◌, ◌↔◌, [], ◌∷◌, length, IfOk, IsTrue, Err};
 ghost use Rattle.inlinable_string.specs.Text.{size};
 ghost use Rattle.inlinable_string.specs.Utf16.{units_of};
 ghost use Rattle.inlinable_string.specs.Values.{inlinable_state, string_state};
@@ -130,8 +130,9 @@ pub fn make(alloc: Global) -> Result<String, AllocError> {
 
 /// A name read from UTF-16, twice, and taken through its bytes; "é" where the units are no text.
 pub fn read_string(alloc: Global, units: &[u16]) -> Result<String, Utf16Error>
-    ensures { IfOk result (λ made. (units_of (string_state made).text ≡ units.now)
+    ensures text { IfOk result (λ made. (units_of (string_state made).text ≡ units.now)
         ⊎ ((string_state made).text ≡ 0xE9 ∷ [])) }
+    ensures paired { ¬ (result ≡ Err Utf16Error.Unpaired) }
 {
     let Some(name) = makers::file_name::<String>(alloc, units)? else {
         return makers::accent(alloc);
@@ -145,8 +146,9 @@ pub fn read_string(alloc: Global, units: &[u16]) -> Result<String, Utf16Error>
 
 /// The same at a limit of 30 bytes.
 pub fn read_inlinable(alloc: Global, units: &[u16]) -> Result<InlinableString, Utf16Error>
-    ensures { IfOk result (λ made. (units_of (inlinable_state 30 made).text ≡ units.now)
+    ensures text { IfOk result (λ made. (units_of (inlinable_state 30 made).text ≡ units.now)
         ⊎ ((inlinable_state 30 made).text ≡ 0xE9 ∷ [])) }
+    ensures paired { ¬ (result ≡ Err Utf16Error.Unpaired) }
 {
     let Some(name) = makers::file_name::<InlinableString>(alloc, units)? else {
         return makers::accent(alloc);
@@ -160,8 +162,9 @@ pub fn read_inlinable(alloc: Global, units: &[u16]) -> Result<InlinableString, U
 
 /// The same at a limit of eight.
 pub fn read_short(alloc: Global, units: &[u16]) -> Result<Short, Utf16Error>
-    ensures { IfOk result (λ made. (units_of (inlinable_state 8 made).text ≡ units.now)
+    ensures text { IfOk result (λ made. (units_of (inlinable_state 8 made).text ≡ units.now)
         ⊎ ((inlinable_state 8 made).text ≡ 0xE9 ∷ [])) }
+    ensures paired { ¬ (result ≡ Err Utf16Error.Unpaired) }
 {
     let Some(name) = makers::file_name::<Short>(alloc, units)? else {
         return makers::accent(alloc);

@@ -1,5 +1,5 @@
 //! Texts that are joined from iterators, printed, written into, and used in the place of a `str`.
-ghost use Rattle.std.specs.Prelude.{◌≡◌, ◌+◌, ◌≤◌, ◌++◌, length, IfOk, IfErr, IsOk, OnOk, IsTrue};
+ghost use Rattle.std.specs.Prelude.{◌≡◌, ◌+◌, ◌≤◌, ◌↔◌, ◌++◌, length, IfOk, IfErr, IsOk, OnOk, IsTrue};
 ghost use Rattle.std.specs.Str.{chars};
 ghost use Rattle.std.specs.String.{string_bytes};
 ghost use Rattle.inlinable_string.specs.Text.{bytes_of, size};
@@ -123,7 +123,7 @@ pub fn add_part(path: &mut InlineStringN<16>, part: &str)
 
 /// A function over `&str` is given a text.
 pub fn same_length(line: &InlinableString, name: &InlineStringN<16>) -> bool
-    ensures { IsTrue result → size (inlinable_state 30 line.now).text ≡ size name.now }
+    ensures { IsTrue result ↔ (size (inlinable_state 30 line.now).text ≡ size name.now) }
 {
     bytes_in(line) == bytes_in(name)
 }

@@ -2,13 +2,17 @@
 ghost use Rattle.std.specs.Prelude.{◌≡◌, ◌≤◌, ◌<◌, ◌↔◌, [], ◌∷◌, ◌++◌, length, IfOk, IfErr, IfSome, IfNone, IsOk, Err, IsUtf8, true, IsSome};
 ghost use Rattle.std.specs.Str.{chars};
 ghost use Rattle.std.specs.String.{string_bytes};
-ghost use Rattle.std.specs.Cow.{IsBorrowedStr};
+ghost use Rattle.std.specs.Cow.{cow_str_bytes, IsBorrowedStr};
 ghost use Rattle.inlinable_string.specs.Text.{bytes_of, size};
 ghost use Rattle.inlinable_string.specs.Utf16.{units_of, HasUnpaired, lossy_utf16};
-ghost use Rattle.inlinable_string.specs.Values.{inlinable_state};
+ghost use Rattle.inlinable_string.specs.Lossy.{lossy_utf8};
+ghost use Rattle.inlinable_string.specs.State.{storage_when_made};
+ghost use Rattle.inlinable_string.specs.Values.{inlinable_policy, inlinable_state};
 
 use inlinable_string::laws::bytes_of_parts;
-use inlinable_string::string_ext::laws::{bytes_give_the_text_back, utf16_is_read_as_it_is};
+use inlinable_string::string_ext::laws::{
+    bytes_give_the_text_back, units_of_a_text_are_paired, utf16_is_read_as_it_is,
+};
 use inlinable_string::{
     InlinableString, InlinableStringN, InlineStringN, Storage, StringExt, StringMake, Utf16Error,
 };
@@ -33,8 +37,10 @@ pub fn file_name<S: StringMake + Drop>(
 
 /// "é" by its one unit.
 pub fn accent<S: StringMake + Drop>(alloc: Global) -> Result<S, Utf16Error>
-    ensures { IfOk result (λ made. (S.state made).text ≡ 0xE9 ∷ []) }
+    ensures text { IfOk result (λ made. (S.state made).text ≡ 0xE9 ∷ []) }
+    ensures paired { ¬ (result ≡ Err Utf16Error.Unpaired) }
 {
+    units_of_a_text_are_paired();
     S::from_utf16(alloc, &[0xE9])
 }
 
@@ -53,8 +59,10 @@ pub fn same_name<S: StringMake + Drop>(
     units: &[u16],
 ) -> Result<S, Utf16Error>
     requires { units.now ≡ units_of (S.state name.now).text }
-    ensures { IfOk result (λ made. (S.state made).text ≡ (S.state name.now).text) }
+    ensures text { IfOk result (λ made. (S.state made).text ≡ (S.state name.now).text) }
+    ensures paired { ¬ (result ≡ Err Utf16Error.Unpaired) }
 {
+    units_of_a_text_are_paired();
     utf16_is_read_as_it_is();
     let _ = name.len();
     S::from_utf16(alloc, units)
@@ -75,6 +83,7 @@ pub fn body(alloc: Global, bytes: Vec<u8>) -> Result<InlinableStringN<16>, Vec<u
 /// A text goes through its bytes and comes back, or stays as it was where memory is refused.
 pub fn through_bytes<S: StringMake + Drop>(alloc: Global, text: S) -> Result<S, S>
     ensures ok { IfOk result (λ made. (S.state made).text ≡ (S.state text).text) }
+    ensures heap { IfOk result (λ made. (S.state made).storage ≡ Storage.Heap) }
     ensures err { IfErr result (λ kept. S.state kept ≡ S.state text) }
 {
     bytes_give_the_text_back();
@@ -97,6 +106,7 @@ pub fn bytes_with<S: StringMake + Drop>(text: S, word: &str) -> Option<Vec<u8>>
 
 /// Bytes to be printed: they are copied only where they are not UTF-8.
 pub fn shown<'a>(alloc: Global, bytes: &'a [u8]) -> Result<CowStr<'a>, AllocError>
+    ensures text { IfOk result (λ read. cow_str_bytes read ≡ bytes_of (lossy_utf8 bytes.now)) }
     ensures borrowed { IfOk result (λ read. IsBorrowedStr read ↔ IsUtf8 bytes.now) }
     ensures granted { IsUtf8 bytes.now → IsOk result }
 {
@@ -114,6 +124,8 @@ pub fn key(alloc: Global, name: &str) -> Result<InlinableStringN<24>, AllocError
 /// A `String` is kept where it is long, and put inline where it is not: neither takes memory.
 pub fn interned(alloc: Global, name: String) -> InlinableStringN<24>
     ensures text { (inlinable_state 24 result).text ≡ chars (string_bytes name) }
+    ensures storage { (inlinable_state 24 result).storage
+        ≡ storage_when_made (inlinable_policy 24) (length (string_bytes name)) }
 {
     InlinableStringN::from_string(alloc, name)
 }
