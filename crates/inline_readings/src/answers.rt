@@ -1,5 +1,8 @@
 //! Lines that tell what was read, and the form of every line.
-ghost use Rattle.std.specs.Prelude.{◌≡◌, ◌++◌, OnOk};
+ghost use Rattle.std.specs.Prelude.{◌≡◌, ◌++◌, [], OnOk, MatchResult, MatchOption, codes};
+ghost use Rattle.std.specs.String.{from_utf8_error_vec};
+ghost use Rattle.std.specs.Cow.{cow_str_bytes, IsBorrowedStr};
+ghost use Rattle.inlinable_string.specs.Text.{bytes_of};
 ghost use Rattle.inline_readings.specs.Answer.{answer_line};
 
 use crate::digits::push_digits;
@@ -13,7 +16,22 @@ pub fn push_bytes_read<S: StringExt + Drop>(
     answers: &mut Vec<u8>,
     name: &str,
     read: &BytesRead<S>,
-) -> Result<(), AllocError> {
+) -> Result<(), AllocError>
+    ensures borrowed { OnOk result (IsBorrowedStr read.now.lossy → MatchResult read.now.strict
+        (λ made. answers.new.items ≡ answers.old.items
+        ++ answer_line name.now (codes "from_utf8 text") (bytes_of (S.state made).text)
+        ++ answer_line name.now (codes "from_utf8_lossy borrowed") (cow_str_bytes read.now.lossy))
+        (λ error. answers.new.items ≡ answers.old.items
+        ++ answer_line name.now (codes "from_utf8 fault") (from_utf8_error_vec error).items
+        ++ answer_line name.now (codes "from_utf8_lossy borrowed") (cow_str_bytes read.now.lossy))) }
+    ensures owned { OnOk result (¬ (IsBorrowedStr read.now.lossy) → MatchResult read.now.strict
+        (λ made. answers.new.items ≡ answers.old.items
+        ++ answer_line name.now (codes "from_utf8 text") (bytes_of (S.state made).text)
+        ++ answer_line name.now (codes "from_utf8_lossy owned") (cow_str_bytes read.now.lossy))
+        (λ error. answers.new.items ≡ answers.old.items
+        ++ answer_line name.now (codes "from_utf8 fault") (from_utf8_error_vec error).items
+        ++ answer_line name.now (codes "from_utf8_lossy owned") (cow_str_bytes read.now.lossy))) }
+{
     match &read.strict {
         Ok(text) => push_line(answers, name, "from_utf8 text", text.as_bytes())?,
         Err(error) => push_line(answers, name, "from_utf8 fault", error.as_bytes())?,
@@ -31,7 +49,17 @@ pub fn push_units_read<S: StringExt + Drop>(
     answers: &mut Vec<u8>,
     name: &str,
     read: &UnitsRead<S>,
-) -> Result<(), AllocError> {
+) -> Result<(), AllocError>
+    ensures { OnOk result (MatchOption read.now.strict
+        (answers.new.items ≡ answers.old.items
+        ++ answer_line name.now (codes "from_utf16 fault") []
+        ++ answer_line name.now (codes "from_utf16_lossy text")
+        (bytes_of (S.state read.now.lossy).text))
+        (λ made. answers.new.items ≡ answers.old.items
+        ++ answer_line name.now (codes "from_utf16 text") (bytes_of (S.state made).text)
+        ++ answer_line name.now (codes "from_utf16_lossy text")
+        (bytes_of (S.state read.now.lossy).text))) }
+{
     match &read.strict {
         Some(text) => push_line(answers, name, "from_utf16 text", text.as_bytes())?,
         None => push_line(answers, name, "from_utf16 fault", &[])?,
