@@ -1,5 +1,5 @@
-//! Each request for memory refused in turn, of calls that join items or texts, copy a text, or write
-//! into one.
+//! Each request for memory refused in turn, of calls that join items or texts, copy a text, or
+//! write into one.
 use super::{HEAP_ROOM, ON_HEAP, Start, Wrong, made};
 use Extension::{Own, References, Std};
 use Items::{Chars, Strs};
