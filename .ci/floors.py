@@ -5,7 +5,7 @@ counts, with the reason.
 """
 
 # Edits in `must-fail-together/`, by crate.
-EDITS = {'inlinable_string': 201, 'inline_model': 34, 'script_language': 40}
+EDITS = {'inlinable_string': 202, 'inline_model': 34, 'script_language': 40}
 
 # By crate: requests for memory refused one after the other, and how often a test met one.
 REFUSALS = {'inline_refusals': (4, 97), 'inline_script': (7, 36)}

@@ -24,8 +24,12 @@ pub fn json_errors_print_their_reason()
         ≡ Some (codes "there is no memory") }
 {}
 
-/// Want of memory, passed on by `?`, is [`JsonError::NoMemory`].
-pub fn want_of_memory_is_no_memory()
-    ensures { (want : AllocError) (error : JsonError)
+/// Want of memory is [`JsonError::NoMemory`], as `?` passes it on: this calls the conversion, and
+/// gives what came of it.
+pub fn want_of_memory_is_no_memory() -> JsonError
+    ensures gives { (want : AllocError) (error : JsonError)
         → ⟦<JsonError as From<AllocError>>⟧.from_gives want error ↔ (error ≡ JsonError.NoMemory) }
-{}
+    ensures given { result ≡ JsonError.NoMemory }
+{
+    JsonError::from(AllocError)
+}
