@@ -1,6 +1,6 @@
 //! A line that asks for a pair of texts: of which type, how they are printed, and how each comes
 //! about.
-ghost use Rattle.std.specs.Prelude.{◌≡◌, ◌++◌, ◌∷◌, IfOk, IfSome};
+ghost use Rattle.std.specs.Prelude.{◌≡◌, ℕ, ◌<◌, ◌^◌, ◌++◌, ◌∷◌, IfOk, IfSome, IfNone};
 ghost use Rattle.inline_readings.specs.Digits.{byte_digits};
 ghost use Rattle.inline_readings.specs.Pair.{type_word, format_word, way_word, layout_line, wanted_line, pair_line};
 
@@ -157,7 +157,8 @@ fn wanted_of(alloc: Global, way: &str, digits: &str) -> Result<Option<Wanted>, A
 }
 
 fn text_type_of(word: &str) -> Option<TextType>
-    ensures { IfSome result (λ text_type. word.now ≡ type_word text_type) }
+    ensures some { IfSome result (λ text_type. word.now ≡ type_word text_type) }
+    ensures none { IfNone result ((text_type : TextType) → ¬ (word.now ≡ type_word text_type)) }
 {
     match word {
         "InlineString" => Some(TextType::Array),
@@ -168,7 +169,8 @@ fn text_type_of(word: &str) -> Option<TextType>
 }
 
 fn way_of(word: &str) -> Option<Way>
-    ensures { IfSome result (λ way. word.now ≡ way_word way) }
+    ensures some { IfSome result (λ way. word.now ≡ way_word way) }
+    ensures none { IfNone result ((way : Way) → ¬ (word.now ≡ way_word way)) }
 {
     match word {
         "made" => Some(Way::Made),
@@ -182,7 +184,8 @@ fn way_of(word: &str) -> Option<Way>
 }
 
 fn format_of(word: &str) -> Option<Format>
-    ensures { IfSome result (λ format. word.now ≡ format_word format) }
+    ensures some { IfSome result (λ format. word.now ≡ format_word format) }
+    ensures none { IfNone result ((format : Format) → ¬ (word.now ≡ format_word format)) }
 {
     match word {
         "plain" => Some(Format::Plain),
@@ -200,7 +203,9 @@ fn format_of(word: &str) -> Option<Format>
 
 /// The number of two digits.
 fn number_of(digits: &str) -> Option<u8>
-    ensures { IfSome result (λ number. digits.now ≡ byte_digits number) }
+    ensures some { IfSome result (λ number. digits.now ≡ byte_digits number) }
+    ensures none { IfNone result ((number : ℕ) → number < 2 ^ 8
+        → ¬ (digits.now ≡ byte_digits number)) }
 {
     let [high, low] = digits.as_bytes() else {
         return None;
