@@ -1,5 +1,5 @@
 //! Units of UTF-16 and bytes, and the texts that they are read as.
-use crate::texts::is_text;
+use crate::texts::{assert_no_wrong_row, is_text};
 use inlinable_string::{InlinableString, InlinableStringN, Storage, StringMake, Utf16Error};
 use std::alloc::Global;
 use std::borrow::CowStr;
@@ -121,7 +121,7 @@ fn assert_units(rt: &impl Abort, alloc: Global, rows: &[UnitsRow]) {
         wrong_units::<InlinableString>(alloc, rows),
         wrong_units::<HeapText>(alloc, rows),
     ];
-    assert!(rt; wrong == [None; 5], "{wrong:?}");
+    assert_no_wrong_row(rt, &wrong);
 }
 
 #[test]
@@ -204,5 +204,5 @@ fn bytes_are_a_text_with_a_sign_for_each_part_that_is_no_character(rt: HostRunti
         wrong_bytes::<InlinableString>(alloc, BYTES),
         wrong_bytes::<HeapText>(alloc, BYTES),
     ];
-    assert!(&rt; wrong == [None; 5], "{wrong:?}");
+    assert_no_wrong_row(&rt, &wrong);
 }

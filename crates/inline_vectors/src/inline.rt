@@ -3,6 +3,7 @@
 ghost use Rattle.std.specs.Prelude.{◌≤◌};
 
 use crate::steps::{assert_right, play};
+use crate::texts::assert_no_wrong_row;
 use inlinable_string::inline_string::{NotEnoughSpaceError, ReplaceError};
 use inlinable_string::run::Command::{Push, PushStr, Remove, Truncate};
 use inlinable_string::run::Reply::{Char, Done};
@@ -173,5 +174,5 @@ fn the_bytes_are_those_of_the_text_and_then_zeros(rt: HostRuntime) {
         wrong_bytes::<1>(&rt, BYTES_OF_1),
         wrong_bytes::<0>(&rt, BYTES_OF_0),
     ];
-    assert!(rt; wrong == [None; 7], "{wrong:?}");
+    assert_no_wrong_row(&rt, &wrong);
 }

@@ -1,7 +1,7 @@
 //! Makers of texts, and the bytes of texts.
 ghost use Rattle.std.specs.Prelude.{◌≤◌};
 
-use crate::texts::is_lying;
+use crate::texts::{assert_no_wrong_row, is_lying};
 use Storage::{Heap, Inline};
 use inlinable_string::run::Command::{self, Pop, ShrinkToFit};
 use inlinable_string::run::Reply::{self, Char, Done, NoChar};
@@ -37,11 +37,6 @@ fn is_made<S: StringMake + Drop, E: Drop>(
         Ok(text) => is_whole(text, content, storage),
         Err(_) => false,
     }
-}
-
-/// Asserts that no row of a table is wrong, each time that it was gone through.
-fn assert_no_wrong_row<const COUNT: usize>(rt: &impl Abort, wrong: [Option<usize>; COUNT]) {
-    assert!(rt; wrong == [None; COUNT], "{wrong:?}");
 }
 
 /// Bytes, and the text that they are; `None` where they are not UTF-8.
@@ -120,7 +115,7 @@ fn bytes_are_taken_over_where_they_are_a_text_and_else_handed_back(rt: HostRunti
         wrong_bytes::<InlinableString>(&rt, alloc, BYTES),
         wrong_bytes::<HeapText>(&rt, alloc, BYTES),
     ];
-    assert_no_wrong_row(&rt, wrong);
+    assert_no_wrong_row(&rt, &wrong);
 }
 
 /// A capacity, and where an empty text lies that is made with it.
@@ -164,7 +159,7 @@ fn a_text_is_made_with_room_for_so_many_bytes(rt: HostRuntime) {
         wrong_capacity::<InlinableStringN<8>>(alloc, CAPACITIES_AT_8),
         wrong_capacity::<InlinableString>(alloc, CAPACITIES_AT_30),
     ];
-    assert_no_wrong_row(&rt, wrong);
+    assert_no_wrong_row(&rt, &wrong);
 }
 
 /// A text, and where one lies that is made of it.
@@ -234,7 +229,7 @@ fn a_text_is_made_of_another_inline_where_it_fits(rt: HostRuntime) {
         wrong_text::<8>(alloc, TEXTS_AT_8),
         wrong_text::<30>(alloc, TEXTS_AT_30),
     ];
-    assert_no_wrong_row(&rt, wrong);
+    assert_no_wrong_row(&rt, &wrong);
 }
 
 #[test]
@@ -292,5 +287,5 @@ fn a_text_of_bytes_comes_back_inline_where_it_is_shrunk_at_30(rt: HostRuntime) {
         wrong_command::<String>(&rt, alloc, SHRUNK_AS_STRING),
         wrong_command::<HeapText>(&rt, alloc, SHRUNK_AS_STRING),
     ];
-    assert_no_wrong_row(&rt, wrong);
+    assert_no_wrong_row(&rt, &wrong);
 }

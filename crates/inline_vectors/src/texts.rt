@@ -54,6 +54,15 @@ pub fn is_lying<S: StringExt>(text: &S, content: &str, storage: Storage) -> bool
     is_text(text, content) && text.storage() == storage
 }
 
+/// Asserts that no row is wrong, each time that a table was gone through.
+pub fn assert_no_wrong_row(rt: &impl Abort, wrong: &[Option<usize>]) {
+    for (time, row) in wrong.iter().enumerate() {
+        if let Some(row) = row {
+            assert!(rt; false, "row {row}, time {time}");
+        }
+    }
+}
+
 /// Asserts what the text is and where it lies.
 pub fn assert_text<S: StringExt>(rt: &impl Abort, text: &S, content: &str, storage: Storage)
     ensures text { bytes_of (S.state text.now).text ≡ content.now }

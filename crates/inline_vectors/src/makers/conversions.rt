@@ -1,7 +1,7 @@
 //! Texts in arrays made of others, which come back where they don't fit; and texts in boxes.
 ghost use Rattle.std.specs.Prelude.{◌≤◌};
 
-use super::{assert_no_wrong_row, is_lying};
+use crate::texts::{assert_no_wrong_row, is_lying};
 use inlinable_string::inline_string::NotEnoughSpaceError;
 use inlinable_string::{
     BoxableString, InlinableString, InlinableStringN, InlineStringN, StringExt, StringMake,
@@ -117,5 +117,5 @@ pub fn wrong_conversion(alloc: Global, rows: &[FitRow]) -> Option<usize> {
 
 #[test]
 fn a_text_goes_into_an_array_where_it_fits_and_else_comes_back(rt: HostRuntime) {
-    assert_no_wrong_row(&rt, [wrong_conversion(rt.alloc(), FITS)]);
+    assert_no_wrong_row(&rt, &[wrong_conversion(rt.alloc(), FITS)]);
 }

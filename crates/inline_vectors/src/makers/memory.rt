@@ -3,9 +3,9 @@
 //! and then asserts.
 ghost use Rattle.std.specs.Prelude.{◌≤◌};
 
-use super::{BYTES, BytesRow, assert_no_wrong_row, copies_of, is_taken, is_taken_unchecked};
+use super::{BYTES, BytesRow, copies_of, is_taken, is_taken_unchecked};
 use crate::held::{all_but, all_memory};
-use crate::texts::{is_lying, is_text, text_of};
+use crate::texts::{assert_no_wrong_row, is_lying, is_text, text_of};
 use Answer::{NoMemory, Other, Right, Unpaired};
 use Call::{FromUtf8Lossy, FromUtf16, FromUtf16Lossy};
 use Storage::{Heap, Inline};
@@ -168,7 +168,7 @@ fn assert_readers(rt: &impl Abort, alloc: Global, rows: &[ReaderRow]) {
         wrong_reader::<InlinableString>(rt, alloc, rows),
         wrong_reader::<HeapText>(rt, alloc, rows),
     ];
-    assert_no_wrong_row(rt, wrong);
+    assert_no_wrong_row(rt, &wrong);
 }
 
 #[test]
@@ -233,7 +233,7 @@ fn a_text_that_fits_inline_is_made_without_memory_and_a_longer_one_asks_once(rt:
         wrong_maker::<8>(&rt, alloc, MADE_AT_8),
         wrong_maker::<30>(&rt, alloc, MADE_AT_30),
     ];
-    assert_no_wrong_row(&rt, wrong);
+    assert_no_wrong_row(&rt, &wrong);
 }
 
 /// Whether a `String` is taken over while no memory can be had.
@@ -294,7 +294,7 @@ fn bytes_are_taken_over_and_given_back_without_memory(rt: HostRuntime) {
         wrong_taken::<InlinableString>(&rt, alloc, BYTES),
         wrong_taken::<HeapText>(&rt, alloc, BYTES),
     ];
-    assert_no_wrong_row(&rt, wrong);
+    assert_no_wrong_row(&rt, &wrong);
 }
 
 /// The content of a text, the room that it is made with, the one block of memory that can be had,
@@ -361,5 +361,5 @@ fn bytes_of_an_inline_text_ask_once_and_a_refusal_hands_it_back(rt: HostRuntime)
         wrong_given::<InlinableString>(&rt, alloc, GIVEN),
         wrong_given::<InlinableStringN<48>>(&rt, alloc, GIVEN_AT_48),
     ];
-    assert_no_wrong_row(&rt, wrong);
+    assert_no_wrong_row(&rt, &wrong);
 }
