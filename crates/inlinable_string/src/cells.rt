@@ -88,6 +88,7 @@ pub(crate) fn slide(cells: &mut [u8], start: usize, len: usize)
 ///
 /// Where both sides have room the shorter part moves; where one side has, the part on that side;
 /// where neither has, the window first slides to the front.
+#[inline(never)]
 pub(crate) fn put_in(cells: &mut [u8], start: usize, len: usize, at: usize, added: &[u8]) -> usize
     requires place { at ≤ len }
     requires inside { start + len ≤ length cells.old }
@@ -142,6 +143,7 @@ pub(crate) fn put_byte(cells: &mut [u8], start: usize, len: usize, at: usize, by
 
 /// Takes the bytes from `from` to `to` out of the window, and tells where it starts then. The
 /// shorter part moves.
+#[inline]
 pub(crate) fn take_out(cells: &mut [u8], start: usize, len: usize, from: usize, to: usize) -> usize
     requires order { from ≤ to }
     requires place { to ≤ len }

@@ -1,6 +1,6 @@
 //! Text that lies inline while it has at most `N` bytes, and goes to the heap when it outgrows
 //! them.
-ghost use Rattle.std.specs.Prelude.{◌≡◌, ◌+◌, ◌≤◌, length, IfOk, OnOk, OnErr};
+ghost use Rattle.std.specs.Prelude.{◌≡◌, ◌+◌, ◌≤◌, ◌++◌, [], ◌∷◌, length, IfOk, OnOk, OnErr};
 ghost use Rattle.std.specs.List.{insert_slice};
 ghost use Rattle.std.specs.Str.{chars, IsCharBoundary};
 ghost use Rattle.std.specs.String.{string_bytes, string_capacity};
@@ -15,6 +15,7 @@ use std::alloc::{AllocError, Global};
 mod borrowed;
 mod collected;
 mod compared;
+mod emptied;
 mod joins;
 mod limits;
 mod makers;
@@ -65,6 +66,71 @@ impl<const N: usize> InlinableStringN<N> {
         *self = InlinableStringN::Heap(heap, alloc);
         Ok(())
     }
+
+    /// Moves an inline text to the heap, with `added` at its end: `promote` there, which cuts the
+    /// text nowhere.
+    #[cold]
+    #[inline(never)]
+    fn promote_appending(&mut self, added: &str) -> Result<(), AllocError>
+        requires inline { (inlinable_state N self.old).storage ≡ Storage.Inline }
+        ensures text { OnOk result ((inlinable_state N self.new).text
+            ≡ (inlinable_state N self.old).text ++ chars added.now) }
+        ensures len { OnOk result (size (inlinable_state N self.new).text
+            ≡ size (inlinable_state N self.old).text + length added.now) }
+        ensures storage { OnOk result ((inlinable_state N self.new).storage ≡ Storage.Heap) }
+        ensures room { OnOk result
+            (size (inlinable_state N self.old).text + length added.now
+            ≤ (inlinable_state N self.new).capacity) }
+        ensures err { OnErr result
+            (IsSameText (inlinable_state N self.old) (inlinable_state N self.new)) }
+    {
+        let InlinableStringN::Inline(text, alloc) = self else {
+            unreachable!();
+        };
+        let alloc = *alloc;
+        let heap = joined(alloc, text.as_str(), added)?;
+        *self = InlinableStringN::Heap(heap, alloc);
+        Ok(())
+    }
+
+    /// Moves an inline text to the heap, with `ch` at its end.
+    #[cold]
+    #[inline(never)]
+    fn promote_pushing(&mut self, ch: char) -> Result<(), AllocError>
+        requires inline { (inlinable_state N self.old).storage ≡ Storage.Inline }
+        ensures text { OnOk result ((inlinable_state N self.new).text
+            ≡ (inlinable_state N self.old).text ++ ch ∷ []) }
+        ensures len { OnOk result (size (inlinable_state N self.new).text
+            ≡ size (inlinable_state N self.old).text + size (ch ∷ [])) }
+        ensures storage { OnOk result ((inlinable_state N self.new).storage ≡ Storage.Heap) }
+        ensures room { OnOk result
+            (size (inlinable_state N self.old).text + size (ch ∷ [])
+            ≤ (inlinable_state N self.new).capacity) }
+        ensures err { OnErr result
+            (IsSameText (inlinable_state N self.old) (inlinable_state N self.new)) }
+    {
+        let mut buffer = [0; 4];
+        self.promote_appending(ch.encode_utf8(&mut buffer))
+    }
+}
+
+/// Both texts, one behind the other, on the heap. Memory is asked for once, for their size; a size
+/// past `usize::MAX` is want of memory.
+fn joined(alloc: Global, text: &str, added: &str) -> Result<String, AllocError>
+    ensures bytes { IfOk result (λ made. string_bytes made ≡ text.now ++ added.now) }
+    ensures room { IfOk result
+        (λ made. length text.now + length added.now ≤ string_capacity made) }
+{
+    if text.is_empty() {
+        return String::from_str(alloc, added);
+    }
+    let Some(size) = text.len().checked_add(added.len()) else {
+        return Err(AllocError);
+    };
+    let mut made = String::with_capacity(alloc, size)?;
+    made.push_str(text)?;
+    made.push_str(added)?;
+    Ok(made)
 }
 
 /// The text with `added` put in at `idx`, on the heap, into room for as much and for `spare` bytes
@@ -100,33 +166,29 @@ fn spliced(
 impl<const N: usize> StringExt for InlinableStringN<N> {
     ghost state = { inlinable_state N };
 
+    #[inline]
     fn push(&mut self, ch: char) -> Result<(), AllocError> {
         match self {
             InlinableStringN::Heap(text, _) => StringExt::push(text, ch),
             InlinableStringN::Inline(text, _) => match text.push(ch) {
                 Ok(()) => Ok(()),
-                Err(_) => {
-                    let end = text.len();
-                    let mut buffer = [0; 4];
-                    self.promote(end, ch.encode_utf8(&mut buffer), 0)
-                }
+                Err(_) => self.promote_pushing(ch),
             },
         }
     }
 
+    #[inline]
     fn push_str(&mut self, string: &str) -> Result<(), AllocError> {
         match self {
             InlinableStringN::Heap(text, _) => StringExt::push_str(text, string),
             InlinableStringN::Inline(text, _) => match text.push_str(string) {
                 Ok(()) => Ok(()),
-                Err(_) => {
-                    let end = text.len();
-                    self.promote(end, string, 0)
-                }
+                Err(_) => self.promote_appending(string),
             },
         }
     }
 
+    #[inline]
     fn insert(&mut self, idx: usize, ch: char) -> Result<(), AllocError> {
         match self {
             InlinableStringN::Heap(text, _) => StringExt::insert(text, idx, ch),
@@ -140,6 +202,7 @@ impl<const N: usize> StringExt for InlinableStringN<N> {
         }
     }
 
+    #[inline]
     fn insert_str(&mut self, idx: usize, string: &str) -> Result<(), AllocError> {
         match self {
             InlinableStringN::Heap(text, _) => StringExt::insert_str(text, idx, string),
@@ -150,6 +213,7 @@ impl<const N: usize> StringExt for InlinableStringN<N> {
         }
     }
 
+    #[inline]
     fn reserve(&mut self, additional: usize) -> Result<(), AllocError> {
         match self {
             InlinableStringN::Heap(text, _) => StringExt::reserve(text, additional),
@@ -163,6 +227,7 @@ impl<const N: usize> StringExt for InlinableStringN<N> {
         }
     }
 
+    #[inline]
     fn reserve_exact(&mut self, additional: usize) -> Result<(), AllocError> {
         match self {
             InlinableStringN::Heap(text, _) => StringExt::reserve_exact(text, additional),
@@ -176,6 +241,7 @@ impl<const N: usize> StringExt for InlinableStringN<N> {
         }
     }
 
+    #[inline]
     fn shrink_to_fit(&mut self) -> Result<(), AllocError> {
         match self {
             InlinableStringN::Heap(text, alloc) => {
@@ -191,6 +257,7 @@ impl<const N: usize> StringExt for InlinableStringN<N> {
         }
     }
 
+    #[inline]
     fn truncate(&mut self, new_len: usize) {
         match self {
             InlinableStringN::Heap(text, _) => StringExt::truncate(text, new_len),
@@ -205,6 +272,7 @@ impl<const N: usize> StringExt for InlinableStringN<N> {
         }
     }
 
+    #[inline]
     fn remove(&mut self, idx: usize) -> char {
         match self {
             InlinableStringN::Heap(text, _) => StringExt::remove(text, idx),
@@ -212,6 +280,7 @@ impl<const N: usize> StringExt for InlinableStringN<N> {
         }
     }
 
+    #[inline]
     fn replace_bytes(&mut self, bytes: &[u8]) -> Result<(), ReplaceError> {
         match self {
             InlinableStringN::Heap(text, _) => StringExt::replace_bytes(text, bytes),
@@ -219,6 +288,7 @@ impl<const N: usize> StringExt for InlinableStringN<N> {
         }
     }
 
+    #[inline]
     fn capacity(&self) -> usize {
         // Only `len` tells the laws of the value.
         let _ = self.len();
@@ -228,6 +298,7 @@ impl<const N: usize> StringExt for InlinableStringN<N> {
         }
     }
 
+    #[inline]
     fn storage(&self) -> Storage {
         // Only `len` tells the laws of the value.
         let _ = self.len();
@@ -237,6 +308,7 @@ impl<const N: usize> StringExt for InlinableStringN<N> {
         }
     }
 
+    #[inline]
     fn len(&self) -> usize {
         match self {
             InlinableStringN::Heap(text, _) => StringExt::len(text),
@@ -244,6 +316,7 @@ impl<const N: usize> StringExt for InlinableStringN<N> {
         }
     }
 
+    #[inline]
     fn as_bytes(&self) -> &[u8] {
         match self {
             InlinableStringN::Heap(text, _) => StringExt::as_bytes(text),
@@ -251,6 +324,7 @@ impl<const N: usize> StringExt for InlinableStringN<N> {
         }
     }
 
+    #[inline]
     fn as_str(&self) -> &str {
         match self {
             InlinableStringN::Heap(text, _) => StringExt::as_str(text),
@@ -267,6 +341,7 @@ impl<const N: usize> Clone for InlinableStringN<N> {
 
     ghost is_infallible = { λ text. (inlinable_state N text).storage ≡ Inline };
 
+    #[inline]
     fn clone(&self) -> Result<Self, AllocError> {
         match self {
             InlinableStringN::Heap(text, alloc) => {

@@ -85,6 +85,7 @@ impl<const N: usize> Model for InlineStringN<N> {
 
 impl<const N: usize> InlineStringN<N> {
     /// The empty text.
+    #[inline]
     pub fn new() -> Self
         ensures { result ≡ [] }
     {
@@ -96,6 +97,7 @@ impl<const N: usize> InlineStringN<N> {
     }
 
     /// The text of `string`, which must have at most `N` bytes.
+    #[inline]
     pub fn from(string: &str) -> Self
         requires { length string.now ≤ N }
         ensures text { result ≡ chars string.now }
@@ -108,6 +110,7 @@ impl<const N: usize> InlineStringN<N> {
 
     /// Appends `ch`. Fails, and changes nothing, exactly where the result would have more than `N`
     /// bytes.
+    #[inline]
     pub fn push(&mut self, ch: char) -> Result<(), NotEnoughSpaceError>
         ensures fits { MatchResult result
             (λ _. size self.old + size (ch ∷ []) ≤ N)
@@ -125,12 +128,29 @@ impl<const N: usize> InlineStringN<N> {
                 return Ok(());
             }
         }
+        self.push_slowly(ch)
+    }
+
+    /// [`InlineStringN::push`] of any character, wherever its room is. Out of line, so that a push
+    /// of an ASCII character behind the text pays nothing for it.
+    #[cold]
+    #[inline(never)]
+    fn push_slowly(&mut self, ch: char) -> Result<(), NotEnoughSpaceError>
+        ensures fits { MatchResult result
+            (λ _. size self.old + size (ch ∷ []) ≤ N)
+            (λ _. N < size self.old + size (ch ∷ [])) }
+        ensures ok { OnOk result (self.new ≡ self.old ++ ch ∷ []) }
+        ensures len { OnOk result (size self.new ≡ size self.old + size (ch ∷ [])) }
+        ensures char_len { size (ch ∷ []) ≤ 4 }
+        ensures err { OnErr result (self.new ≡ self.old) }
+    {
         let mut buffer = [0; 4];
         self.push_str(ch.encode_utf8(&mut buffer))
     }
 
     /// Appends `string`. Fails, and changes nothing, exactly where the result would have more than
     /// `N` bytes.
+    #[inline]
     pub fn push_str(&mut self, string: &str) -> Result<(), NotEnoughSpaceError>
         ensures fits { MatchResult result
             (λ _. size self.old + length string.now ≤ N)
@@ -160,6 +180,7 @@ impl<const N: usize> InlineStringN<N> {
     /// Inserts `ch` at byte `idx`, which must be a character boundary of the text
     /// (`is_char_boundary`). Fails, and changes nothing, exactly where the result would have more
     /// than `N` bytes.
+    #[inline]
     pub fn insert(&mut self, idx: usize, ch: char) -> Result<(), NotEnoughSpaceError>
         requires { IsPlace self.old idx }
         ensures fits { MatchResult result
@@ -223,6 +244,7 @@ impl<const N: usize> InlineStringN<N> {
 
     /// Keeps the first `new_len` bytes. They must end at a character boundary of the text
     /// (`is_char_boundary`).
+    #[inline]
     pub fn truncate(&mut self, new_len: usize)
         requires { IsPlace self.old new_len }
         ensures text { (rest : List ℕ) × IsCut self.old new_len self.new rest }
@@ -250,6 +272,7 @@ impl<const N: usize> InlineStringN<N> {
 
     /// Removes and returns the character that begins at byte `idx`, which must be a character
     /// boundary of the text before its end.
+    #[inline]
     pub fn remove(&mut self, idx: usize) -> char
         requires place { IsPlace self.old idx }
         requires below { idx < size self.old }
@@ -266,6 +289,7 @@ impl<const N: usize> InlineStringN<N> {
     }
 
     /// Empties the text.
+    #[inline]
     pub fn clear(&mut self)
         ensures { self.new ≡ [] }
     {
@@ -297,6 +321,7 @@ impl<const N: usize> InlineStringN<N> {
     }
 
     /// How many bytes the text has.
+    #[inline]
     pub fn len(&self) -> usize
         ensures value { result ≡ size self.now }
         ensures within { size self.now ≤ N }
@@ -306,6 +331,7 @@ impl<const N: usize> InlineStringN<N> {
     }
 
     /// Whether the text has no character.
+    #[inline]
     pub fn is_empty(&self) -> bool
         ensures text { IsTrue result ↔ (self.now ≡ []) }
         ensures len { IsTrue result ↔ (size self.now ≡ 0) }
@@ -316,6 +342,7 @@ impl<const N: usize> InlineStringN<N> {
     /// Whether byte `idx` is a character boundary of the text: 0, its length, or the first byte of
     /// a character. It is the test for the condition of `insert`, `insert_str`, `truncate`, and
     /// where `idx < len()` of `remove`.
+    #[inline]
     pub fn is_char_boundary(&self, idx: usize) -> bool
         ensures { IsTrue result ↔ IsPlace self.now idx }
     {
@@ -323,6 +350,7 @@ impl<const N: usize> InlineStringN<N> {
     }
 
     /// The UTF-8 bytes of the text.
+    #[inline]
     pub fn as_bytes(&self) -> &[u8]
         ensures value { result.now ≡ bytes_of self.now }
         ensures within { length result.now ≤ N }
@@ -340,6 +368,7 @@ impl<const N: usize> InlineStringN<N> {
     }
 
     /// The text as a `str`. Its character boundaries are those of the text.
+    #[inline]
     pub fn as_str(&self) -> &str
         ensures value { result.now ≡ bytes_of self.now }
         ensures text { chars result.now ≡ self.now }
@@ -352,6 +381,7 @@ impl<const N: usize> InlineStringN<N> {
 }
 
 /// The character that begins at `idx`, and where it ends.
+#[inline]
 fn char_at(text: &str, idx: usize) -> (char, usize)
     requires place { IsCharBoundary text.now idx }
     requires below { idx < length text.now }
@@ -379,6 +409,7 @@ impl<const N: usize> Clone for InlineStringN<N> {
 
     ghost is_infallible = { λ _. ⊤ };
 
+    #[inline]
     fn clone(&self) -> Result<Self, AllocError> {
         Ok(InlineStringN {
             len: self.len,

@@ -3,8 +3,13 @@
 ghost use Rattle.std.specs.Prelude.{◌≡◌, ◌↔◌, Some, codes, ℕ, ◌+◌, ◌≤◌, List, ◌++◌, [], ◌∷◌, length, take, drop, IsUtf8};
 ghost use Rattle.std.specs.Str.{chars, IsCharBoundary};
 ghost use Rattle.inlinable_string.specs.Text.{bytes_of, size, cut, IsCut, IsPlace, IsSplice, IsRemoval};
+ghost use Rattle.inlinable_string.specs.Values.{inlinable_state};
 
+use crate::inlinable_string::InlinableStringN;
 use crate::inline_string::{InlineStringN, NotEnoughSpaceError, ReplaceError};
+use crate::string_ext::Storage;
+use std::alloc::Global;
+use std::default::{Emptied, MadeWith};
 use std::fmt;
 
 pub mod borrowed;
@@ -69,6 +74,18 @@ pub fn sizes_of_parts()
 pub fn default_is_the_empty_text<const N: usize>()
     ensures { (text : List ℕ)
         → ⟦<InlineStringN<N> as Default>⟧.is_default text ↔ (text ≡ []) }
+{}
+
+/// `or_default` of a map puts in the empty text, and `mem::try_take` leaves it, inline.
+pub fn empty_texts_lie_inline<const N: usize>()
+    ensures made { (text : InlinableStringN N)
+        → ⟦<InlinableStringN<N> as MadeWith<Global>>⟧.is_made_with text
+        ↔ (((inlinable_state N text).text ≡ [])
+        × ((inlinable_state N text).storage ≡ Storage.Inline)) }
+    ensures left { (text : InlinableStringN N)
+        → ⟦<InlinableStringN<N> as Emptied>⟧.is_emptied text
+        ↔ (((inlinable_state N text).text ≡ [])
+        × ((inlinable_state N text).storage ≡ Storage.Inline)) }
 {}
 
 /// What the errors print.

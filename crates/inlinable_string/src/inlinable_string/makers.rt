@@ -14,6 +14,7 @@ use std::string::FromUtf8Error;
 impl<const N: usize> InlinableStringN<N> {
     /// The text of `string`, inline where it has at most `N` bytes: then it takes no memory, and is
     /// not refused.
+    #[inline]
     pub fn from(alloc: Global, string: &str) -> Result<Self, AllocError>
         ensures text { IfOk result (λ made. (inlinable_state N made).text ≡ chars string.now) }
         ensures storage { IfOk result (λ made. (inlinable_state N made).storage
@@ -31,6 +32,7 @@ impl<const N: usize> InlinableStringN<N> {
     }
 
     /// The same as [`InlinableStringN::from`].
+    #[inline]
     pub fn from_str(alloc: Global, s: &str) -> Result<Self, AllocError>
         ensures text { IfOk result (λ made. (inlinable_state N made).text ≡ chars s.now) }
         ensures storage { IfOk result (λ made. (inlinable_state N made).storage
@@ -72,10 +74,12 @@ impl<const N: usize> InlinableStringN<N> {
 impl<const N: usize> StringMake for InlinableStringN<N> {
     ghost policy = { inlinable_policy N };
 
+    #[inline]
     fn new(alloc: Global) -> Self {
         InlinableStringN::Inline(InlineStringN::new(), alloc)
     }
 
+    #[inline]
     fn with_capacity(alloc: Global, capacity: usize) -> Result<Self, AllocError> {
         if capacity <= N {
             return Ok(Self::new(alloc));

@@ -1,6 +1,6 @@
 //! Laws of printing, and of writing into a text.
 ghost use Rattle.std.specs.Prelude.{◌≡◌, ◌↔◌, ℕ, List, ◌++◌, Some};
-ghost use Rattle.std.specs.Fmt.{styled_text, debug_str};
+ghost use Rattle.std.specs.Fmt.{styled_text, debug_str, WritesInCalls};
 ghost use Rattle.inlinable_string.specs.Text.{bytes_of};
 ghost use Rattle.inlinable_string.specs.Values.{inlinable_state};
 ghost use Rattle.inlinable_string.specs.declared.inlinable_string.InlinableStringN.{InlinableStringN};
@@ -43,4 +43,14 @@ pub fn writing_appends<const N: usize>()
     ensures any { (s : InlinableStringN N) (bytes : List ℕ) (t : InlinableStringN N)
         → ⟦<InlinableStringN<N> as fmt::Write>⟧.write_str_gives s bytes t
         ↔ (bytes_of (inlinable_state N t).text ≡ bytes_of (inlinable_state N s).text ++ bytes) }
+{}
+
+/// What `write!` writes in several calls is appended to the bytes of a text as one string.
+pub fn writing_in_calls_appends<const N: usize>()
+    ensures inline { (s : List ℕ) (bytes : List ℕ) (t : List ℕ)
+        → WritesInCalls ⟦<InlineStringN<N> as fmt::Write>⟧.write_str_gives s bytes t
+        → bytes_of t ≡ bytes_of s ++ bytes }
+    ensures any { (s : InlinableStringN N) (bytes : List ℕ) (t : InlinableStringN N)
+        → WritesInCalls ⟦<InlinableStringN<N> as fmt::Write>⟧.write_str_gives s bytes t
+        → bytes_of (inlinable_state N t).text ≡ bytes_of (inlinable_state N s).text ++ bytes }
 {}

@@ -14,26 +14,32 @@ impl StringExt for String {
         self.push(ch)
     }
 
+    #[inline(never)]
     fn push_str(&mut self, string: &str) -> Result<(), AllocError> {
         self.push_str(string)
     }
 
+    #[inline(never)]
     fn insert(&mut self, idx: usize, ch: char) -> Result<(), AllocError> {
         self.insert(idx, ch)
     }
 
+    #[inline(never)]
     fn insert_str(&mut self, idx: usize, string: &str) -> Result<(), AllocError> {
         self.insert_str(idx, string)
     }
 
+    #[inline(never)]
     fn reserve(&mut self, additional: usize) -> Result<(), AllocError> {
         self.reserve(additional)
     }
 
+    #[inline(never)]
     fn reserve_exact(&mut self, additional: usize) -> Result<(), AllocError> {
         self.reserve_exact(additional)
     }
 
+    #[inline(never)]
     fn shrink_to_fit(&mut self) -> Result<(), AllocError> {
         self.shrink_to_fit();
         Ok(())
@@ -47,11 +53,13 @@ impl StringExt for String {
         self.pop()
     }
 
+    #[inline(never)]
     fn remove(&mut self, idx: usize) -> char {
         self.remove(idx)
     }
 
     // The room of the old bytes is kept, and is that of the new ones.
+    #[inline(never)]
     fn replace_bytes(&mut self, bytes: &[u8]) -> Result<(), ReplaceError> {
         if bytes.len() != self.len() {
             return Err(ReplaceError::WrongLength);
