@@ -1,12 +1,16 @@
 //! Scripts with every request for memory refused: a test holds all the memory that can be had
 //! while its call runs.
 
-use script_language::ScriptFault;
 use script_language::script::script;
+use script_language::{MOST_BYTES, ScriptFault};
 use std::alloc::Global;
 use std::process::Abort;
 use std::test::Fail;
-use test_support::Hoard;
+use test_support::{Hoard, NEEDS_THE_PROVED_BUILD};
+
+/// The lines of the program's stored run.
+pub const STORED_RUN: &[u8] = b"push_str hello world\ntruncate 5\npop\ntruncate 9\n\
+    push_str abcdefghijklmnopqrstuvwxyz0\npop\n";
 
 /// The answer to a script, and how many bytes of the room it wrote.
 pub fn written_into(
@@ -30,7 +34,7 @@ fn without_memory(
     lines: &[u8],
 ) -> Result<(Result<(), ScriptFault>, usize), Fail> {
     let words = [String::from_str(alloc, word)?];
-    let hoard = Hoard::take(alloc).expect(rt, "all memory");
+    let hoard = Hoard::take(alloc).expect(rt, NEEDS_THE_PROVED_BUILD);
     let answer = written_into(alloc, &words, lines, &mut [0; 64]);
     drop(hoard);
     Ok(answer)
@@ -40,11 +44,48 @@ fn without_memory(
 fn a_script_without_memory_prints_nothing(rt: HostRuntime) -> Result<(), Fail> {
     let alloc = rt.alloc();
     for word in ["inline", "string", "heap", "inline0", "inline8"] {
-        for lines in [b"pop\n".as_slice(), b"", b"push ab\n"] {
+        for lines in [STORED_RUN, b"", b"push ab\n"] {
             let answer = without_memory(&rt, alloc, word, lines)?;
             assert_eq!(rt; answer, (Err(ScriptFault::NoMemory), 0), "{word}");
         }
     }
+    Ok(())
+}
+
+/// The answers to a script without lines from each kind of text, while the input's room is the one
+/// block of memory that can be had.
+fn with_room_for_the_input(
+    rt: &impl Abort,
+    alloc: Global,
+    words: &[[String; 1]; 2],
+) -> [(Result<(), ScriptFault>, usize); 2] {
+    let room: Option<Vec<u8>> = Vec::with_capacity(alloc, MOST_BYTES + 1).ok();
+    assert!(rt; room.is_some());
+    let hoard = Hoard::take(alloc).expect(rt, "all memory");
+    drop(room);
+    let [heap, inline] = words;
+    let answers = [
+        written_into(alloc, heap, b"", &mut [0; 64]),
+        written_into(alloc, inline, b"", &mut [0; 64]),
+    ];
+    drop(hoard);
+    answers
+}
+
+/// A text that begins inline asks for nothing, and so shows that the input was read.
+#[test]
+fn a_start_on_the_heap_that_alone_is_refused_prints_nothing(rt: HostRuntime) -> Result<(), Fail> {
+    let alloc = rt.alloc();
+    let words = [
+        [String::from_str(alloc, "heap")?],
+        [String::from_str(alloc, "inline")?],
+    ];
+    let answers = with_room_for_the_input(&rt, alloc, &words);
+    let printed = b"text \nlength 0\nstorage inline\n".len();
+    assert_eq!(rt;
+        answers,
+        [(Err(ScriptFault::NoMemory), 0), (Ok(()), printed)]
+    );
     Ok(())
 }
 

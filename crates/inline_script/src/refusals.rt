@@ -2,12 +2,14 @@
 //! refused, and say `refused` where they met the refusal. At most one request of a test is
 //! refused, and `.ci/gate refusals` says which.
 
-use crate::memory::written_into;
+use crate::memory::{STORED_RUN, written_into};
 use script_language::ScriptFault;
 use std::alloc::Global;
 use std::process::Abort;
 use std::test::Fail;
 use test_support::Refusals;
+
+mod arguments;
 
 /// A script, what it prints, and what it prints where a request of its run is refused.
 #[derive(Clone, Copy)]
@@ -23,39 +25,40 @@ fn assert_first(rt: &impl Abort, refusals: &mut Refusals) {
 }
 
 /// The argument word.
-fn word_of(rt: &impl Abort, alloc: Global, script: &Script, refusals: &mut Refusals) -> String {
-    if let Ok(word) = String::from_str(alloc, script.word) {
+fn word_of(rt: &impl Abort, alloc: Global, word: &str, refusals: &mut Refusals) -> String {
+    if let Ok(word) = String::from_str(alloc, word) {
         return word;
     }
     assert_first(rt, refusals);
-    let again = String::from_str(alloc, script.word);
+    let again = String::from_str(alloc, word);
     again.expect(rt, "at most one request is refused")
 }
 
-/// Runs a script, and once more where it was refused memory outside of the run. Answers how many
-/// bytes it wrote.
-fn accepted(
+/// The answer to a script, and how many bytes it wrote. Where it was refused memory outside of the
+/// run it wrote none, and it is run once more.
+fn answered(
     rt: &impl Abort,
     alloc: Global,
-    of: &Script,
+    (word, lines): (&str, &[u8]),
     room: &mut [u8],
     refusals: &mut Refusals,
-) -> usize {
-    let words = [word_of(rt, alloc, of, refusals)];
-    let mut answer = written_into(alloc, &words, of.lines, room);
-    if answer.0 == Err(ScriptFault::NoMemory) {
-        assert_first(rt, refusals);
-        assert!(rt; answer.1 == 0);
-        answer = written_into(alloc, &words, of.lines, room);
+) -> (Result<(), ScriptFault>, usize) {
+    let words = [word_of(rt, alloc, word, refusals)];
+    let answer = written_into(alloc, &words, lines, room);
+    if answer.0 != Err(ScriptFault::NoMemory) {
+        return answer;
     }
-    assert!(rt; answer.0 == Ok(()));
-    answer.1
+    assert_first(rt, refusals);
+    assert!(rt; answer.1 == 0);
+    written_into(alloc, &words, lines, room)
 }
 
 fn assert_answers(rt: &(impl Abort + Print), alloc: Global, of: &Script) -> Result<(), Fail> {
     let mut refusals = Refusals::none();
     let mut cells = [0; 128];
-    let count = accepted(rt, alloc, of, &mut cells, &mut refusals);
+    let script = (of.word, of.lines);
+    let (answer, count) = answered(rt, alloc, script, &mut cells, &mut refusals);
+    assert!(rt; answer == Ok(()));
     let written = cells.get(..count).unwrap_or(&[]);
     if of.refused.contains(&written) {
         assert_first(rt, &mut refusals);
@@ -66,6 +69,21 @@ fn assert_answers(rt: &(impl Abort + Print), alloc: Global, of: &Script) -> Resu
         println!(rt; "refused")?;
     }
     Ok(())
+}
+
+#[test]
+fn the_stored_run_goes_on_after_a_refused_promotion(rt: HostRuntime) -> Result<(), Fail> {
+    let script = Script {
+        word: "inline",
+        lines: STORED_RUN,
+        output: b"done\ndone\nchar o\nbad place\ndone\nchar 0\n\
+            text hellabcdefghijklmnopqrstuvwxyz\nlength 30\nstorage heap\n",
+        refused: &[
+            b"done\ndone\nchar o\nbad place\nno memory\nchar l\n\
+            text hel\nlength 3\nstorage inline\n",
+        ],
+    };
+    assert_answers(&rt, rt.alloc(), &script)
 }
 
 #[test]
@@ -140,4 +158,24 @@ fn a_refused_growth_leaves_a_string_as_it_was(rt: HostRuntime) -> Result<(), Fai
         ],
     };
     assert_answers(&rt, rt.alloc(), &script)
+}
+
+/// Scripts that are not accepted, with their words and their faults.
+const REJECTED: &[((&str, &[u8]), ScriptFault)] = &[
+    (("stack", b"pop\n"), ScriptFault::BadArgument),
+    (("heap", b"pop\n\xC3"), ScriptFault::NotUtf8),
+    (("string", b"pop\npush ab\n"), ScriptFault::BadLine(2)),
+];
+
+#[test]
+fn a_fault_is_named_once_memory_is_there(rt: HostRuntime) -> Result<(), Fail> {
+    let (alloc, mut refusals) = (rt.alloc(), Refusals::none());
+    for &(script, fault) in REJECTED {
+        let answer = answered(&rt, alloc, script, &mut [0; 64], &mut refusals);
+        assert_eq!(rt; answer, (Err(fault), 0));
+    }
+    if refusals.has_met {
+        println!(rt; "refused")?;
+    }
+    Ok(())
 }

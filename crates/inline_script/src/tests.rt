@@ -11,7 +11,7 @@ use std::fmt::Debug;
 use std::io::{ErrorKind, Read};
 use std::process::Abort;
 use std::test::Fail;
-use streams::{Endless, Failure, Narrow, OneByOne};
+use streams::{Counted, Endless, Failure, Narrow, OneByOne};
 
 /// The printed state of a new text.
 const EMPTY: &str = "text \nlength 0\nstorage inline\n";
@@ -403,6 +403,27 @@ fn a_failed_write_is_a_fault_after_a_part_of_the_output(rt: HostRuntime) -> Resu
         let failures = failures_of(&rt, words.as_slice(), failure);
         assert!(rt; failures >= 15, "{failures} failures");
     }
+    Ok(())
+}
+
+#[test]
+fn the_replies_to_a_full_script_are_few_writes(rt: HostRuntime) -> Result<(), Fail> {
+    let words = words(rt.alloc(), &["inline"])?;
+    let mut pops = Vec::new(rt.alloc());
+    for _ in 0..16_384 {
+        pops.extend_from_slice(b"pop\n")?;
+    }
+    let mut input = pops.as_slice();
+    let mut out = Counted {
+        writes: 0,
+        taken: 0,
+    };
+    let answer = script(rt.alloc(), words.as_slice(), &mut input, &mut out);
+    assert!(rt; answer == Ok(()));
+    // "none" and a line feed for each, and the three lines of the text.
+    assert!(rt; out.taken == 81_950);
+    let writes = out.writes;
+    assert!(rt; writes <= 20, "{writes} writes");
     Ok(())
 }
 

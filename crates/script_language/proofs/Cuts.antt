@@ -1,14 +1,12 @@
 -- Texts that are cut at a mark.
-use Rattle.std.proofs.Common.{◌≡◌, ◌≢◌, refl, sym, ap, subst, ◌∙◌, ℕ, ◌<◌, ◌==◌, suc, zero, List, [], ◌∷◌, ◌++◌, length, Bool, false, arith, get_or, Option, Some, None, IfSome, IfNone, Bor}
-use Rattle.std.specs.List.{position_or_len, before_first, after_first}
+use Rattle.std.proofs.Common.{◌≡◌, ◌≢◌, refl, subst, ℕ, ◌<◌, ◌==◌, suc, zero, List, [], ◌∷◌, ◌++◌, length, arith}
+use Rattle.std.specs.List.{position_or_len}
 use Rattle.std.specs.Str.Iter.{LacksByte}
 use Rattle.std.specs.Str.Parse.{AllDigits}
-use Rattle.std.specs.Str.Pattern.{FindsChar, SplitsAtFirstByte}
-use Rattle.std.proofs.lemmas.List.Sums.{fails_before_first, passes_at_first, split_at_first}
-use Rattle.std.proofs.lemmas.Bool.{eqb-true, eqb-false}
+use Rattle.std.proofs.lemmas.List.Sums.{fails_before_first}
+use Rattle.std.proofs.lemmas.Bool.{eqb-false}
 use Rattle.std.specs.Char.{digit_value}
-use Rattle.std.proofs.lemmas.Grind.{common_steps}
-use Rattle.script_language.specs.Line.{IsFirstCut, space}
+use Rattle.script_language.specs.Line.{space}
 
 head-lacks : (m b : ℕ) (bs : List ℕ) → LacksByte m (b ∷ bs) → b ≢ m
 head-lacks m b bs lacks = lacks 0 (omega arith)
@@ -49,36 +47,3 @@ pub lacks-from_position : (m : ℕ) (bs : List ℕ)
     → position_or_len (λ b. b == m) bs ≡ length bs → LacksByte m bs
 lacks-from_position m bs none k below =
     eqb-false _ m (fails_before_first (λ b. b == m) bs k 0 (omega (arith, none)))
-
--- what `split_once` says of a mark that is one byte
-pub cut-from_split : (mark : ℕ) → mark < 128 → (text : List ℕ)
-    (r : Option (Bor (List ℕ) × Bor (List ℕ)))
-    → SplitsAtFirstByte (FindsChar mark) (Some mark) text r
-    → IfSome r (λ parts. IsFirstCut mark text parts.0.now parts.1.now)
-cut-from_split mark low text None split = tt
-cut-from_split mark low text (Some parts) split =
-    let at = split low (λ w o found. found) in
-    let is_mark : ℕ → Bool = λ b. b == mark in
-    let found : get_or text (position_or_len is_mark text) 0 ≡ mark =
-    eqb-true _ mark (passes_at_first is_mark text 0 at.2) in
-    let first : LacksByte mark (before_first is_mark text) = λ k below.
-    eqb-false _ mark (front k below) in
-    record {
-      joined = split_at_first is_mark text 0 at.2
-          ∙ ap (λ b. before_first is_mark text ++ b ∷ after_first is_mark text) found
-          ∙ ap (λ l. l ++ mark ∷ after_first is_mark text) (sym at.0)
-          ∙ ap (λ l. parts.0.now ++ mark ∷ l) (sym at.1);
-      first = subst (LacksByte mark) (sym at.0) first;
-    }
-  where
-    front : (k : ℕ) → k < length (before_first (λ b. b == mark) text)
-        → (get_or (before_first (λ b. b == mark) text) k 0 == mark) ≡ false
-    front k below =
-        grind (arith, common_steps, fails_before_first (λ b. b == mark) text k 0)
-
-pub lacks-from_split : (mark : ℕ) → mark < 128 → (text : List ℕ)
-    (r : Option (Bor (List ℕ) × Bor (List ℕ)))
-    → SplitsAtFirstByte (FindsChar mark) (Some mark) text r → IfNone r (LacksByte mark text)
-lacks-from_split mark low text None split =
-    lacks-from_position mark text (split low (λ w o found. found))
-lacks-from_split mark low text (Some parts) split = tt

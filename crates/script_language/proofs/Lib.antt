@@ -2,6 +2,7 @@ mod Pieces
 mod Fronts
 mod PrintedLines
 mod Cuts
+mod Gathered
 mod Words
 mod Decimals
 mod HexTexts

@@ -1,5 +1,7 @@
 -- The lines that are printed of a run, one after the other.
-use Rattle.std.proofs.Common.{◌≡◌, refl, sym, ap, ◌∙◌, ℕ, ◌<◌, zero, suc, List, [], ◌∷◌, ◌++◌, append_assoc, arith, codes, decimal, drop, flat_map, get_or, length, take}
+use Rattle.std.proofs.Common.{◌≡◌, refl, sym, ap, ◌∙◌, ℕ, ◌+◌, ◌<◌, zero, suc, List, [], ◌∷◌, ◌++◌, append_assoc, append-nil, arith, codes, decimal, drop, flat_map, get_or, length, take}
+use Rattle.std.proofs.lemmas.List.{take_more}
+use Rattle.std.proofs.lemmas.List.Concat.{flat_map-append}
 use Rattle.inlinable_string.specs.State.{TextState}
 use Rattle.inlinable_string.specs.Text.{bytes_of, size}
 use Rattle.inlinable_string.specs.declared.run.Reply.{Reply}
@@ -20,6 +22,17 @@ line_at (r ∷ rs) (suc i) h =
     ap (λ x. reply_line r ++ x) rest
     ∙ sym (append_assoc (reply_line r) (a ++ l) d)
     ∙ ap (λ x. x ++ d) (sym (append_assoc (reply_line r) a l))
+
+-- it ends those up to it
+pub lines_to : (rs : List Reply) (i : ℕ) → i < length rs
+    → flat_map reply_line (take i rs) ++ reply_line (get_or rs i Done)
+    ≡ flat_map reply_line (take (i + 1) rs)
+lines_to rs i within =
+    let a = flat_map reply_line (take i rs) in
+    let l = reply_line (get_or rs i Done) in
+    sym (ap (flat_map reply_line) (take_more rs i Done within)
+    ∙ flat_map-append reply_line (take i rs) (get_or rs i Done ∷ [])
+    ∙ ap (λ x. a ++ x) (append-nil l))
 
 -- and before those of the others, and what follows all of them
 pub lines_from : (rs : List Reply) (i : ℕ) (last : List ℕ) → i < length rs

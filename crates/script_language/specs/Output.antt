@@ -43,3 +43,9 @@ pub record WritesFront (old new : Option (List ℕ)) (bytes : List ℕ) : Type 0
   pub behind : List ℕ
   pub split : bytes ≡ front ++ behind
   pub written : Appends old new front
+
+-- of the bytes that waited and of these a front was written, and the rest waits
+pub record IsGathered (old new : Option (List ℕ)) (waited bytes waiting : List ℕ) : Type 0 where
+  pub front : List ℕ
+  pub split : waited ++ bytes ≡ front ++ waiting
+  pub written : Appends old new front

@@ -9,5 +9,12 @@ pub fn cut_at(text: &str, mark: char) -> Option<(&str, &str)>
     ensures some { IfSome result (λ parts. IsFirstCut mark text.now parts.0.now parts.1.now) }
     ensures none { IfNone result (LacksByte mark text.now) }
 {
-    text.split_once(mark)
+    // No byte of a longer character is a mark.
+    let mark = mark as u8;
+    for (at, byte) in text.as_bytes().iter().enumerate() {
+        if *byte == mark {
+            return Some((&text[..at], &text[at + 1..]));
+        }
+    }
+    None
 }

@@ -4,6 +4,7 @@
 //! end.
 #![tactic(auto)]
 
+mod buffer;
 mod cut;
 mod fault;
 mod input;

@@ -1,8 +1,9 @@
 //! Prints what a run gave. It takes no memory.
-ghost use Rattle.std.specs.Prelude.{◌≡◌, IfErr, OnOk, decimal};
+ghost use Rattle.std.specs.Prelude.{◌≡◌, ◌++◌, IfErr, OnOk, decimal};
 ghost use Rattle.std.specs.Io.KnownBytes.{Appends};
-ghost use Rattle.script_language.specs.Output.{labelled_line, printed, reply_line, storage_name, WritesFront};
+ghost use Rattle.script_language.specs.Output.{labelled_line, printed, reply_line, storage_name, IsGathered, WritesFront};
 
+use crate::buffer::Buffer;
 use crate::fault::ScriptFault;
 use inlinable_string::run::Reply;
 use inlinable_string::{Storage, StringExt};
@@ -23,33 +24,45 @@ pub fn print<S: StringExt, W: Write>(
         (printed replies.now (S.state text.now))) }
     ensures fault { IfErr result (λ fault. fault ≡ ScriptFault.Write) }
 {
+    let mut buffer = Buffer::new();
     for reply in replies {
-        print_reply(out, *reply)?;
+        print_reply(out, &mut buffer, *reply)?;
     }
-    print_line(out, b"text ", text.as_bytes())?;
+    print_line(out, &mut buffer, b"text ", text.as_bytes())?;
     let mut room = [0; LENGTH_DIGITS];
-    print_line(out, b"length ", decimal_digits(text.len(), &mut room))?;
-    print_line(out, b"storage ", storage_name(text.storage()))
+    print_line(
+        out,
+        &mut buffer,
+        b"length ",
+        decimal_digits(text.len(), &mut room),
+    )?;
+    print_line(out, &mut buffer, b"storage ", storage_name(text.storage()))?;
+    buffer.flush(out)
 }
 
-fn print_reply<W: Write>(out: &mut W, reply: Reply) -> Result<(), ScriptFault>
-    ensures written { OnOk result (Appends (W.contents out.old) (W.contents out.new)
-        (reply_line reply)) }
+fn print_reply<W: Write>(out: &mut W, buffer: &mut Buffer, reply: Reply) -> Result<(), ScriptFault>
+    ensures gathered { OnOk result (IsGathered (W.contents out.old) (W.contents out.new)
+        buffer.old (reply_line reply) buffer.new) }
     ensures part { IfErr result (λ _. WritesFront (W.contents out.old) (W.contents out.new)
-        (reply_line reply)) }
+        (buffer.old ++ reply_line reply)) }
     ensures fault { IfErr result (λ fault. fault ≡ ScriptFault.Write) }
 {
     match reply {
-        Reply::Done => write_whole(out, b"done\n"),
+        Reply::Done => buffer.add(out, b"done\n"),
         Reply::Char(character) => {
             let mut bytes = [0; 4];
-            print_line(out, b"char ", character.encode_utf8(&mut bytes).as_bytes())
+            print_line(
+                out,
+                buffer,
+                b"char ",
+                character.encode_utf8(&mut bytes).as_bytes(),
+            )
         }
-        Reply::NoChar => write_whole(out, b"none\n"),
-        Reply::BadPlace => write_whole(out, b"bad place\n"),
-        Reply::NotUtf8 => write_whole(out, b"not utf-8\n"),
-        Reply::WrongLength => write_whole(out, b"wrong length\n"),
-        Reply::NoMemory => write_whole(out, b"no memory\n"),
+        Reply::NoChar => buffer.add(out, b"none\n"),
+        Reply::BadPlace => buffer.add(out, b"bad place\n"),
+        Reply::NotUtf8 => buffer.add(out, b"not utf-8\n"),
+        Reply::WrongLength => buffer.add(out, b"wrong length\n"),
+        Reply::NoMemory => buffer.add(out, b"no memory\n"),
     }
 }
 
@@ -77,34 +90,19 @@ fn storage_name(storage: Storage) -> &'static [u8]
     }
 }
 
-fn print_line<W: Write>(out: &mut W, label: &[u8], value: &[u8]) -> Result<(), ScriptFault>
-    ensures written { OnOk result (Appends (W.contents out.old) (W.contents out.new)
-        (labelled_line label.now value.now)) }
+fn print_line<W: Write>(
+    out: &mut W,
+    buffer: &mut Buffer,
+    label: &[u8],
+    value: &[u8],
+) -> Result<(), ScriptFault>
+    ensures gathered { OnOk result (IsGathered (W.contents out.old) (W.contents out.new)
+        buffer.old (labelled_line label.now value.now) buffer.new) }
     ensures part { IfErr result (λ _. WritesFront (W.contents out.old) (W.contents out.new)
-        (labelled_line label.now value.now)) }
+        (buffer.old ++ labelled_line label.now value.now)) }
     ensures fault { IfErr result (λ fault. fault ≡ ScriptFault.Write) }
 {
-    write_whole(out, label)?;
-    write_whole(out, value)?;
-    write_whole(out, b"\n")
-}
-
-/// Writes all of the bytes.
-///
-/// Every failed write is a fault, an interrupted one too, and so is one that takes no byte: so
-/// writing ends.
-fn write_whole<W: Write>(out: &mut W, bytes: &[u8]) -> Result<(), ScriptFault>
-    ensures written { OnOk result (Appends (W.contents out.old) (W.contents out.new) bytes.now) }
-    ensures part { IfErr result (λ _. WritesFront (W.contents out.old) (W.contents out.new)
-        bytes.now) }
-    ensures fault { IfErr result (λ fault. fault ≡ ScriptFault.Write) }
-{
-    let mut rest = bytes;
-    while !rest.is_empty() {
-        match out.write(rest) {
-            Ok(0) | Err(_) => return Err(ScriptFault::Write),
-            Ok(count) => rest = &rest[count..],
-        }
-    }
-    Ok(())
+    buffer.add(out, label)?;
+    buffer.add(out, value)?;
+    buffer.add(out, b"\n")
 }

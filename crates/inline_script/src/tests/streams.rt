@@ -119,3 +119,24 @@ impl Write for Narrow<'_> {
         Ok(())
     }
 }
+
+/// Takes all that it is given.
+#[derive(Drop)]
+pub struct Counted {
+    /// How many writes were asked for.
+    pub writes: usize,
+    /// How many bytes were taken.
+    pub taken: usize,
+}
+
+impl Write for Counted {
+    fn write(&mut self, buf: &[u8]) -> io::Result<usize> {
+        self.writes = self.writes.saturating_add(1);
+        self.taken = self.taken.saturating_add(buf.len());
+        Ok(buf.len())
+    }
+
+    fn flush(&mut self) -> io::Result<()> {
+        Ok(())
+    }
+}

@@ -2,7 +2,7 @@
 ghost use Rattle.std.specs.Prelude.{◌≡◌, ◌∷◌, ◌++◌, [], true, Some, None, codes};
 ghost use Rattle.inlinable_string.specs.State.{TextState};
 ghost use Rattle.script_language.specs.Fault.{line_of, status_of};
-ghost use Rattle.script_language.specs.Output.{labelled_line, printed, reply_line, state_lines, storage_name, WritesFront};
+ghost use Rattle.script_language.specs.Output.{labelled_line, printed, reply_line, state_lines, storage_name, IsGathered, WritesFront};
 
 use crate::fault::ScriptFault;
 use inlinable_string::Storage;
@@ -74,6 +74,20 @@ pub fn fronts_of_a_line()
     ensures lost { ¬ WritesFront (Some (codes "x")) (Some (codes "do")) (codes "done") }
     ensures more { ¬ WritesFront (Some []) (Some (codes "done\n")) (codes "done") }
     ensures unknown { ¬ WritesFront (Some []) None (codes "done") }
+{}
+
+/// "do" waits, and then comes "ne": nothing, a part or all of it may be written, the rest waits, and
+/// none is lost or written twice.
+pub fn gathered_bytes()
+    ensures nothing { IsGathered (Some []) (Some []) (codes "do") (codes "ne") (codes "done") }
+    ensures part { IsGathered (Some (codes "x")) (Some (codes "xdo"))
+        (codes "do") (codes "ne") (codes "ne") }
+    ensures all { IsGathered (Some []) (Some (codes "done")) (codes "do") (codes "ne") [] }
+    ensures lost { ¬ IsGathered (Some []) (Some (codes "do")) (codes "do") (codes "ne") [] }
+    ensures twice { ¬ IsGathered (Some []) (Some (codes "do"))
+        (codes "do") (codes "ne") (codes "done") }
+    ensures turned { ¬ IsGathered (Some []) (Some (codes "ne"))
+        (codes "do") (codes "ne") (codes "do") }
 {}
 
 /// The line of each fault; a bad line's number is in decimal.

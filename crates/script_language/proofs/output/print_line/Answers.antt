@@ -1,22 +1,26 @@
 use Rattle.std.proofs.Common.{codes}
-use Rattle.std.proofs.KnownBytes.{Appends-trans}
-use Rattle.script_language.proofs.Fronts.{front_of_more, front_after, of_any_error, of_error}
+use Rattle.std.proofs.lemmas.Result.{on_ok_weaker}
+use Rattle.script_language.proofs.Fronts.{of_any_error, of_error}
+use Rattle.script_language.proofs.Gathered.{gathered_more, front_after_gathered, front_of_longer}
 use Rattle.script_language.proofs.output.print_line.Goals as goal
 
-pub returns-in_err-write_whole-clause-part : goal.returns-in_err-write_whole-clause-part
-returns-in_err-write_whole-clause-part g c =
-    let value = front_of_more _ _ _ c.args.value.now c.in_err-write_whole.ensures.part in
-    of_any_error _ _ (front_of_more _ _ _ (codes "\n") value)
+pub returns-in_err-add-clause-part : goal.returns-in_err-add-clause-part
+returns-in_err-add-clause-part g c =
+    let value = front_of_longer _ _ c.args.value.now c.in_err-add.ensures.part in
+    of_any_error _ _ (front_of_longer _ _ (codes "\n") value)
 
-pub returns-in_err-write_whole-2-clause-part : goal.returns-in_err-write_whole-2-clause-part
-returns-in_err-write_whole-2-clause-part g c =
-    let label = c.in_ok-write_whole.ensures.written in
-    let value = front_after _ _ _ _ _ label c.in_err-write_whole-2.ensures.part in
-    of_any_error _ _ (front_of_more _ _ _ (codes "\n") value)
+pub returns-in_err-add-2-clause-part : goal.returns-in_err-add-2-clause-part
+returns-in_err-add-2-clause-part g c =
+    let label = c.in_ok-add.ensures.gathered in
+    let value = front_after_gathered c.args.value.now label c.in_err-add-2.ensures.part in
+    of_any_error _ _ (front_of_longer _ _ (codes "\n") value)
+
+pub returns-clause-gathered : goal.returns-clause-gathered
+returns-clause-gathered g c =
+    let both = gathered_more c.in_ok-add.ensures.gathered c.in_ok-add-2.ensures.gathered in
+    on_ok_weaker c.add-3.result (gathered_more both) c.add-3.ensures.gathered
 
 pub returns-clause-part : goal.returns-clause-part
 returns-clause-part g c =
-    let label = c.in_ok-write_whole.ensures.written in
-    let value = c.in_ok-write_whole-2.ensures.written in
-    let both = Appends-trans _ _ _ _ _ label value in
-    of_error _ _ _ (front_after _ _ _ _ _ both) c.write_whole-3.ensures.part
+    let both = gathered_more c.in_ok-add.ensures.gathered c.in_ok-add-2.ensures.gathered in
+    of_error _ _ _ (front_after_gathered (codes "\n") both) c.add-3.ensures.part

@@ -1,7 +1,7 @@
 use Rattle.std.proofs.Common.{◌++◌, take}
 use Rattle.std.proofs.KnownBytes.{Appends-trans}
 use Rattle.script_language.proofs.Pieces.{done_with_piece}
-use Rattle.script_language.proofs.output.write_whole.Goals as goal
+use Rattle.script_language.proofs.buffer.write_whole.Goals as goal
 
 pub loop-rest-preserved : goal.loop-rest-preserved
 loop-rest-preserved g c =

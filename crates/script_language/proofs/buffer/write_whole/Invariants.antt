@@ -1,7 +1,7 @@
 -- What no longer stands in the rest was written.
 use Rattle.std.proofs.Common.{◌≡◌, ℕ, List, ◌++◌, length}
 use Rattle.std.specs.Io.KnownBytes.{Appends}
-use Rattle.script_language.proofs.output.write_whole.Given as goal
+use Rattle.script_language.proofs.buffer.write_whole.Given as goal
 
 abbrev pub invariant-loop-rest : goal.invariant-loop-rest
 invariant-loop-rest g l = (done : List ℕ) × (l.initial.rest ≡ done ++ l.rest)
