@@ -28,6 +28,8 @@ enum Growth {
     InsertStrFirst(&'static str),
     Reserve(usize),
     ReserveExact(usize),
+    /// Adds nothing: it only may ask.
+    Shrink,
 }
 
 fn grow<S: StringExt>(text: &mut S, growth: Growth) -> Result<(), AllocError> {
@@ -38,6 +40,7 @@ fn grow<S: StringExt>(text: &mut S, growth: Growth) -> Result<(), AllocError> {
         Growth::InsertStrFirst(string) => text.insert_str(0, string),
         Growth::Reserve(additional) => text.reserve(additional),
         Growth::ReserveExact(additional) => text.reserve_exact(additional),
+        Growth::Shrink => text.shrink_to_fit(),
     }
 }
 
@@ -79,7 +82,7 @@ enum Wrong {
 /// How many calls were right, or the number of the first that was wrong, and what is wrong there.
 type Grown = Result<usize, (usize, Wrong)>;
 
-/// Grows a text that fills its room, again if it is refused; after a refusal it is as before.
+/// Grows a text that has been made so, again if it is refused; after a refusal it is as before.
 fn wrong_growth<S: StringMake + Drop>(
     rt: &impl Abort,
     alloc: Global,
@@ -152,6 +155,11 @@ const INSERTIONS: &[Added] = &[
     (Growth::InsertStrFirst("bc"), "bc", ""),
 ];
 
+/// More room than it needs.
+const ROOMY: Start = (100, "aaaaaaaaaaaaaaaaaaaaaaaaaaaaaaa", Storage::Heap);
+
+const SHRINKS: &[Added] = &[(Growth::Shrink, "", "")];
+
 const RESERVATIONS: &[Added] = &[
     (Growth::Reserve(100), "", ""),
     (Growth::ReserveExact(100), "", ""),
@@ -220,6 +228,16 @@ fn an_insertion_into_a_string(rt: HostRuntime) -> Result<(), Fail> {
 #[test]
 fn a_reservation_in_a_string(rt: HostRuntime) -> Result<(), Fail> {
     assert_grown::<String>(&rt, rt.alloc(), ON_HEAP, RESERVATIONS)
+}
+
+#[test]
+fn a_shrink_of_a_text_that_stays_on_the_heap(rt: HostRuntime) -> Result<(), Fail> {
+    assert_grown::<InlinableString>(&rt, rt.alloc(), ROOMY, SHRINKS)
+}
+
+#[test]
+fn a_shrink_of_a_string(rt: HostRuntime) -> Result<(), Fail> {
+    assert_grown::<String>(&rt, rt.alloc(), ROOMY, SHRINKS)
 }
 
 #[test]

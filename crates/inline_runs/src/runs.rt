@@ -416,6 +416,8 @@ fn a_place_is_taken_and_no_other_offset(rt: HostRuntime) {
     let alloc = rt.alloc();
     assert_offsets::<InlinableString>(&rt, alloc, inlinable(30), None);
     assert_offsets::<InlinableString>(&rt, alloc, inlinable(30), Some(31));
+    // The text fills such a one, so that an insertion takes it to the heap.
+    assert_offsets::<InlinableStringN<10>>(&rt, alloc, inlinable(10), None);
     assert_offsets::<ArrayText<30>>(&rt, alloc, inlinable(30), None);
     assert_offsets::<String>(&rt, alloc, HEAP, None);
 }

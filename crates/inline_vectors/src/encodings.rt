@@ -32,6 +32,12 @@ const UNITS: &[UnitsRow] = &[
     (&[0xDC00, 0xD800], "\u{FFFD}\u{FFFD}", false),
     (&[0xDBFF, 0xDFFF], "\u{10FFFF}", true),
     (&[0xD834, 0xDD1E, 0xDD1E], "𝄞\u{FFFD}", false),
+    // Characters of each length, and the sign for what is none.
+    (
+        &[0x0061, 0x00E9, 0x20AC, 0xFFFD, 0xD834, 0xDD1E],
+        "aé€\u{FFFD}𝄞",
+        true,
+    ),
     // The least and the greatest of each kind of unit.
     (
         &[0, 0xD7FF, 0xE000, 0xFFFF],

@@ -1,11 +1,11 @@
 //! All memory held by a test, while it makes its calls.
 use std::alloc::Global;
 use std::process::Abort;
-use test_support::Hoard;
+use test_support::{Hoard, NEEDS_THE_PROVED_BUILD};
 
 /// All memory that can be had.
 pub fn all_memory(rt: &impl Abort, alloc: Global) -> Hoard {
-    Hoard::take(alloc).expect(rt, "memory cannot be used up here")
+    Hoard::take(alloc).expect(rt, NEEDS_THE_PROVED_BUILD)
 }
 
 /// All memory that can be had but for one block of so many bytes, or for none.

@@ -1,10 +1,11 @@
 //! Texts joined: another one added, and the items of iterators one by one.
 ghost use Rattle.std.specs.Iterator.{at_most};
+ghost use Rattle.std.specs.Prelude.{◌≤◌};
 
 use crate::texts::{is_lying, text_of};
 use Items::{Chars, Strs};
 use Storage::{Heap, Inline};
-use inlinable_string::{InlinableString, Storage, StringExt, StringMake};
+use inlinable_string::{InlinableString, InlinableStringN, Storage, StringExt, StringMake};
 use std::alloc::{AllocError, Global};
 use std::process::Abort;
 use test_support::letters::{LETTERS_29, LETTERS_30, LETTERS_31};
@@ -169,9 +170,9 @@ impl Iterator for SomeLetters {
 }
 
 /// Joins the letters that a filter leaves to one text, and three that come with no hint to another.
-fn join_letters(
-    filtered: &mut InlinableString,
-    unannounced: &mut InlinableString,
+fn join_letters<const N: usize>(
+    filtered: &mut InlinableStringN<N>,
+    unannounced: &mut InlinableStringN<N>,
 ) -> [Result<(), AllocError>; 2] {
     [
         filtered.extend_chars(MIXED.chars().filter(|ch| *ch == 'a')),
@@ -179,14 +180,29 @@ fn join_letters(
     ]
 }
 
+/// Whether all the letters are joined, and the three lie there.
+fn are_letters_joined<const N: usize>(alloc: Global, three: Storage) -> bool
+    requires { N ≤ 300 }
+{
+    let mut filtered = InlinableStringN::<N>::new(alloc);
+    let mut unannounced = InlinableStringN::<N>::new(alloc);
+    join_letters(&mut filtered, &mut unannounced) == [Ok(()); 2]
+        && is_lying(&filtered, LETTERS_31, Heap)
+        && is_lying(&unannounced, "aaa", three)
+}
+
 #[test]
 fn items_of_a_filter_and_of_an_iterator_with_no_hint_are_joined(rt: HostRuntime) {
     let alloc = rt.alloc();
-    let mut filtered = InlinableString::new(alloc);
-    let mut unannounced = InlinableString::new(alloc);
-    let answers = join_letters(&mut filtered, &mut unannounced);
-    let are_right = is_lying(&filtered, LETTERS_31, Heap) && is_lying(&unannounced, "aaa", Inline);
-    assert!(&rt; answers == [Ok(()); 2] && are_right && MIXED.chars().count() == 100);
+    let are_joined = [
+        are_letters_joined::<0>(alloc, Heap),
+        are_letters_joined::<3>(alloc, Inline),
+        are_letters_joined::<30>(alloc, Inline),
+    ];
+    assert!(&rt;
+        are_joined == [true; 3] && MIXED.chars().count() == 100,
+        "{are_joined:?}"
+    );
 }
 
 /// A text, what is added, the whole, and where it lies if it was made new.

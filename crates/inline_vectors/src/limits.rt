@@ -14,8 +14,10 @@ use inlinable_string::run::Reply::{Char, Done, WrongLength};
 use std::alloc::Global;
 use std::process::Abort;
 use test_support::step::Where::{AsMade, OnHeap, Shrunk};
-use test_support::step::{Home, Kind};
-use test_support::tally::and_list;
+use test_support::step::{HEAP_ROOM, Home, Kind};
+use test_support::tally::{and_list, and_step};
+
+mod edges;
 
 const WITHIN_0: &[List] = &[
     (
@@ -130,61 +132,34 @@ fn as_many_letters_as_the_limit_are_inline_and_no_more(rt: HostRuntime) {
     assert_right(&rt, play_limits(&rt, rt.alloc()));
 }
 
-/// A character of each length.
-const CHARACTERS: &[char] = &['a', 'é', '€', '𝄞'];
-
-/// Puts a character in at both ends of so many letters.
-fn play_character<const N: usize>(rt: &impl Abort, alloc: Global, ch: char, count: usize) -> Tally
-    requires { N ≤ 300 }
-{
-    let letters = whole_of(rt, alloc, "a", count);
-    let mut back = whole_of(rt, alloc, "a", count);
-    back.push(ch).expect(rt, "memory");
-    let mut front = String::new(alloc);
-    front.push(ch).expect(rt, "memory");
-    front.push_str(letters.as_str()).expect(rt, "memory");
-    let place = if back.len() <= N { AsMade } else { OnHeap };
-    let steps = [
-        (Push(ch), Done, back.as_str(), place),
-        (Insert(0, ch), Done, front.as_str(), place),
-    ];
-    play_alone_within::<N>(rt, alloc, letters.as_str(), &steps)
-}
-
-/// Characters that just fit, and those of which one byte finds no room.
-fn play_edge<const N: usize>(rt: &impl Abort, alloc: Global) -> Tally
-    requires { N ≤ 300 }
-{
-    let mut count = 0usize;
-    for &ch in CHARACTERS {
-        for whole in N..=N.saturating_add(1) {
-            if let Some(letters) = whole.checked_sub(ch.len_utf8()) {
-                count = and_list(count, whole, play_character::<N>(rt, alloc, ch, letters))?;
-            }
-        }
-    }
-    Ok(count)
-}
-
-fn play_edges(rt: &impl Abort, alloc: Global) -> Tally {
-    let mut count = and_list(0, 30, play_edge::<30>(rt, alloc))?;
-    count = and_list(count, 0, play_edge::<0>(rt, alloc))?;
-    count = and_list(count, 1, play_edge::<1>(rt, alloc))?;
-    count = and_list(count, 3, play_edge::<3>(rt, alloc))?;
-    count = and_list(count, 4, play_edge::<4>(rt, alloc))?;
-    and_list(count, 300, play_edge::<300>(rt, alloc))
-}
-
-#[test]
-fn a_character_is_inline_where_its_bytes_just_fit(rt: HostRuntime) {
-    assert_right(&rt, play_edges(&rt, rt.alloc()));
-}
-
 /// Each place of a text of 10 bytes, where it has no room left or much.
 #[test]
 fn places_are_the_same_at_each_limit(rt: HostRuntime) {
     for list in places::ALL {
         assert_right(&rt, play_each_alone_within::<13>(&rt, rt.alloc(), list));
         assert_right(&rt, play_each_alone_within::<300>(&rt, rt.alloc(), list));
+    }
+}
+
+/// Plays each step on a text of its own that lies on the heap, where three bytes would lie inline.
+fn play_alone_above_3(rt: &impl Abort, alloc: Global, lists: &[List]) -> Tally {
+    let kind = Kind {
+        home: Home::Either(3),
+        room: HEAP_ROOM,
+    };
+    let mut count = 0usize;
+    for (i, &(start, steps)) in lists.iter().enumerate() {
+        for (j, step) in steps.iter().enumerate() {
+            let answer = play_on::<InlinableStringN<3>>(rt, alloc, kind, start, &[*step]);
+            count = and_list(count, i, and_step(count, j, answer))?;
+        }
+    }
+    Ok(count)
+}
+
+#[test]
+fn places_are_the_same_on_the_heap(rt: HostRuntime) {
+    for list in places::ALL {
+        assert_right(&rt, play_alone_above_3(&rt, rt.alloc(), list));
     }
 }

@@ -3,7 +3,9 @@ ghost use Rattle.std.specs.Prelude.{◌≤◌};
 
 use crate::texts::{assert_no_wrong_row, is_lying};
 use Storage::{Heap, Inline};
-use inlinable_string::run::Command::{self, Pop, ShrinkToFit};
+use inlinable_string::run::Command::{
+    self, Insert, InsertStr, Pop, Push, PushStr, Reserve, ReserveExact, ShrinkToFit,
+};
 use inlinable_string::run::Reply::{self, Char, Done, NoChar};
 use inlinable_string::run::run;
 use inlinable_string::{InlinableString, InlinableStringN, Storage, StringExt, StringMake};
@@ -259,8 +261,31 @@ const SHRUNK_AS_STRING: &[CommandRow] = &[
     (ShrinkToFit, Done, LETTERS_30, Heap),
 ];
 
+/// 53 bytes.
+const LONG: &str = "0123456789caaaaaaaaaaaaaaaaaaaaaaaaaaaaaaab0123456789";
+
+const GROWN: &[CommandRow] = &[
+    (
+        Insert(0, 'c'),
+        Done,
+        "caaaaaaaaaaaaaaaaaaaaaaaaaaaaaaa",
+        Heap,
+    ),
+    (Push('b'), Done, "caaaaaaaaaaaaaaaaaaaaaaaaaaaaaaab", Heap),
+    (
+        PushStr("0123456789"),
+        Done,
+        "caaaaaaaaaaaaaaaaaaaaaaaaaaaaaaab0123456789",
+        Heap,
+    ),
+    (InsertStr(0, "0123456789"), Done, LONG, Heap),
+    (Reserve(100), Done, LONG, Heap),
+    (ReserveExact(1000), Done, LONG, Heap),
+    (ShrinkToFit, Done, LONG, Heap),
+];
+
 /// The first row that is wrong, where `run` is given the commands one after the other on the text
-/// of 31 bytes.
+/// of 31 bytes. Inline it has room for 30 bytes.
 pub fn wrong_command<S: StringMake + Drop>(
     rt: &impl Abort,
     alloc: Global,
@@ -272,7 +297,8 @@ pub fn wrong_command<S: StringMake + Drop>(
     for (i, &(command, reply, content, storage)) in rows.iter().enumerate() {
         let mut replies = [NoChar];
         run(&mut text, &[command], &mut replies);
-        if replies != [reply] || !is_lying(&text, content, storage) {
+        let has_room = storage == Heap || text.capacity() == 30;
+        if replies != [reply] || !is_lying(&text, content, storage) || !has_room {
             return Some(i);
         }
     }
@@ -286,6 +312,16 @@ fn a_text_of_bytes_comes_back_inline_where_it_is_shrunk_at_30(rt: HostRuntime) {
         wrong_command::<InlinableString>(&rt, alloc, SHRUNK),
         wrong_command::<String>(&rt, alloc, SHRUNK_AS_STRING),
         wrong_command::<HeapText>(&rt, alloc, SHRUNK_AS_STRING),
+    ];
+    assert_no_wrong_row(&rt, &wrong);
+}
+
+#[test]
+fn a_text_of_bytes_goes_on_growing(rt: HostRuntime) {
+    let alloc = rt.alloc();
+    let wrong = [
+        wrong_command::<InlinableString>(&rt, alloc, GROWN),
+        wrong_command::<String>(&rt, alloc, GROWN),
     ];
     assert_no_wrong_row(&rt, &wrong);
 }

@@ -125,17 +125,18 @@ fn assert_boxable_shortages(rt: &impl Abort, alloc: Global, shortages: &[Shortag
     }
 }
 
-/// Plays each step on a text of its own, made new, while no memory can be had.
-fn play_alone_without_memory<S: EmptyText + Drop>(
+/// Plays each step on a text of this kind of its own while no memory can be had.
+pub fn play_alone_without_memory<S: EmptyText + Drop>(
     rt: &impl Abort,
     alloc: Global,
+    kind: Kind,
     start: &str,
     steps: &[Step],
 ) -> Tally {
     let mut count = 0usize;
     for (i, step) in steps.iter().enumerate() {
-        let mut text: S = text_of(rt, alloc, None, start);
-        let answer = play_without_memory(rt, alloc, &mut text, new_kind(INLINABLE), &[*step]);
+        let mut text: S = text_of(rt, alloc, kind.room, start);
+        let answer = play_without_memory(rt, alloc, &mut text, kind, &[*step]);
         count = and_step(count, i, answer)?;
     }
     Ok(count)
@@ -149,7 +150,8 @@ pub fn play_each_alone_without_memory<S: EmptyText + Drop>(
 ) -> Tally {
     let mut count = 0usize;
     for (i, &(start, steps)) in lists.iter().enumerate() {
-        let answer = play_alone_without_memory::<S>(rt, alloc, start, steps);
+        let kind = new_kind(INLINABLE);
+        let answer = play_alone_without_memory::<S>(rt, alloc, kind, start, steps);
         count = and_list(count, i, answer)?;
     }
     Ok(count)

@@ -11,9 +11,14 @@ const LARGEST_SHIFT: u32 = 46;
 /// The C library keeps freed blocks of up to so many bytes for requests of about their own size.
 const MOST_KEPT: usize = 1040;
 
+/// What a test says that cannot hold all memory. It fails by that, since it has not checked anything.
+pub const NEEDS_THE_PROVED_BUILD: &str =
+    "all memory cannot be held here: this test needs the proved build";
+
 /// All memory that can be had. While it stands, each request is refused.
 ///
-/// `rt try` has too much memory to be held, so tests with a hoard run in the gate alone.
+/// `rt try` has too much memory to be held, so tests with a hoard run in the gate alone, and say so
+/// elsewhere ([`NEEDS_THE_PROVED_BUILD`]).
 #[derive(Drop)]
 pub struct Hoard {
     blocks: Vec<Vec<u8>>,

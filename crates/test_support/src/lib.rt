@@ -14,5 +14,5 @@ pub mod tally;
 pub use array_text::ArrayText;
 pub use empty_text::EmptyText;
 pub use heap_text::HeapText;
-pub use hoard::Hoard;
+pub use hoard::{Hoard, NEEDS_THE_PROVED_BUILD};
 pub use refusals::Refusals;

@@ -162,21 +162,42 @@ fn units_and_bytes_are_read_into_a_user_defined_text(rt: HostRuntime) -> Result<
     assert_readings::<HeapText>(&rt, rt.alloc())
 }
 
+/// The calls that make a text of another.
+#[derive(Clone, Copy)]
+pub enum Maker {
+    From,
+    FromStr,
+}
+
+fn made_of<const N: usize>(
+    alloc: Global,
+    maker: Maker,
+    content: &str,
+) -> Result<InlinableStringN<N>, AllocError>
+    requires { N ≤ 300 }
+{
+    match maker {
+        Maker::From => InlinableStringN::<N>::from(alloc, content),
+        Maker::FromStr => InlinableStringN::<N>::from_str(alloc, content),
+    }
+}
+
 /// What is wrong with a text that is made of another, again if it is refused. Inline it may not be.
 pub fn wrong_making<const N: usize>(
     alloc: Global,
     refusals: &mut Refusals,
+    maker: Maker,
     content: &str,
     storage: Storage,
 ) -> Option<Wrong>
     requires { N ≤ 300 }
 {
-    let mut made = InlinableStringN::<N>::from(alloc, content);
+    let mut made = made_of::<N>(alloc, maker, content);
     if made.is_err() {
         if storage == Storage::Inline || !refusals.meet() {
             return Some(Wrong::SecondRefusal);
         }
-        made = InlinableStringN::<N>::from(alloc, content);
+        made = made_of::<N>(alloc, maker, content);
     }
     match made {
         Ok(text) if text.as_str() != content => Some(Wrong::Text),
@@ -186,23 +207,32 @@ pub fn wrong_making<const N: usize>(
     }
 }
 
-#[test]
-fn a_text_is_made_of_another_one(rt: HostRuntime) -> Result<(), Fail> {
-    let alloc = rt.alloc();
+/// Makes a text of another by this call, at each of three limits.
+fn assert_made(rt: &(impl Abort + Print), alloc: Global, maker: Maker) -> Result<(), Fail> {
     let mut refusals = Refusals::none();
     let wrong = [
-        wrong_making::<30>(alloc, &mut refusals, INLINE.1, Storage::Inline),
-        wrong_making::<30>(alloc, &mut refusals, ON_HEAP.1, Storage::Heap),
-        wrong_making::<8>(alloc, &mut refusals, "12345678", Storage::Inline),
-        wrong_making::<8>(alloc, &mut refusals, "123456789", Storage::Heap),
-        wrong_making::<0>(alloc, &mut refusals, "", Storage::Inline),
-        wrong_making::<0>(alloc, &mut refusals, "a", Storage::Heap),
+        wrong_making::<30>(alloc, &mut refusals, maker, INLINE.1, Storage::Inline),
+        wrong_making::<30>(alloc, &mut refusals, maker, ON_HEAP.1, Storage::Heap),
+        wrong_making::<8>(alloc, &mut refusals, maker, "12345678", Storage::Inline),
+        wrong_making::<8>(alloc, &mut refusals, maker, "123456789", Storage::Heap),
+        wrong_making::<0>(alloc, &mut refusals, maker, "", Storage::Inline),
+        wrong_making::<0>(alloc, &mut refusals, maker, "a", Storage::Heap),
     ];
-    assert!(&rt; wrong == [None; 6], "{wrong:?}");
+    assert!(rt; wrong == [None; 6], "{wrong:?}");
     if refusals.has_met {
         println!(rt; "refused")?;
     }
     Ok(())
+}
+
+#[test]
+fn a_text_is_made_of_another_one(rt: HostRuntime) -> Result<(), Fail> {
+    assert_made(&rt, rt.alloc(), Maker::From)
+}
+
+#[test]
+fn a_text_is_made_of_another_one_as_if_it_were_read(rt: HostRuntime) -> Result<(), Fail> {
+    assert_made(&rt, rt.alloc(), Maker::FromStr)
 }
 
 /// The bytes of a text that was handed back, as it was. On the heap it may not be refused.

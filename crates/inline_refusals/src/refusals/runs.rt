@@ -6,8 +6,10 @@ use inlinable_string::run::Command::{
 use inlinable_string::run::Reply::{
     self, BadPlace, Char, Done, NoChar, NoMemory, NotUtf8, WrongLength,
 };
-use inlinable_string::run::{run, run_dyn};
-use inlinable_string::{InlinableString, InlinableStringN, Storage, StringExt, StringMake};
+use inlinable_string::run::{run, run_dyn, run_each};
+use inlinable_string::{
+    BoxableString, InlinableString, InlinableStringN, Storage, StringExt, StringMake,
+};
 use inline_model::plain::plain_from;
 use inline_model::verdict::{HEAP, Policy, Seen, Verdict, inlinable, judged, seen_of, seen_of_dyn};
 use std::alloc::{AllocError, Global};
@@ -195,19 +197,23 @@ fn a_run_on_a_string_behind_a_dyn(rt: HostRuntime) -> Result<(), Fail> {
     Ok(())
 }
 
-/// Gives four commands of which one promotes a new text. Answers whether a request was refused.
+/// Commands of which the second promotes a new text, and the fourth grows it on the heap.
+const PROMOTING: &[Command<'static>] = &[PushStr(A30), Push('b'), Pop, Push('€')];
+
+/// The replies to them where no request is refused.
+const PROMOTED: &[Reply] = &[Done, Done, Char('b'), Done];
+
+/// Gives them to a new text. Answers whether a request was refused.
 fn meets_refusal_at_promotion<S: StringMake + Drop>(
     rt: &impl Abort,
     alloc: Global,
     policy: Policy,
 ) -> bool {
     let mut text = S::new(alloc);
-    let commands = [PushStr(A30), Push('b'), Pop, Push('€')];
     let mut replies = [BadPlace; 4];
-    run(&mut text, &commands, &mut replies);
-    let ample = [Done, Done, Char('b'), Done];
+    run(&mut text, PROMOTING, &mut replies);
     let end = seen_of(&text);
-    let refused = assert_refused_once(rt, alloc, policy, &commands, &replies, &ample, end);
+    let refused = assert_refused_once(rt, alloc, policy, PROMOTING, &replies, PROMOTED, end);
     if refused {
         assert_one_refused(rt, replies, end);
     }
@@ -233,6 +239,52 @@ const A29_EURO: &str = "aaaaaaaaaaaaaaaaaaaaaaaaaaaaa€";
 #[test]
 fn a_promotion_in_a_run(rt: HostRuntime) -> Result<(), Fail> {
     if meets_refusal_at_promotion::<InlinableString>(&rt, rt.alloc(), inlinable(30)) {
+        println!(rt; "refused")?;
+    }
+    Ok(())
+}
+
+/// A list of one new text, in a box.
+fn boxed(alloc: Global) -> Result<Vec<Box<dyn StringExt + Drop>>, AllocError> {
+    let mut texts: Vec<Box<dyn StringExt + Drop>> = Vec::with_capacity(alloc, 1)?;
+    texts.push(Box::new(alloc, BoxableString(InlinableString::new(alloc)))?)?;
+    Ok(texts)
+}
+
+/// The same, again if it is refused.
+fn boxed_once_more(
+    rt: &impl Abort,
+    alloc: Global,
+    refusals: &mut Refusals,
+) -> Vec<Box<dyn StringExt + Drop>> {
+    match boxed(alloc) {
+        Ok(texts) => texts,
+        Err(AllocError) => {
+            assert!(rt; refusals.meet(), "want of memory with no request refused");
+            boxed(alloc).expect(rt, "one request is refused at most")
+        }
+    }
+}
+
+#[test]
+fn a_promotion_in_a_run_on_boxed_texts(rt: HostRuntime) -> Result<(), Fail> {
+    let (alloc, mut refusals) = (rt.alloc(), Refusals::none());
+    let mut texts = boxed_once_more(&rt, alloc, &mut refusals);
+    assert!(rt; texts.len() == 1);
+    let mut replies = [BadPlace; 4];
+    run_each(
+        &mut texts,
+        &[PushStr(A30), Push('b'), Pop, Push('€')],
+        &mut replies,
+    );
+    let refused = refused_in(&replies, PROMOTED);
+    if refused == Ok(true) {
+        assert!(rt; refusals.meet(), "{replies:?}");
+        let text = texts.first().expect(&rt, "the one text");
+        assert_one_refused(&rt, replies, seen_of_dyn(&**text));
+    }
+    assert!(rt; refused.is_ok(), "{refused:?} in {replies:?}");
+    if refusals.has_met {
         println!(rt; "refused")?;
     }
     Ok(())

@@ -7,7 +7,7 @@ use super::joins::{CHARS, Joining, wrong_join, wrong_new};
 use super::json::wrong_round_trip;
 use super::makers::Answer::{self, Text, Unpaired};
 use super::makers::Call::{FromUtf8Lossy, FromUtf16, FromUtf16Lossy};
-use super::makers::{Reading, readings, wrong_giving, wrong_making};
+use super::makers::{Maker, Reading, readings, wrong_giving, wrong_making};
 use super::moves::wrong_moving;
 use super::runs::Wrong::{Replies, SecondRefusal};
 use super::runs::{Wrong as WrongRun, refused_in};
@@ -92,8 +92,14 @@ fn a_text_that_is_made_elsewhere_is_found(rt: HostRuntime) {
     let alloc = rt.alloc();
     let mut refusals = Refusals::none();
     let wrong = [
-        wrong_making::<8>(alloc, &mut refusals, "12345678", Storage::Heap),
-        wrong_making::<8>(alloc, &mut refusals, "123456789", Storage::Inline),
+        wrong_making::<8>(alloc, &mut refusals, Maker::From, "12345678", Storage::Heap),
+        wrong_making::<8>(
+            alloc,
+            &mut refusals,
+            Maker::FromStr,
+            "123456789",
+            Storage::Inline,
+        ),
         wrong_giving::<InlinableString>(&rt, alloc, &mut refusals, (0, "a", Storage::Heap)),
         wrong_giving::<String>(&rt, alloc, &mut refusals, (1, "a", Storage::Inline)),
     ];

@@ -21,11 +21,11 @@ use std::alloc::Global;
 use std::process::Abort;
 use test_support::letters::{LETTERS_26, LETTERS_27, LETTERS_28, LETTERS_29, LETTERS_30};
 use test_support::tally::fault_at;
-use test_support::{EmptyText, Hoard};
+use test_support::{EmptyText, Hoard, NEEDS_THE_PROVED_BUILD};
 
 /// All memory that can be had.
 pub fn all_memory(rt: &impl Abort, alloc: Global) -> Hoard {
-    Hoard::take(alloc).expect(rt, "memory cannot be used up here")
+    Hoard::take(alloc).expect(rt, NEEDS_THE_PROVED_BUILD)
 }
 
 /// A run of which the memory is refused from some command on.

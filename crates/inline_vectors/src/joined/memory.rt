@@ -1,11 +1,13 @@
 //! Joins while every request for memory is refused, or every one but the first, of one size: what
 //! was joined before the item that is refused stays.
+ghost use Rattle.std.specs.Prelude.{◌≤◌};
+
 use super::Items::{self, Chars, Strs};
 use super::{EXTENSIONS, Extension, collected, extend, is_made, join_letters, joined};
 use crate::held::{all_but, all_memory};
 use crate::texts::{LONG, is_lying, text_of};
 use Storage::{Heap, Inline};
-use inlinable_string::{InlinableString, Storage, StringMake};
+use inlinable_string::{InlinableString, InlinableStringN, Storage, StringMake};
 use std::alloc::{AllocError, Global};
 use std::process::Abort;
 use test_support::letters::{LETTERS_28, LETTERS_29, LETTERS_30, LETTERS_31};
@@ -140,17 +142,39 @@ fn items_are_joined_up_to_the_one_that_is_refused(rt: HostRuntime) {
     assert!(&rt; wrong.is_none(), "{wrong:?}");
 }
 
+/// Whether so many of the letters are joined while no memory can be had, and so many of the three.
+fn are_letters_joined<const N: usize>(
+    rt: &impl Abort,
+    alloc: Global,
+    letters: &str,
+    three: &str,
+) -> bool
+    requires { N ≤ 300 }
+{
+    let mut filtered = InlinableStringN::<N>::new(alloc);
+    let mut unannounced = InlinableStringN::<N>::new(alloc);
+    let hoard = all_memory(rt, alloc);
+    let answers = join_letters(&mut filtered, &mut unannounced);
+    drop(hoard);
+    let wanted = if three == "aaa" {
+        Ok(())
+    } else {
+        Err(AllocError)
+    };
+    answers == [Err(AllocError), wanted]
+        && is_lying(&filtered, letters, Inline)
+        && is_lying(&unannounced, three, Inline)
+}
+
 #[test]
 fn no_hint_of_an_iterator_asks_for_memory(rt: HostRuntime) {
     let alloc = rt.alloc();
-    let mut filtered = InlinableString::new(alloc);
-    let mut unannounced = InlinableString::new(alloc);
-    let hoard = all_memory(&rt, alloc);
-    let answers = join_letters(&mut filtered, &mut unannounced);
-    drop(hoard);
-    let are_right = is_lying(&filtered, LETTERS_30, Inline)
-        && is_lying(&unannounced, "aaa", Inline);
-    assert!(&rt; answers == [Err(AllocError), Ok(())] && are_right);
+    let are_joined = [
+        are_letters_joined::<0>(&rt, alloc, "", ""),
+        are_letters_joined::<3>(&rt, alloc, "aaa", "aaa"),
+        are_letters_joined::<30>(&rt, alloc, LETTERS_30, "aaa"),
+    ];
+    assert!(&rt; are_joined == [true; 3], "{are_joined:?}");
 }
 
 /// A text with the room that it is made with, what is added, whether that is refused, and the text
