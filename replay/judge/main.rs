@@ -1,4 +1,4 @@
-//! Answers the lines that `inline_readings` answers, by Rust's std alone. replay/README.md says how
+//! Answers the lines that `side_by_side` answers, by Rust's std alone. replay/README.md says how
 //! it is built and run.
 use std::error::Error;
 use std::fmt::Write;

@@ -1,2 +1,0 @@
-mod FirstDigits
-pub mod Passed

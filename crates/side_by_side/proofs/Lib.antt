@@ -1,0 +1,3 @@
+mod FirstDigits
+pub mod Passed
+pub mod Stored
