@@ -1,0 +1,158 @@
+//! Workloads on texts that are made, edited and read.
+use crate::pieces::{sink, summed, texts_of, words_of};
+use crate::text::Text;
+use crate::{joins, keys, lists, readers, Task};
+
+pub fn sum_of<T: Text>(task: &Task) -> Option<u64> {
+    let workload = match task.workload {
+        "read" => read::<T>,
+        "from" => from::<T>,
+        "from_literal" => from_literal::<T>,
+        "push_str" => push_str::<T>,
+        "from_push_str" => from_push_str::<T>,
+        "push_literal" => push_literal::<T>,
+        "push" => push::<T>,
+        "insert" => insert::<T>,
+        "remove" => remove::<T>,
+        "pop" => pop::<T>,
+        "clone" => cloned::<T>,
+        "eq" => keys::equal::<T>,
+        "cmp" => keys::ordered::<T>,
+        "hash" => keys::hashed::<T>,
+        "sort" => keys::sorted::<T>,
+        "set" => keys::set::<T>,
+        "intern" => keys::interned::<T>,
+        "from_utf8" => readers::from_utf8::<T>,
+        "from_utf8_lossy" => readers::from_utf8_lossy::<T>,
+        "from_utf16" => readers::from_utf16::<T>,
+        "from_utf16_lossy" => readers::from_utf16_lossy::<T>,
+        "add" => joins::add::<T>,
+        "extend_chars" => joins::extend_chars::<T>,
+        "from_chars" => joins::from_chars::<T>,
+        "from_strs" => joins::from_strs::<T>,
+        "with_limit" => joins::made_again::<T>,
+        "json" => joins::json::<T>,
+        "run" | "run_dyn" => lists::run_on::<T>,
+        "grow" => lists::grow::<T>,
+        "fronts" => lists::fronts::<T>,
+        _ => return None,
+    };
+    Some(workload(task))
+}
+
+#[inline(never)]
+fn read<T: Text>(task: &Task) -> u64 {
+    let texts: Vec<T> = texts_of(task);
+    summed!(texts, task.rounds, |text, round| sink(text, round))
+}
+
+#[inline(never)]
+fn from<T: Text>(task: &Task) -> u64 {
+    let words = words_of(task);
+    summed!(words, task.rounds, |word, round| {
+        let text = T::made(word);
+        sink(&text, round)
+    })
+}
+
+#[inline(never)]
+fn from_literal<T: Text>(task: &Task) -> u64 {
+    let mut sum = 0u64;
+    for round in 0..task.rounds {
+        let text = T::made("foobar");
+        sum = sum.wrapping_add(sink(&text, round));
+    }
+    sum
+}
+
+#[inline(never)]
+fn push_str<T: Text>(task: &Task) -> u64 {
+    let words = words_of(task);
+    summed!(words, task.rounds, |word, round| {
+        let mut text = T::empty();
+        text.push_str(word);
+        sink(&text, round)
+    })
+}
+
+#[inline(never)]
+fn from_push_str<T: Text>(task: &Task) -> u64 {
+    let words = words_of(task);
+    summed!(words, task.rounds, |word, round| {
+        let mut text = T::made(word);
+        text.push_str(word);
+        sink(&text, round)
+    })
+}
+
+#[inline(never)]
+fn push_literal<T: Text>(task: &Task) -> u64 {
+    let mut sum = 0u64;
+    for round in 0..task.rounds {
+        let mut text = T::made("foobar");
+        text.push_str("foobar");
+        sum = sum.wrapping_add(sink(&text, round));
+    }
+    sum
+}
+
+#[inline(never)]
+fn push<T: Text>(task: &Task) -> u64 {
+    let words = words_of(task);
+    summed!(words, task.rounds, |word, round| {
+        let mut text = T::empty();
+        for ch in word.chars() {
+            text.push(ch);
+        }
+        sink(&text, round)
+    })
+}
+
+#[inline(never)]
+fn insert<T: Text>(task: &Task) -> u64 {
+    let words = words_of(task);
+    summed!(words, task.rounds, |word, round| {
+        let mut text = T::made(word);
+        text.insert(0, 'x');
+        sink(&text, round)
+    })
+}
+
+#[inline(never)]
+fn remove<T: Text>(task: &Task) -> u64 {
+    let words = words_of(task);
+    summed!(words, task.rounds, |word, round| {
+        let mut text = T::made(word);
+        let removed = if text.is_empty() {
+            0
+        } else {
+            u64::from(text.remove(0))
+        };
+        removed.wrapping_add(sink(&text, round))
+    })
+}
+
+#[inline(never)]
+fn pop<T: Text>(task: &Task) -> u64 {
+    let words = words_of(task);
+    summed!(words, task.rounds, |word, round| {
+        let mut text = T::made(word);
+        let mut popped = 0u64;
+        for _ in 0..word.len() {
+            let Some(last) = text.pop() else {
+                break;
+            };
+            popped = popped.wrapping_add(u64::from(last));
+        }
+        popped.wrapping_add(sink(&text, round))
+    })
+}
+
+#[inline(never)]
+fn cloned<T: Text>(task: &Task) -> u64 {
+    let texts: Vec<T> = texts_of(task);
+    summed!(texts, task.rounds, |text, round| {
+        let copy = text.clone();
+        sink(&copy, round)
+    })
+}

@@ -1,0 +1,57 @@
+//! The workloads of `crates/bench` by hand over a Rust type: it takes the same words, and prints
+//! the same sums. The type is `String`; built with `--cfg original`, the text of the original crate.
+mod fold;
+mod joins;
+mod keys;
+mod lists;
+mod loops;
+mod pieces;
+mod readers;
+mod text;
+
+use std::io::Read;
+
+/// A workload on an input, as in `crates/bench`.
+pub struct Task<'a> {
+    pub workload: &'a str,
+    pub input: &'a [u8],
+    pub width: usize,
+    pub rounds: usize,
+}
+
+#[cfg(not(original))]
+fn sum_on(text: &str, task: &Task) -> Option<u64> {
+    (text == "String")
+        .then(|| loops::sum_of::<String>(task))
+        .flatten()
+}
+
+#[cfg(original)]
+fn sum_on(text: &str, task: &Task) -> Option<u64> {
+    (text == "InlinableString")
+        .then(|| loops::sum_of::<inlinable_string::InlinableString>(task))
+        .flatten()
+}
+
+fn checksum() -> Option<u64> {
+    let words: Vec<String> = std::env::args().skip(1).collect();
+    let mut input = Vec::new();
+    std::io::stdin().read_to_end(&mut input).ok()?;
+    let task = Task {
+        workload: words.get(1)?,
+        input: &input,
+        width: words.get(2)?.parse().ok()?,
+        rounds: words.get(3)?.parse().ok()?,
+    };
+    sum_on(words.first()?, &task)
+}
+
+fn main() -> std::process::ExitCode {
+    match checksum() {
+        Some(sum) => {
+            println!("{sum}");
+            std::process::ExitCode::SUCCESS
+        }
+        None => std::process::ExitCode::FAILURE,
+    }
+}
