@@ -1,6 +1,6 @@
 //! Texts that are compared, copied and sorted, as keys of maps and sets, and in a struct of one's
 //! own.
-ghost use Rattle.std.specs.Prelude.{◌≡◌, ◌≤◌, ◌<◌, ◌↔◌, ◌⊎◌, length, IsTrue, IfOk, IsOk, None, nat_eq, IsSorted, IsPermutation};
+ghost use Rattle.std.specs.Prelude.{◌≡◌, ◌≤◌, ◌<◌, ◌↔◌, ◌⊎◌, [], length, IsTrue, IfOk, IsOk, OnOk, None, MatchOption, nat_eq, IsSorted, IsPermutation};
 ghost use Rattle.std.specs.Ordering.{nat_cmp};
 ghost use Rattle.std.specs.Cmp.Lexicographic.{pointwise, slice_cmp};
 ghost use Rattle.std.specs.Str.{chars};
@@ -14,7 +14,7 @@ use inlinable_string::laws::compared::{
     equality_inline_is_that_of_texts, equality_is_that_of_texts, order_is_that_of_the_bytes,
 };
 use inlinable_string::{InlinableString, InlinableStringN, InlineStringN, Storage, StringExt};
-use std::alloc::AllocError;
+use std::alloc::{AllocError, AllocFailed};
 use std::cmp::Ordering;
 use std::collections::{BTreeMap, HashSet};
 
@@ -110,6 +110,21 @@ pub fn price_of(prices: &BTreeMap<InlineStringN<16>, u32>, name: &str) -> Option
         return None;
     }
     prices.get(&InlineStringN::from(name)).copied()
+}
+
+/// Starts an empty note under a key, where none stands there yet.
+pub fn start_note(
+    notes: &mut BTreeMap<InlineStringN<16>, InlinableString>,
+    key: InlineStringN<16>,
+) -> Result<(), AllocFailed<InlineStringN<16>>>
+    ensures { OnOk result (MatchOption
+        (get (λ s t. slice_cmp nat_cmp (bytes_of s) (bytes_of t)) notes.new key)
+        ⊥
+        (λ note. get (λ s t. slice_cmp nat_cmp (bytes_of s) (bytes_of t)) notes.old key ≡ None
+        → (inlinable_state 30 note).text ≡ [])) }
+{
+    notes.entry(key)?.or_default();
+    Ok(())
 }
 
 /// Whether a name is among those seen, wherever each of them lies.

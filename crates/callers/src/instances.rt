@@ -6,8 +6,9 @@ ghost use Rattle.inlinable_string.specs.Utf16.{units_of};
 ghost use Rattle.inlinable_string.specs.Values.{inlinable_state, string_state};
 
 use crate::editor::Line;
+use crate::makes::Names;
 use crate::{
-    buffers, compares, cuts, finds, growths, joined, joins, json, makers, makes, moves,
+    buffers, by_law, compares, cuts, finds, growths, joined, joins, json, makers, makes, moves,
     replacements, room, runs, takes, views, wholes,
 };
 use inlinable_string::inline_json::JsonError;
@@ -210,7 +211,9 @@ pub fn take(string: &mut String, short: &mut Short) -> Result<(), AllocError> {
     takes::drop_last(short);
     takes::swap_last(string, 'c')?;
     takes::push_and_pop(short, 'd')?;
-    Ok(())
+    let mut line = takes::take_line(short)?;
+    let _ = joined::write_pair(&mut line, "name", &InlineStringN::from("value"));
+    joins::add_text(&line, short)
 }
 
 /// Bytes and texts in the place of others.
@@ -254,6 +257,28 @@ pub fn run_lists(string: &mut String, short: &mut Short) {
     runs::pop_of_nothing(short);
     runs::push_by_run(string, 'c');
     runs::add_by_run(short, "more");
+}
+
+/// Lists of commands, whose outcome a law tells.
+pub fn run_by_law(alloc: Global, string: &mut String, short: &mut Short) -> Result<(), AllocError> {
+    let mut replies = [Reply::NoMemory; 1];
+    let mut others = [Reply::NoMemory; 1];
+    by_law::obeyed(string, Command::Clear);
+    by_law::insert_by_run(short, 0, 'c');
+    by_law::remove_by_run(string, 0);
+    by_law::replace_by_run(short, b"bytes");
+    by_law::grow_by_run(string, 'c');
+    by_law::whole_run(short, &[Command::Pop], &mut replies);
+    if by_law::has_parts(string, 1) && short.is_char_boundary(1) {
+        by_law::flash_by_run(short, 1, 'c');
+    }
+    if by_law::is_same_text(string, short) {
+        by_law::run_side_by_side(string, short, &[Command::Pop], &mut replies, &mut others);
+    }
+    let mut names = Names {
+        all: Vec::new(alloc),
+    };
+    names.add(InlineStringN::<8>::from("name"))
 }
 
 /// Texts that go through JSON, and move to another capacity between two runs.

@@ -1,5 +1,5 @@
 //! Texts that are joined from iterators, printed, written into, and used in the place of a `str`.
-ghost use Rattle.std.specs.Prelude.{◌≡◌, ◌+◌, ◌≤◌, ◌↔◌, ◌++◌, length, IfOk, IfErr, IsOk, OnOk, IsTrue};
+ghost use Rattle.std.specs.Prelude.{◌≡◌, ◌+◌, ◌≤◌, ◌↔◌, ◌++◌, ◌∷◌, length, IfOk, IfErr, IsOk, OnOk, IsTrue};
 ghost use Rattle.std.specs.Str.{chars};
 ghost use Rattle.std.specs.String.{string_bytes};
 ghost use Rattle.inlinable_string.specs.Text.{bytes_of, size};
@@ -7,6 +7,7 @@ ghost use Rattle.inlinable_string.specs.State.{IsSameText, HasRoom, storage_when
 ghost use Rattle.inlinable_string.specs.Joins.{text_of_strs};
 ghost use Rattle.inlinable_string.specs.Values.{inlinable_policy, inlinable_state};
 
+use inlinable_string::laws::printed::writing_in_calls_appends;
 use inlinable_string::{InlinableString, InlinableStringN, InlineStringN, StringExt};
 use std::alloc::{AllocError, Global};
 use std::fmt::{self, Write};
@@ -92,6 +93,19 @@ pub fn printed<const N: usize>(
     ensures { IfOk result (λ made. string_bytes made ≡ bytes_of (inlinable_state N text.now).text) }
 {
     format!(in alloc; "{text}")
+}
+
+/// Writes `name=value` at the end of a text.
+pub fn write_pair<const N: usize>(
+    text: &mut InlinableStringN<N>,
+    name: &str,
+    value: &InlineStringN<8>,
+) -> fmt::Result
+    ensures { OnOk result (bytes_of (inlinable_state N text.new).text
+        ≡ bytes_of (inlinable_state N text.old).text ++ name.now ++ 61 ∷ bytes_of value.now) }
+{
+    writing_in_calls_appends::<N>();
+    write!(text, "{name}={value}")
 }
 
 /// Writes a string into a text that has room for it.

@@ -6,6 +6,7 @@
 #![tactic(auto)]
 
 pub mod buffers;
+pub mod by_law;
 pub mod compares;
 pub mod cuts;
 pub mod editor;
@@ -18,9 +19,11 @@ pub mod json;
 pub mod makers;
 pub mod makes;
 pub mod moves;
+pub mod notes;
 pub mod replacements;
 pub mod room;
 pub mod runs;
 pub mod takes;
+pub mod values;
 pub mod views;
 pub mod wholes;

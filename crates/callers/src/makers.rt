@@ -1,17 +1,18 @@
 //! Texts from bytes and from UTF-16, and taken apart again.
-ghost use Rattle.std.specs.Prelude.{◌≡◌, ◌≤◌, ◌<◌, ◌↔◌, [], ◌∷◌, ◌++◌, length, IfOk, IfErr, IfSome, IfNone, IsOk, Err, IsUtf8, true, IsSome};
-ghost use Rattle.std.specs.Str.{chars};
+ghost use Rattle.std.specs.Prelude.{◌≡◌, ◌≤◌, ◌<◌, ◌↔◌, [], ◌∷◌, ◌++◌, length, drop, IfOk, IfErr, IfSome, IfNone, IsOk, Err, IsUtf8, true, IsSome};
+ghost use Rattle.std.specs.Str.{chars, StartsWithNoChar};
 ghost use Rattle.std.specs.String.{string_bytes};
 ghost use Rattle.std.specs.Cow.{cow_str_bytes, IsBorrowedStr};
 ghost use Rattle.inlinable_string.specs.Text.{bytes_of, size};
 ghost use Rattle.inlinable_string.specs.Utf16.{units_of, HasUnpaired, lossy_utf16};
-ghost use Rattle.inlinable_string.specs.Lossy.{lossy_utf8};
+ghost use Rattle.inlinable_string.specs.Lossy.{subpart_len, lossy_utf8};
 ghost use Rattle.inlinable_string.specs.State.{storage_when_made};
 ghost use Rattle.inlinable_string.specs.Values.{inlinable_policy, inlinable_state};
 
 use inlinable_string::laws::bytes_of_parts;
 use inlinable_string::string_ext::laws::{
-    bytes_give_the_text_back, units_of_a_text_are_paired, utf16_is_read_as_it_is,
+    a_subpart_is_replaced, bytes_give_the_text_back, paired_units_are_a_text,
+    units_of_a_text_are_paired, utf8_is_read_as_it_is, utf16_is_read_as_it_is,
 };
 use inlinable_string::{
     InlinableString, InlinableStringN, InlineStringN, Storage, StringExt, StringMake, Utf16Error,
@@ -111,6 +112,35 @@ pub fn shown<'a>(alloc: Global, bytes: &'a [u8]) -> Result<CowStr<'a>, AllocErro
     ensures granted { IsUtf8 bytes.now → IsOk result }
 {
     InlinableString::from_utf8_lossy(alloc, bytes)
+}
+
+/// The same of bytes that may be a text: those that are one are shown as they are.
+pub fn shown_as_it_is<'a>(alloc: Global, bytes: &'a [u8]) -> Result<CowStr<'a>, AllocError>
+    ensures { IsUtf8 bytes.now → IfOk result (λ read. cow_str_bytes read ≡ bytes.now) }
+{
+    utf8_is_read_as_it_is();
+    bytes_of_parts();
+    InlinableString::from_utf8_lossy(alloc, bytes)
+}
+
+/// Bytes that begin with no character: U+FFFD, and what is read of those behind.
+pub fn shown_behind<'a>(alloc: Global, bytes: &'a [u8]) -> Result<CowStr<'a>, AllocError>
+    requires some { 0 < length bytes.now }
+    requires fault { StartsWithNoChar bytes.now }
+    ensures { IfOk result (λ read. cow_str_bytes read
+        ≡ bytes_of (0xFFFD ∷ lossy_utf8 (drop (subpart_len bytes.now) bytes.now))) }
+{
+    a_subpart_is_replaced();
+    InlinableString::from_utf8_lossy(alloc, bytes)
+}
+
+/// A line of a log whose units may all be paired: then they are those of the line.
+pub fn log_line_of_text(alloc: Global, units: &[u16]) -> Result<InlinableString, AllocError>
+    ensures { ¬ (HasUnpaired units.now) → IfOk result
+        (λ line. units_of (inlinable_state 30 line).text ≡ units.now) }
+{
+    paired_units_are_a_text();
+    InlinableString::from_utf16_lossy(alloc, units)
 }
 
 /// A key, which takes no memory where it is short.

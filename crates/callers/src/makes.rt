@@ -1,5 +1,5 @@
 //! Texts that are made: their room, where they lie, and whose policy they have.
-ghost use Rattle.std.specs.Prelude.{◌≡◌, ◌+◌, ◌≤◌, ◌<◌, [], length, IsTrue, IfOk, IfSome, IfNone};
+ghost use Rattle.std.specs.Prelude.{◌≡◌, ◌+◌, ◌≤◌, ◌<◌, ◌++◌, [], ◌∷◌, length, IsTrue, IfOk, OnOk, IfSome, IfNone};
 ghost use Rattle.std.specs.Str.{chars};
 ghost use Rattle.inlinable_string.specs.State.{HasRoom, storage_when_made};
 ghost use Rattle.inlinable_string.specs.Values.{inlinable_policy, inlinable_state, string_state};
@@ -76,4 +76,24 @@ pub fn name_of(name: &str) -> Option<InlineStringN<16>>
         return Some(InlineStringN::from(name));
     }
     None
+}
+
+/// Names of at most `N` bytes each.
+#[derive(Drop)]
+pub struct Names<const N: usize> {
+    /// All of them.
+    pub all: Vec<InlineStringN<N>>,
+}
+
+impl<const N: usize> Names<N> {
+    /// Adds a name. The caller makes it: a method of a type that is generic over `N` knows the size of
+    /// what it makes where a parameter or the result is of that type.
+    pub fn add(&mut self, name: InlineStringN<N>) -> Result<(), AllocError>
+        ensures { OnOk result (self.new.all.items ≡ self.old.all.items ++ name.entry ∷ []) }
+    {
+        match self.all.push(name) {
+            Ok(()) => Ok(()),
+            Err(_) => Err(AllocError),
+        }
+    }
 }

@@ -4,8 +4,9 @@ ghost use Rattle.inlinable_string.specs.Text.{bytes_of, size};
 ghost use Rattle.inlinable_string.specs.State.{IsSameText};
 ghost use Rattle.inlinable_string.specs.Values.{inlinable_state, string_state};
 
-use inlinable_string::{InlinableString, InlineStringN, StringExt};
+use inlinable_string::{InlinableString, InlinableStringN, InlineStringN, StringExt};
 use std::alloc::AllocError;
+use std::mem;
 
 /// Takes off the first character.
 pub fn take_first<S: StringExt>(text: &mut S) -> Option<char>
@@ -128,4 +129,15 @@ pub fn drop_last<S: StringExt>(text: &mut S) -> bool
         unreachable!();
     };
     true
+}
+
+/// Takes a line out of its buffer, where an empty one is left.
+pub fn take_line<const N: usize>(
+    buffer: &mut InlinableStringN<N>,
+) -> Result<InlinableStringN<N>, AllocError>
+    ensures taken { IfOk result (λ line. line ≡ buffer.old) }
+    ensures left { OnOk result ((inlinable_state N buffer.new).text ≡ []) }
+    ensures err { OnErr result (buffer.new ≡ buffer.old) }
+{
+    mem::try_take(buffer)
 }

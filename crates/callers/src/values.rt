@@ -1,0 +1,80 @@
+//! std's traits on texts and on the errors: what `default` and conversions make, and what is printed.
+ghost use Rattle.std.specs.Prelude.{◌≡◌, ◌≤◌, ◌↔◌, [], ◌∷◌, length, codes, IfOk, IfSome, IsSome};
+ghost use Rattle.std.specs.Str.{chars};
+ghost use Rattle.std.specs.String.{string_bytes};
+ghost use Rattle.inlinable_string.specs.Text.{bytes_of, size};
+ghost use Rattle.inlinable_string.specs.Errors.{json_message, replacement_message, utf16_message};
+ghost use Rattle.inlinable_string.specs.Values.{inlinable_state, boxable_state};
+
+use inlinable_string::inline_json::JsonError;
+use inlinable_string::inline_string::{NotEnoughSpaceError, ReplaceError};
+use inlinable_string::{BoxableString, InlinableString, InlineStringN, Utf16Error};
+use std::alloc::{AllocError, Global};
+
+/// The empty text, as `derive(Default)` makes it.
+pub fn blank<const N: usize>() -> InlineStringN<N>
+    ensures { result ≡ [] }
+{
+    InlineStringN::default()
+}
+
+/// A word in an array, or none where it is too long.
+pub fn taken<const N: usize>(word: &str) -> Option<InlineStringN<N>>
+    ensures some { IfSome result (λ made. made ≡ chars word.now) }
+    ensures fits { IsSome result ↔ (length word.now ≤ N) }
+{
+    InlineStringN::try_from(word).ok()
+}
+
+/// A character as a text, or none where the array is too small.
+pub fn initial<const N: usize>(ch: char) -> Option<InlineStringN<N>>
+    ensures some { IfSome result (λ made. made ≡ ch ∷ []) }
+    ensures fits { IsSome result ↔ (size (ch ∷ []) ≤ N) }
+{
+    InlineStringN::try_from(ch).ok()
+}
+
+/// A text for a box of a `dyn`: it lies where it did.
+pub fn boxable(text: InlinableString) -> BoxableString
+    ensures { boxable_state result ≡ inlinable_state 30 text }
+{
+    BoxableString::from(text)
+}
+
+/// What a text in an array prints.
+pub fn shown_inline<const N: usize>(
+    alloc: Global,
+    text: &InlineStringN<N>,
+) -> Result<String, AllocError>
+    ensures { IfOk result (λ made. string_bytes made ≡ bytes_of text.now) }
+{
+    format!(in alloc; "{text}")
+}
+
+/// What a refused growth prints.
+pub fn reason(alloc: Global, error: &NotEnoughSpaceError) -> Result<String, AllocError>
+    ensures { IfOk result (λ made. string_bytes made ≡ codes "the text does not fit") }
+{
+    format!(in alloc; "{error}")
+}
+
+/// What bytes that were not taken print.
+pub fn reason_of_bytes(alloc: Global, error: &ReplaceError) -> Result<String, AllocError>
+    ensures { IfOk result (λ made. string_bytes made ≡ replacement_message error.now) }
+{
+    format!(in alloc; "{error}")
+}
+
+/// What units that were not read print.
+pub fn reason_of_units(alloc: Global, error: &Utf16Error) -> Result<String, AllocError>
+    ensures { IfOk result (λ made. string_bytes made ≡ utf16_message error.now) }
+{
+    format!(in alloc; "{error}")
+}
+
+/// What a JSON value that was not read prints.
+pub fn reason_of_json(alloc: Global, error: &JsonError) -> Result<String, AllocError>
+    ensures { IfOk result (λ made. string_bytes made ≡ json_message error.now) }
+{
+    format!(in alloc; "{error}")
+}

@@ -1,0 +1,3 @@
+pub mod Editor
+pub mod Symbols
+pub mod Tokens

@@ -1,0 +1,127 @@
+//! A line editor.
+ghost use Rattle.std.specs.Prelude.{◌≡◌, ℕ, ◌+◌, ◌≤◌, ◌<◌, ◌↔◌, ◌++◌, [], ◌∷◌, length, IsTrue, MatchOption};
+ghost use Rattle.std.specs.Str.{chars};
+ghost use Rattle.inlinable_string.specs.Text.{bytes_of, size};
+ghost use Rattle.inline_uses.specs.Editor.{Parts, text_of};
+
+use inlinable_string::InlineStringN;
+use inlinable_string::laws::{parts_are_told_by_their_size, places_are_boundaries, sizes_of_parts};
+use inlinable_string::run::cut_decides_places;
+use std::marker::Model;
+
+mod places;
+#[cfg(test)]
+mod tests;
+
+use places::{ends_are_places, kept_places};
+
+/// A line of at most `N` bytes, and a cursor in it. A contract sees the characters before the
+/// cursor and those behind it, so that a cursor inside a character can't be said.
+#[derive(Drop)]
+pub struct Line<const N: usize> {
+    text: InlineStringN<N>,
+    cursor: usize,
+}
+
+impl<const N: usize> Model for Line<N> {
+    ghost use Rattle.std.specs.Prelude.{IsSome};
+    ghost use Rattle.inlinable_string.specs.Text.{cut};
+    ghost use Rattle.inline_uses.specs.Editor.{Parts, parts_of};
+
+    ghost Value = { Parts };
+
+    ghost view = { λ s. parts_of (cut s.text s.cursor) };
+
+    ghost invariant = { λ s. IsSome (cut s.text s.cursor) };
+}
+
+impl<const N: usize> Line<N> {
+    /// The empty line.
+    pub fn new() -> Self
+        ensures before { result.before ≡ [] }
+        ensures behind { result.behind ≡ [] }
+    {
+        Line {
+            text: InlineStringN::new(),
+            cursor: 0,
+        }
+    }
+
+    /// What stands in the line.
+    pub fn text(&self) -> &str
+        ensures { result.now ≡ bytes_of (text_of self.now) }
+    {
+        cut_decides_places();
+        self.text.as_str()
+    }
+
+    /// Types a character before the cursor; false where the line is full, and then it is as it was.
+    pub fn type_char(&mut self, ch: char) -> bool
+        ensures before { IsTrue result → self.new.before ≡ self.old.before ++ ch ∷ [] }
+        ensures behind { self.new.behind ≡ self.old.behind }
+        ensures full { ¬ (IsTrue result) → self.new ≡ self.old }
+        ensures fits { IsTrue result ↔ (size (text_of self.old) + size (ch ∷ []) ≤ N) }
+    {
+        cut_decides_places();
+        kept_places();
+        parts_are_told_by_their_size();
+        sizes_of_parts();
+        match self.text.insert(self.cursor, ch) {
+            Ok(()) => {
+                self.cursor += ch.len_utf8();
+                true
+            }
+            Err(_) => false,
+        }
+    }
+
+    /// Takes out the character behind the cursor, and gives it.
+    pub fn delete(&mut self) -> Option<char>
+        ensures taken { MatchOption result
+            ((self.old.behind ≡ []) × (self.new.behind ≡ []))
+            (λ ch. self.old.behind ≡ ch ∷ self.new.behind) }
+        ensures before { self.new.before ≡ self.old.before }
+    {
+        cut_decides_places();
+        kept_places();
+        ends_are_places();
+        places_are_boundaries();
+        parts_are_told_by_their_size();
+        if self.cursor < self.text.len() {
+            Some(self.text.remove(self.cursor))
+        } else {
+            None
+        }
+    }
+
+    /// Takes out all behind the cursor.
+    pub fn kill_to_end(&mut self)
+        ensures before { self.new.before ≡ self.old.before }
+        ensures behind { self.new.behind ≡ [] }
+    {
+        cut_decides_places();
+        kept_places();
+        ends_are_places();
+        self.text.truncate(self.cursor);
+    }
+
+    /// Moves the cursor to the start.
+    pub fn home(&mut self)
+        ensures before { self.new.before ≡ [] }
+        ensures behind { self.new.behind ≡ text_of self.old }
+    {
+        cut_decides_places();
+        ends_are_places();
+        self.cursor = 0;
+    }
+
+    /// Moves the cursor to the end.
+    pub fn end(&mut self)
+        ensures before { self.new.before ≡ text_of self.old }
+        ensures behind { self.new.behind ≡ [] }
+    {
+        cut_decides_places();
+        ends_are_places();
+        self.cursor = self.text.len();
+    }
+}

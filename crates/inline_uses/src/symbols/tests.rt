@@ -1,0 +1,69 @@
+use super::{Symbols, have_same_id};
+use std::test::Fail;
+use test_support::Hoard;
+use test_support::letters::LETTERS_31;
+
+/// Texts as a program meets them, and the ids that they get.
+const MET: &[(&str, usize)] = &[
+    ("let", 0),
+    ("total", 1),
+    ("let", 0),
+    ("", 2),
+    (LETTERS_31, 3),
+    ("totals", 4),
+    (LETTERS_31, 3),
+    ("total", 1),
+    ("é", 5),
+    ("", 2),
+];
+
+#[test]
+fn ids_are_given_in_order_and_stay(rt: HostRuntime) -> Result<(), Fail> {
+    let mut symbols = Symbols::new(rt.alloc());
+    for (text, id) in MET {
+        assert_eq!(rt; symbols.intern(text)?, *id);
+    }
+    assert_eq!(rt; symbols.len(), 6);
+    for (text, id) in MET {
+        assert_eq!(rt; symbols.find(text)?, Some(*id));
+        assert!(rt; symbols.text(*id) == Some(*text));
+    }
+    assert_eq!(rt; symbols.find("lets")?, None);
+    assert!(rt; symbols.text(6).is_none());
+    assert!(rt; have_same_id(&mut symbols, "one", "one")?);
+    assert!(rt; !have_same_id(&mut symbols, "one", "eno")?);
+    Ok(())
+}
+
+/// More than a table of two has room for.
+const NEW: &[&str] = &[
+    "a", "b", "c", "d", "e", "f", "g", "h", "i", "j", "k", "l", "m", "n", "o", "p", "q", "r", "s",
+];
+
+#[test]
+fn a_known_short_text_takes_no_memory(rt: HostRuntime) -> Result<(), Fail> {
+    let mut symbols = Symbols::new(rt.alloc());
+    symbols.intern("known")?;
+    symbols.intern(LETTERS_31)?;
+    let hoard = Hoard::take(rt.alloc()).expect(&rt, "memory cannot be used up here");
+    let known = symbols.intern("known");
+    let found = symbols.find("unknown");
+    let long = symbols.intern(LETTERS_31);
+    let mut refused = None;
+    for text in NEW {
+        if symbols.intern(text).is_err() {
+            refused = Some(*text);
+            break;
+        }
+    }
+    drop(hoard);
+    assert_eq!(rt; known?, 0);
+    assert_eq!(rt; found?, None);
+    assert!(rt; long.is_err());
+    // The one that was refused is not there; once there is memory again it gets the next id.
+    let refused = refused.ok_or("none was refused")?;
+    let next = symbols.len();
+    assert_eq!(rt; symbols.find(refused)?, None);
+    assert_eq!(rt; symbols.intern(refused)?, next);
+    Ok(())
+}
