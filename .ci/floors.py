@@ -5,10 +5,10 @@ counts, with the reason.
 """
 
 # Edits in `must-fail-together/`, by crate.
-EDITS = {'inlinable_string': 202, 'inline_model': 34, 'script_language': 40}
+EDITS = {'inlinable_string': 209, 'inline_model': 34, 'inline_uses': 6, 'script_language': 44}
 
 # By crate: requests for memory refused one after the other, and how often a test met one.
-REFUSALS = {'inline_refusals': (4, 97), 'inline_script': (7, 36)}
+REFUSALS = {'inline_refusals': (4, 106), 'inline_script': (7, 57)}
 
 # The stored cases of the files in `replay/`, and the digests of a thousand answers each: all of them.
 STORED = {'named.cases': 258, 'sparrow.cases': 200, 'wren.cases': 250, 'digests': 100}
@@ -47,6 +47,39 @@ PAIR_ANSWERS = (
           'hash DefaultHasher', 'printed Display', 'printed Debug')),
     'InlinableString lies heap', 'InlinableStringN<8> lies heap')
 
+# Calls on one text, on the original crate too: the same. The words are the calls of each type; the
+# answers are the refusals of each call, the calls by which a text goes to the heap or comes back, and
+# where it lies at the end.
+CALLS = {'values': 60, 'digests': 1000}
+CALLS_OF_EACH = 300
+CALL_KINDS = (
+    'growths', 'cuts', 'slides', 'makers', 'room', 'readers', 'joins', 'comparisons', 'prints', 'views')
+CALL_WORDS = (
+    *(f'{name} {word}' for name in ('InlineString', 'InlinableString') for word in (
+        'new', 'default', 'from', 'clone', 'push', 'push_str', 'insert', 'insert_str', 'write_str',
+        'write_char', 'pop', 'remove', 'truncate', 'clear', 'len', 'is_empty', 'as_bytes', 'as_str',
+        'into_bytes', 'eq', 'eq_str', 'hash', 'display', 'padded', 'cut', 'debug')),
+    *(f'InlinableString {word}' for word in (
+        'from_str', 'from_string', 'from_chars', 'from_strs', 'collect', 'with_capacity', 'from_utf8',
+        'from_utf8_unchecked', 'from_utf8_lossy', 'from_utf16', 'from_utf16_lossy', 'add', 'extend',
+        'extend_chars', 'extend_char_refs', 'extend_strs', 'reserve', 'reserve_exact', 'shrink_to_fit',
+        'capacity', 'cmp', 'partial_cmp')))
+CALL_ANSWERS = (
+    *(f'{name} {word} bad_place' for name in ('InlineString', 'InlinableString')
+      for word in ('insert', 'insert_str', 'truncate', 'remove')),
+    *(f'{name} pop none' for name in ('InlineString', 'InlinableString')),
+    *(f'InlineString {word} full' for word in ('push', 'push_str', 'insert', 'insert_str')),
+    *(f'InlineString {word} write_fault' for word in ('write_str', 'write_char')),
+    *(f'InlineString {word} too_long' for word in ('from', 'eq')),
+    *(f'InlinableString {word} no_memory' for word in ('reserve', 'reserve_exact', 'with_capacity')),
+    'InlinableString from_utf8 not_utf8', 'InlinableString from_utf16 unpaired',
+    'InlinableString from_utf8_lossy borrowed', 'InlinableString from_utf8_lossy owned',
+    *(f'{word} promotes' for word in (
+        'push', 'push_str', 'insert', 'insert_str', 'write_str', 'write_char', 'add', 'extend',
+        'extend_chars', 'extend_char_refs', 'extend_strs', 'reserve', 'reserve_exact')),
+    'shrink_to_fit demotes',
+    'InlineString ends inline', 'InlinableString ends inline', 'InlinableString ends heap')
+
 # Hostile inputs: how many, the part of them that is accepted and so runs, and how many there must be
 # of each reply and of each fault that an input can lead to. (Want of memory before a run can't be
 # brought about by an input.)
@@ -58,11 +91,32 @@ HOSTILE_FAULTS = ('bad argument', 'read fault', 'input too long', 'input is not 
                   'bad command', 'write fault')
 
 # Edits in `wrong-definitions/`, by crate.
-WRONG_DEFINITIONS = {'inlinable_string': 143, 'script_language': 98}
+WRONG_DEFINITIONS = {'inlinable_string': 143, 'script_language': 101}
 
 # Edits in `wrong-clauses/`, and public functions of `callers` that promise something.
 WRONG_CLAUSES = 5
-CALLERS = 153
+CALLERS = 182
+
+# Departures that the judge over the original crate makes, each of a row of `docs/DIFFERENCES.md`.
+DEPARTURES = 10
 
 # Functions that `docs/PROMISES.md` names, each time that it does.
-PROMISES = 147
+PROMISES = 158
+
+# Rows of data that each picture of `docs/` is drawn from.
+PICTURES = {'array': 8, 'ways': 23, 'gate': 12}
+
+# What `CALLING.md` quotes of the sources: fences, clauses, words, laws, and laws with a caller's line.
+QUOTED = {'blocks': 23, 'clauses': 231, 'words': 49, 'laws': 67, 'cited': 58}
+
+# By crate, for `gate quick`: tests that must pass without being proved, and how many at most may say
+# that they need the proved build.
+# The longest come first.
+TRIED = {'inline_runs': (22, 6), 'inline_vectors': (89, 34), 'inline_refusals': (37, 0), 'inline_script': (18, 2),
+         'inlinable_string': (14, 0), 'side_by_side': (3, 0)}
+
+# Workloads of the bench, and on how many of them each type of text is run.
+BENCH_WORKLOADS = 74
+BENCH_TEXTS = {
+    'InlinableString': 66, 'String': 52,
+    **{f'InlinableStringN<{capacity}>': 8 for capacity in (0, 8, 22, 30, 62)}}

@@ -7,16 +7,17 @@ number that is counted. A document that comes to state a number gets a line here
 
 STATED = {
     'README.md': (
-        '`crates/callers` has {callers} such functions',
+        'and `crates/callers` {callers} functions over every type and trait',
         '{lists} generated lists of commands',
         'and {hostile_inputs} hostile inputs',
         'on {reading_values} stored and {run_lines} generated inputs; {reading_inputs} once',
         'on {pair_values} stored and {run_lines} generated pairs; {pair_inputs} once',
+        'on {call_values} stored and {run_lines} generated lines of calls; {call_inputs} once',
     ),
     'docs/TESTING.md': (
         '{crates} crates, the {edits_alone} edits of `must-fail/`, {tests} tests',
         '{edits_together} edits of code ({library_edits} of the library, {plain_edits} of the plain '
-        'program, {script_edits} of the script language)',
+        'program, {script_edits} of the script language, {users_edits} of the users)',
         '{wrong_definitions} wrong definitions, several in one check where none changes what another goes by',
         '{callers} callers, and {wrong_clauses} weaker clauses',
         '{refusal_builds} builds of tests, with each request for memory refused in turn: '
@@ -25,6 +26,10 @@ STATED = {
         '{hostile_inputs} inputs on each of two builds',
         '{reading_values} inputs by value and {run_lines} by digests, on each of two builds',
         '{pair_values} pairs by value and {run_lines} by digests, on each of two builds',
+        '{call_values} lines of calls by value and {run_lines} by digests, on each of two builds',
+        '{workloads} workloads of the bench, on each type of text that has them',
+        '{tried_tests} tests by `rt try`',
+        'The other {held_tests} tests hold all memory that can be had',
         '**Lists of commands**, {lists} from seed',
         '**Scripts**, {stored_answers}, of which the gate runs the first {replayed_answers}',
         '**Hostile inputs**, {hostile_inputs} from seed',
@@ -32,10 +37,13 @@ STATED = {
         'the gate runs the first {run_lines} on each build and `.ci/gate readings --all`',
         '**Pairs of texts**, {pair_inputs} from seed',
         'the gate runs the first {run_lines} on each build and `.ci/gate pairs --all`',
-        'inputs for the readers answered by Rust\'s own std, and by `inline_readings` '
+        '**Calls**, {call_inputs} lines of',
+        'the gate runs the first {run_lines} on each build and `.ci/gate calls --all`',
+        'inputs for the readers answered by Rust\'s own std, and by `side_by_side` '
         '| {reading_inputs} |',
-        'pairs of texts compared, hashed and printed by Rust\'s own `str`, and by `inline_readings` '
+        'pairs of texts compared, hashed and printed by Rust\'s own `str`, and by `side_by_side` '
         '| {pair_inputs} |',
+        'lines of calls played on the original crate, and by `side_by_side` | {call_inputs} |',
         'generated scripts answered by the original crate, for the digests | {stored_answers} |',
     ),
     'replay/README.md': (
@@ -45,6 +53,10 @@ STATED = {
         'a line for each thousand of {reading_inputs} generated inputs, of which the gate runs the '
         'first {run_lines}',
         '{pair_values} pairs, as many of each kind',
+        '{call_values} lines of calls with their answers',
+        'a line for each thousand of {call_inputs} generated lines, of which the gate runs the first '
+        '{run_lines}',
+        'one of the {departures} departures',
         'a line for each thousand of {pair_inputs} generated pairs, of which the gate runs the '
         'first {run_lines}',
         'They are the first {sparrow_cases} and the first {wren_cases} that a Python program drew',

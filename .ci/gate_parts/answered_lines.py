@@ -1,4 +1,4 @@
-"""The builds of `inline_readings` on the lines of a family, against what `replay/` holds of it."""
+"""The builds of `side_by_side` on the lines of a family, against what `replay/` holds of it."""
 from gate_parts.digests import STEP, failed_digests
 from gate_parts.line_digests import generated_lines
 from gate_parts.options import options
@@ -37,4 +37,4 @@ def is_answered(family, builds, is_whole):
 def part_of(family, told, words):
     """The part of the gate that runs a family."""
     given = options(family.name, told, words, 'programs', '--all')
-    return is_answered(family, chosen(given.programs, 'inline_readings'), given.all)
+    return is_answered(family, chosen(given.programs, 'side_by_side'), given.all)

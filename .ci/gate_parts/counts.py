@@ -2,14 +2,17 @@
 
 The sentences that state numbers stand in `.ci/stated.py`. One that is not found in its document, or
 found with another number than is counted, fails. So does a function or a clause that
-`docs/PROMISES.md` names and the sources do not have.
+`docs/PROMISES.md` names and the sources do not have, whatever `CALLING.md` quotes of them that they do
+not say, and a departure from the original crate that has no row in `docs/DIFFERENCES.md`.
 """
 import os
 import re
 from collections import Counter
 
-from floors import HOSTILE_INPUTS, PAIRS, PROMISES, READINGS, REFUSALS, STORED
-from gate_parts import answered_lines, promises
+from floors import (
+    BENCH_WORKLOADS, CALLS, DEPARTURES, HOSTILE_INPUTS, PAIRS, PROMISES, QUOTED, READINGS, REFUSALS, STORED,
+    TRIED)
+from gate_parts import answered_lines, departures, promises, quoted
 from gate_parts.callers import require_callers
 from gate_parts.digests import STEP
 from gate_parts.edit_files import edits_of
@@ -123,12 +126,14 @@ def counted():
     together, alone = edit_count('must-fail-together'), single_edit_count()
     cases = sum(count for name, count in STORED.items() if name.endswith('.cases'))
     requests, meetings = (sum(numbers) for numbers in zip(*REFUSALS.values()))
+    tried, held = (sum(numbers) for numbers in zip(*TRIED.values()))
     return {
         'crates': len(dependencies()), 'tests': test_count(), 'lists': list_count(),
         'edits_alone': alone, 'edits_together': sum(together.values()),
         'edits': alone + sum(together.values()),
         'library_edits': together[LIBRARY], 'plain_edits': together['inline_model'],
         'script_edits': together['script_language'],
+        'users_edits': together['inline_uses'],
         'wrong_definitions': sum(edit_count('wrong-definitions').values()),
         'wrong_clauses': sum(edit_count('wrong-clauses').values()),
         'callers': require_callers(),
@@ -140,7 +145,10 @@ def counted():
         'hostile_inputs': HOSTILE_INPUTS,
         'reading_values': READINGS['values'], 'reading_inputs': READINGS['digests'] * STEP,
         'pair_values': PAIRS['values'], 'pair_inputs': PAIRS['digests'] * STEP,
+        'call_values': CALLS['values'], 'call_inputs': CALLS['digests'] * STEP, 'departures': DEPARTURES,
         'run_lines': answered_lines.THOUSANDS * STEP,
+        'workloads': BENCH_WORKLOADS,
+        'tried_tests': tried, 'held_tests': held,
     }
 
 
@@ -179,7 +187,17 @@ def main(words):
                 wrong += 1
     print(f'{sum(map(len, STATED.values()))} sentences with numbers, '
           f'{wrong} that the tree does not bear out')
-    return promises_stand() and not wrong
+    have_all = [promises_stand(), quotes_stand(), departures_are_rows(), not wrong]
+    return all(have_all)
+
+
+def departures_are_rows():
+    """Whether what the judge over the original crate does otherwise stands in the document, and all of it."""
+    made, rows, missing = departures.checked()
+    if made != DEPARTURES or not rows:
+        raise Failure(f'{departures.JUDGE} makes {made} departures of {rows} rows, and must make {DEPARTURES}')
+    print(*missing, f'{made} departures of {rows} rows, {len(missing)} that {departures.DOCUMENT} has not', sep='\n')
+    return not missing
 
 
 def promises_stand():
@@ -188,4 +206,15 @@ def promises_stand():
     if named < PROMISES:
         raise Failure(f'{promises.DOCUMENT} names {named} functions, and must name {PROMISES}')
     print(*wrong, f'{named} functions that carry promises, {len(wrong)} that do not stand as named', sep='\n')
+    return not wrong
+
+
+def quotes_stand():
+    """Whether what `CALLING.md` quotes stands in the sources, and is as much as it must be."""
+    counts, wrong = quoted.checked()
+    for name, count in counts._asdict().items():
+        if count < QUOTED[name]:
+            wrong.append(f'{quoted.DOCUMENT} has {count} {name}, and must have {QUOTED[name]}')
+    print(*wrong, f'{counts.blocks} fences with {counts.clauses} clauses, {counts.words} words and {counts.laws} laws '
+                  f'quoted, {counts.cited} of these with a caller, {len(wrong)} faults', sep='\n')
     return not wrong

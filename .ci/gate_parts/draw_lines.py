@@ -1,6 +1,6 @@
 """gate draw_lines FAMILY [--seed S] [--first N]: prints a thousand of the inputs that a part draws.
 
-FAMILY is the name of the part, `readings` or `pairs`. This is no part of the gate.
+FAMILY is the name of the part: `readings`, `pairs` or `calls`. This is no part of the gate.
 """
 from gate_parts.draw import check_draws
 from gate_parts.families import FAMILIES

@@ -28,9 +28,10 @@ def answers_of(program, name, lines):
     return output
 
 
-def kind_of_answer(line):
-    """The type, the call and how it came out: all but the bytes."""
-    return ' '.join(line.split(' ')[:3])
+def answers_to_each(family, inputs, answers):
+    """The lines of each input among those that a program prints of all."""
+    lines, size = answers.decode().splitlines(), family.answers
+    return [lines[at * size:(at + 1) * size] for at in range(len(inputs))]
 
 
 def digests_from(family, programs, start):
@@ -38,9 +39,9 @@ def digests_from(family, programs, start):
     inputs = inputs_from(family, *start)
     lines = text_of_inputs(inputs)
     answers = [answers_of(program, f'the inputs from {start[1]} on', lines) for program in programs]
-    tally = Counter(name for each in inputs for name in family.counted(each))
     # the answers of the first program: where those of another differ, its digest does
-    tally += Counter(map(kind_of_answer, answers[0].decode().splitlines()))
+    answered = zip(inputs, answers_to_each(family, inputs, answers[0]))
+    tally = Counter(name for each, lines in answered for name in family.counted(each, lines))
     return Thousand(sha256(lines).hexdigest()[:16], [sha256(each).hexdigest() for each in answers], tally)
 
 

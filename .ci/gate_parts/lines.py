@@ -1,4 +1,4 @@
-"""Inputs that are lines of `inline_readings`, in families that are drawn, stored and answered alike."""
+"""Inputs that are lines of `side_by_side`, in families that are drawn, stored and answered alike."""
 from typing import Callable, NamedTuple
 
 STEP = 1000
@@ -18,7 +18,7 @@ class Family(NamedTuple):
     drawn: Callable
     # the names of the kinds
     kinds: tuple
-    # what an input counts as
+    # what an input counts as, with the lines that answer it
     counted: Callable
     # how many lines answer an input
     answers: int
@@ -27,6 +27,13 @@ class Family(NamedTuple):
     # of each of these so many must be among the inputs and answers of what is run
     wanted: tuple
     of_each: int
+    # those that have their answers by value; where none are named, some of each kind are drawn
+    named: tuple = ()
+
+
+def kind_of_answer(line):
+    """The type, the call and how it came out: all but the bytes."""
+    return ' '.join(line.split(' ')[:3])
 
 
 def inputs_from(family, seed, first):

@@ -11,7 +11,7 @@ KNOWN = {
     'crates': {'nargs': '*', 'metavar': 'CRATE'},
     'programs': {'nargs': '*', 'metavar': 'PROGRAM'},
     'judge': {'metavar': 'JUDGE'},
-    'family': {'choices': ('readings', 'pairs')},
+    'family': {'choices': ('readings', 'pairs', 'calls')},
     'what': {'choices': ('digests', 'values')},
     '--named': {'default': '', 'metavar': 'WORD'},
     '--jobs': {'type': int, 'default': PROCESSORS, 'metavar': 'N'},
@@ -19,6 +19,7 @@ KNOWN = {
     '--first': {'type': int, 'default': 0, 'metavar': 'N'},
     '--count': {'type': int, 'default': HOSTILE_INPUTS},
     '--all': {'action': 'store_true'},
+    '--draw': {'action': 'store_true'},
 }
 
 

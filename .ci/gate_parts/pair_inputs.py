@@ -4,13 +4,13 @@
 
 The format has its width and its precision behind it, and the way is how the text comes about, which
 must not be seen: what was done to it before leaves bytes beside it, moves its start or leaves it on
-the heap. `crates/inline_readings/src/pair.rt` says what each word stands for.
+the heap. `crates/side_by_side/src/pair.rt` says what each word stands for.
 """
 from floors import PAIR_ANSWERS, PAIR_KINDS, PAIR_WORDS, PAIRS_OF_EACH
 from floors import PAIRS as HELD
 from gate_parts.draw import Draw
 from gate_parts.good_scripts import CHARS, a_string
-from gate_parts.lines import Family, Input
+from gate_parts.lines import Family, Input, kind_of_answer
 
 ARRAY = 'InlineString'
 TYPES = (ARRAY, 'InlinableString', 'InlinableStringN<8>')
@@ -139,10 +139,11 @@ def pair_input(seed, number):
     return Input(kind.__name__, ' '.join(words))
 
 
-def counted(pair):
+def counted(pair, answers):
     """Its kind, its format, the way of each text in its type, and whether these are equal all the same."""
     _, text_type, form, _, _, first_way, first, second_way, second = pair.line.split(' ')
     names = [pair.kind, form, f'{text_type} {first_way}', f'{text_type} {second_way}']
+    names += map(kind_of_answer, answers)
     if first == second and first_way != second_way:
         names.append('equal in two ways')
         names += ['equal where one was reserved'] * (ON_HEAP in (first_way, second_way))

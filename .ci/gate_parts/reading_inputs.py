@@ -10,7 +10,7 @@ from floors import READINGS as HELD
 from gate_parts.draw import Draw
 from gate_parts.generated import spoilt
 from gate_parts.good_scripts import a_char
-from gate_parts.lines import Family, Input
+from gate_parts.lines import Family, Input, kind_of_answer
 
 
 # Pieces of bytes.
@@ -185,8 +185,8 @@ def reading_input(seed, number):
     return Input(chief.__name__, f'{encoding.word} {digits}')
 
 
-def counted(drawn):
-    return [drawn.kind]
+def counted(drawn, answers):
+    return [drawn.kind, *map(kind_of_answer, answers)]
 
 
 # Each input has two answers of each of two types.

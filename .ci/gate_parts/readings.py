@@ -1,6 +1,6 @@
 """gate readings [PROGRAM ..] [--all]: runs each program on inputs for the readers of bytes and UTF-16.
 
-Without PROGRAM they are the two builds of `inline_readings` that `rt ci` leaves. What Rust's own std
+Without PROGRAM they are the two builds of `side_by_side` that `rt ci` leaves. What Rust's own std
 answers is stored in `replay/readings`: by value for some inputs, and as digests for the generated
 ones, of which it runs the first 100,000, and all with --all. Each difference is printed; the last
 lines are, for each program, like `llvm: 500 inputs and 100 digests of 1000 inputs: 600 passed, 0

@@ -6,6 +6,7 @@ cut or gone, hostile inputs of noise alone, tests that never meet a refusal. Bes
 same in order, which must pass.
 """
 import os
+import re
 import shutil
 import subprocess
 import sys
@@ -14,8 +15,9 @@ import unittest
 from collections import Counter
 from unittest import mock
 
-from floors import PAIR_ANSWERS, READING_ANSWERS
-from gate_parts import hostile_inputs, pair_inputs, promises, reading_inputs, said, specified, stored_lines
+from floors import CALL_ANSWERS, PAIR_ANSWERS, READING_ANSWERS
+from gate_parts import (call_inputs, counts, departures, hostile_inputs, pair_inputs, pictures, promises, quick, quoted,
+                        reading_inputs, said, specified, stored_lines)
 from gate_parts.answered_lines import shortfalls
 from gate_parts.callers import promising
 from gate_parts.counts import misstatements
@@ -26,11 +28,11 @@ from gate_parts.enclosing import function_changed
 from gate_parts.families import FAMILIES
 from gate_parts.hostile import Tally, tried
 from gate_parts.reach import reached_by, words_by_definition
-from gate_parts.lines import inputs_from
+from gate_parts.lines import Input, inputs_from
 from gate_parts.options import options
 from gate_parts.tree import Failure, in_tree, text_of, write_text
 
-ANSWERS = (*READING_ANSWERS, *PAIR_ANSWERS)
+ANSWERS = (*READING_ANSWERS, *PAIR_ANSWERS, *CALL_ANSWERS)
 CRATES = 'toy:\nabove: toy\ncallers: toy\n'
 FLOORS = '''
 EDITS = {'toy': 1}
@@ -38,8 +40,11 @@ REFUSALS = {'toy': (2, 3)}
 STORED = {'a.cases': 2, 'b.cases': 1, 'digests': 0}
 READINGS, READINGS_OF_EACH, READING_KINDS, READING_ANSWERS = {'values': 40, 'digests': 2}, 0, (), ()
 PAIRS, PAIRS_OF_EACH, PAIR_KINDS, PAIR_WORDS, PAIR_ANSWERS = {'values': 40, 'digests': 2}, 0, (), (), ()
+CALLS, CALLS_OF_EACH, CALL_KINDS, CALL_WORDS, CALL_ANSWERS = {'values': 60, 'digests': 2}, 0, (), (), ()
 HOSTILE_INPUTS, HOSTILE_ACCEPTED_PART, HOSTILE_OF_EACH, HOSTILE_REPLIES, HOSTILE_FAULTS = 1, 0, 0, (), ()
-WRONG_DEFINITIONS, WRONG_CLAUSES, CALLERS, PROMISES = {'toy': 1}, 1, 1, 0
+WRONG_DEFINITIONS, WRONG_CLAUSES, CALLERS, PROMISES, DEPARTURES = {'toy': 1}, 1, 1, 0, 0
+PICTURES = {'array': 8, 'ways': 23, 'gate': 12}
+BENCH_WORKLOADS, BENCH_TEXTS = 2, {'One': 2, 'Two': 1}
 '''
 SOURCE = '''pub const LIMIT: usize = 1;
 
@@ -68,6 +73,29 @@ refused: callers/call returns-clause-value
 file: src/lib.rt
 old: result ≡ LIMIT
 new: result ≡ result
+'''
+# Two workloads, of which the first is on two types of text; and a program that has one sum for each.
+BENCH = '''from collections import namedtuple
+
+Workload = namedtuple('Workload', 'name word width drawn rounds texts')
+
+
+def drawn():
+    return b'input'
+
+
+WORKLOADS = (Workload('from 6', 'from', 6, drawn, (1, 2), ('One', 'Two')),)
+AT_CAPACITIES = (Workload('read 6', 'read', 6, drawn, (1, 2), ('One',)),)
+'''
+SUMS = '11 from 6\n12 read 6\n'
+SUMMING = '''#!/bin/sh
+[ "$(cat)" = input ] || exit 1
+case "$*" in
+    "One from 6 2") echo 11;;
+    "Two from 6 2") echo 11;;
+    "One read 6 2") echo 12;;
+    *) exit 1;;
+esac
 '''
 CASES = 'case {0}_1\nwords "inline"\noutput "done\\n"\nstatus 0\n\ncase {0}_2\nwords "inline"\nstatus 0\n'
 
@@ -298,7 +326,7 @@ class Replay(InSmallRepository):
         self.write('replay/b.cases', CASES.format('b').partition('case b_2')[0])
         self.write('replay/digests', '')
         self.write('replay/README.md', '')
-        for name in ('judge', 'pairs', 'readings'):
+        for name in (*stored_lines.JUDGES, *FAMILIES):
             os.mkdir(os.path.join(self.place, 'replay', name))
         self.write('bin/program', '#!/bin/sh\necho done\n')
         self.program = os.path.join(self.place, 'bin/program')
@@ -341,10 +369,68 @@ class Replay(InSmallRepository):
         self.assert_fails('is not there', 'replay')
 
 
+class Bench(InSmallRepository):
+    def setUp(self):
+        super().setUp()
+        self.write('bench/sums.py', text_of(in_tree('bench', 'sums.py')))
+        self.write('bench/workloads.py', BENCH)
+        self.write('bench/sums', SUMS)
+        self.write_program(SUMMING)
+
+    def write_program(self, text):
+        self.write('bin/program', text)
+        self.program = os.path.join(self.place, 'bin/program')
+        os.chmod(self.program, 0o755)
+
+    def assert_bench_fails(self, why):
+        self.assert_fails(why, 'bench', self.program)
+
+    def test_sums_as_they_are_stored(self):
+        self.assert_passes('bench', self.program)
+
+    def test_sum_that_differs(self):
+        self.write('bench/sums', SUMS.replace('12', '13'))
+        self.assert_bench_fails('2 passed, 1 failed')
+
+    def test_text_whose_sum_differs(self):
+        self.write_program(SUMMING.replace('6 2") echo 11;;\n    "One read', '6 2") echo 10;;\n    "One read'))
+        self.assert_bench_fails('FAILED from 6 on Two: wanted 11, given 10')
+
+    def test_program_that_does_not_know_a_text(self):
+        self.write_program(SUMMING.replace('Two', 'Three'))
+        self.assert_bench_fails('2 passed, 1 failed')
+
+    def test_program_that_gives_the_sum_and_fails(self):
+        self.write_program(SUMMING.replace('echo 12', 'echo 12; exit 3'))
+        self.assert_bench_fails('given 12 with status 3')
+
+    def test_workload_that_is_gone(self):
+        self.write('bench/workloads.py', BENCH.replace("(Workload('read 6', 'read', 6, drawn, (1, 2), ('One',)),)", '()'))
+        self.assert_bench_fails('missing, or of no workload: read 6')
+        self.write('bench/sums', SUMS.replace('12 read 6\n', ''))
+        self.assert_bench_fails('there are 1 workloads, and must be 2')
+
+    def test_text_that_is_compared_no_more(self):
+        self.write('bench/workloads.py', BENCH.replace("('One', 'Two')", "('One',)"))
+        self.assert_bench_fails('0 workloads are run on Two, and must be 1')
+
+    def test_sum_that_is_gone(self):
+        self.write('bench/sums', SUMS.replace('12 read 6\n', ''))
+        self.assert_bench_fails('missing, or of no workload: read 6')
+
+    def test_sum_of_nothing(self):
+        self.write('bench/sums', SUMS.replace('12', '0'))
+        self.assert_bench_fails('nothing was summed: read 6')
+
+    def test_program_that_is_not_there(self):
+        self.assert_fails('is not there', 'bench')
+
+
 class AnsweredLines:
     """Of the part of a family: a program that answers each line with as many that say it again."""
     # What it answers, by family and file: the same in each test.
     STORED = {}
+    VALUES = 40
 
     def setUp(self):
         super().setUp()
@@ -352,8 +438,9 @@ class AnsweredLines:
         again = (f's/^/{number} /p;g' for number in range(1, self.last))
         self.echo = f"#!/bin/sh\nexec sed 'h;{';'.join(again)};s/^/{self.last} /'\n"
         self.program = self.program_of('echo', self.echo)
-        for name in stored_lines.JUDGE:
-            self.write(f'replay/judge/{name}', '')
+        for folder, files in stored_lines.JUDGES.items():
+            for name in files:
+                self.write(f'replay/{folder}/{name}', '')
         for name in ('digests', 'values'):
             self.write(self.path_of(name), self.stored(name))
 
@@ -390,21 +477,21 @@ class AnsweredLines:
 
     def test_answers_that_are_not(self):
         other = self.program_of('other', self.echo.replace(f'{self.last} /', 'other /'))
-        self.assert_part_fails('0 passed, 42 failed', other)
+        self.assert_part_fails(f'0 passed, {self.VALUES + 2} failed', other)
         late = self.program_of('late', self.echo.replace(f'{self.last} /', f'{self.last} /;999s/[0-9]/other/'))
-        self.assert_part_fails('40 passed, 2 failed', late)
+        self.assert_part_fails(f'{self.VALUES} passed, 2 failed', late)
 
     def test_program_that_does_not_take_the_lines(self):
         self.assert_part_fails('ends with 2', self.program_of('fault', '#!/bin/sh\nexit 2\n'))
 
     def test_stored_value_that_is_another(self):
         self.changed('values', f'\n{self.last} ', '\nother ')
-        self.assert_part_fails('41 passed, 1 failed', self.program)
+        self.assert_part_fails(f'{self.VALUES + 1} passed, 1 failed', self.program)
 
     def test_values_that_are_cut(self):
         path = self.path_of('values')
         write_text(path, text_of(path).rpartition('\n\n')[0])
-        self.assert_part_fails('has 39 values, and must have 40', self.program)
+        self.assert_part_fails(f'has {self.VALUES - 1} values, and must have {self.VALUES}', self.program)
         write_text(path, text_of(path).rpartition('\n')[0])
         self.assert_part_fails('not each input has a kind', self.program)
 
@@ -420,6 +507,9 @@ class AnsweredLines:
     def test_file_that_is_gone(self):
         os.remove(os.path.join(self.place, 'replay/judge/main.rs'))
         self.assert_part_fails('missing, or read by nothing: main.rs', self.program)
+        self.write('replay/judge/main.rs', '')
+        self.write('replay/crate_judge/lib.rs', '')
+        self.assert_part_fails('missing, or read by nothing: lib.rs', self.program)
 
 
 class Readings(AnsweredLines, InSmallRepository):
@@ -438,12 +528,23 @@ class Pairs(AnsweredLines, InSmallRepository):
         self.assert_part_fails('TOO FEW: 0 are `InlineString eq true`', self.program)
 
 
+class Calls(AnsweredLines, InSmallRepository):
+    FAMILY = call_inputs.CALLS
+    VALUES = 60
+
+    def test_too_few_of_each(self):
+        floors = FLOORS.replace("60, 'digests': 2}, 0, (), (), ()", "60, 'digests': 2}, 1, (), (), ('add promotes',)")
+        self.write('.ci/floors.py', floors)
+        self.assert_part_fails('TOO FEW: 0 are `add promotes`', self.program)
+
+
 class LineInputs(unittest.TestCase):
     """What is drawn of a thousand inputs, for which the floors are too high, and without answers."""
 
     def lacking(self, family):
-        tally = Counter(name for each in inputs_from(family, 'selftest', 0) for name in family.counted(each))
-        return list(shortfalls([name for name in family.wanted if name not in ANSWERS], 10, tally))
+        tally = Counter(name for each in inputs_from(family, 'selftest', 0) for name in family.counted(each, []))
+        wanted = [name for name in family.wanted if name not in ANSWERS]
+        return list(shortfalls(wanted, family.of_each // 200, tally))
 
     def test_inputs_are_of_every_kind(self):
         for family in FAMILIES.values():
@@ -463,6 +564,20 @@ class LineInputs(unittest.TestCase):
             lacking = ' '.join(self.lacking(pair_inputs.PAIRS))
         for name in ('InlineString popped', 'InlinableString reserved', 'equal where one was reserved'):
             self.assertIn(f'0 are `{name}`', lacking)
+
+    def test_calls_that_only_look(self):
+        with mock.patch.object(call_inputs, 'KINDS', {'views': 'len'}):
+            lacking = ' '.join(self.lacking(call_inputs.CALLS))
+        for name in ('growths', 'InlineString clear', 'InlinableString reserve', 'InlinableString extend_strs'):
+            self.assertIn(f'0 are `{name}`', lacking)
+
+    def test_calls_are_counted_with_their_answers(self):
+        calls = Input('room', 'calls InlinableString from:61 reserve@28 shrink_to_fit remove@9')
+        answer = 'InlinableString i:done h:room i:done i:bad_place inline 1 61'
+        self.assertEqual(call_inputs.counted(calls, [answer])[5:], [
+            'InlinableString ends inline', 'InlinableString from done', 'InlinableString reserve room',
+            'reserve promotes', 'InlinableString shrink_to_fit done', 'shrink_to_fit demotes',
+            'InlinableString remove bad_place'])
 
 
 class Hostile(unittest.TestCase):
@@ -510,6 +625,117 @@ class Counts(unittest.TestCase):
             self.wrong('12 bugs', '{bugs} bugs')
 
 
+class Quoted(unittest.TestCase):
+    """Of a source with one function, and of the tables of the tree."""
+    SOURCE = ('/// Adds.\n    pub fn add(&mut self, x: u8) -> Result<u8, Full>\n        requires { a (x) }\n'
+              '        ensures sum { b }\n\n        // Why.\n        ensures err { c\n            → d };\n}\n')
+    WHOLE = 'pub fn add(&mut self, x: u8) -> Result<u8, Full>\n    requires { a (x) }\n'
+    LAST = '    ensures sum { b }\n    ensures err { c → d };'
+
+    def is_right(self, item, source=SOURCE):
+        return not list(quoted.block_faults('add.rt', item, source))
+
+    def test_whole_contract(self):
+        self.assertTrue(self.is_right(self.WHOLE + self.LAST))
+
+    def test_clauses_left_out_are_said_to_be(self):
+        for item in (self.WHOLE + '    ..\n    ensures err { c → d };', self.WHOLE + '    ..'):
+            self.assertTrue(self.is_right(item), item)
+        for item in (self.WHOLE + '    ensures err { c → d };', self.WHOLE.rstrip(),
+                     self.WHOLE + self.LAST + '\n    ..', self.WHOLE + '    ..\n' + self.LAST):
+            self.assertFalse(self.is_right(item), item)
+
+    def test_quote_that_is_cut(self):
+        for item in (self.WHOLE + '    ensures sum { b }\n    ensures err { c', 'fn add(&mut self, x: u8)',
+                     'pub fn add(&mut self, x: u8)', self.WHOLE.replace('a (x)', 'a') + self.LAST,
+                     self.WHOLE + self.LAST.replace('→ d', ''), '..'):
+            self.assertFalse(self.is_right(item), item)
+
+    def test_clause_that_the_source_has_otherwise(self):
+        for changed in (self.SOURCE.replace('→ d', '→ e'), self.SOURCE.replace('ensures sum { b }\n', ''),
+                        self.SOURCE.replace('requires { a (x) }', 'requires { a (x) }\n requires { z }'),
+                        self.SOURCE.replace('→ d }', '→ d }\n ensures more { z }')):
+            self.assertFalse(self.is_right(self.WHOLE + self.LAST, changed), changed)
+
+    def test_fence_that_names_no_file(self):
+        for head in ('', ' no/file.rt'):
+            blocks, clauses, faults = quoted.quoted_faults(f'```rust{head}\nensures a\n```\n')
+            self.assertEqual((blocks, clauses, len(faults)), (1, 1, 1))
+
+    def test_document_as_it_is_and_shorter(self):
+        text = text_of(in_tree(quoted.DOCUMENT))
+        for faults_of in (quoted.quoted_faults, quoted.word_faults, quoted.law_faults):
+            self.assertEqual(faults_of(text)[-1], [])
+        for old, new in (('the UTF-8 of a text', 'the UTF-16 of a text'), ('| `HasRoom` |', '| `HasRooms` |'),
+                         ('`policy`) | the characters', '`place`) | the characters')):
+            self.assertIn(old, text)
+            self.assertNotEqual(quoted.word_faults(text.replace(old, new))[-1], [], old)
+        for old, new in (('`places_are_boundaries();` in', '`places_are();` in'), ('A cut of the text is', 'A part of the text is'),
+                         ('| `run::runs_join` |', '| `run::runs_part` |')):
+            self.assertIn(old, text)
+            self.assertNotEqual(quoted.law_faults(text.replace(old, new))[-1], [], old)
+        with mock.patch.dict(counts.QUOTED, {'clauses': 10_000}), mock.patch('builtins.print') as printed:
+            self.assertFalse(counts.quotes_stand())
+        self.assertIn('must have 10000', ' '.join(map(str, printed.call_args[0])))
+
+
+class Pictures(InSmallRepository):
+    def setUp(self):
+        super().setUp()
+        shutil.copytree(in_tree('docs'), os.path.join(self.place, 'docs'))
+        shutil.copytree(in_tree('crates/inlinable_string/src'), os.path.join(self.place, 'crates/inlinable_string/src'))
+
+    def changed(self, path, old, new):
+        text = text_of(os.path.join(self.place, path))
+        self.assertIn(old, text)
+        self.write(path, text.replace(old, new, 1))
+
+    def test_pictures_as_they_are_drawn(self):
+        self.assert_passes('pictures')
+
+    def test_picture_that_is_another_or_gone(self):
+        for name in pictures.DRAWN:
+            text = text_of(in_tree('docs', name + '.svg'))
+            self.changed(f'docs/{name}.svg', '<text ', '<text  ')
+            self.assert_fails(f'docs/{name}.svg is not what is drawn', 'pictures')
+            os.remove(os.path.join(self.place, 'docs', name + '.svg'))
+            self.assert_fails(f'docs/{name}.svg is not what is drawn', 'pictures')
+            self.write(f'docs/{name}.svg', text)
+
+    def test_data_that_are_fewer(self):
+        self.changed('docs/pictures/array.rows', 'push_str "s" | 0 | "the longest word"\n', '')
+        self.assert_fails('array has 7 rows, and must have 8', 'pictures')
+
+    def test_data_that_the_rule_or_the_sources_do_not_bear_out(self):
+        self.changed('docs/pictures/array.rows', 'remove 8 | 1 |', 'remove 8 | 2 |')
+        self.assert_fails('after remove 8 the text is "longest word" from 1', 'pictures', '--draw')
+        self.changed('docs/pictures/array.rows', 'remove 8 | 2 |', 'remove 8 | 1 |')
+        self.changed('docs/pictures/ways.rows', 'shrink_to_fit | at most N', 'shrink | at most N')
+        self.assert_fails("not in the sources ['shrink']", 'pictures', '--draw')
+
+    def test_part_of_which_nothing_is_told(self):
+        self.changed('.ci/run', 'part .ci/gate pairs\n', 'part .ci/gate pairs\npart .ci/gate others\n')
+        self.assert_fails('has no row for others', 'pictures')
+
+
+class Quick(unittest.TestCase):
+    SAID = ('test a::b ... ok\ntest a::c ... FAILED\n\n    test stopped at src/held.rt:8:5\n'
+            f'    all memory cannot be held here: {quick.HELD}\n{{}}test result: FAILED. 1 passed\n')
+
+    def test_tests_that_need_the_proved_build_are_counted_apart(self):
+        self.assertEqual(quick.counted(self.SAID.format('')), (1, 0, 1))
+        self.assertEqual(quick.counted(self.SAID.format('test a::d ... FAILED\n    other\n')), (1, 1, 1))
+        self.assertEqual(quick.counted('test a::b ... ok\n'), (1, 1, 0))
+        source = text_of(in_tree('crates/test_support/src/hoard.rt'))
+        self.assertIn(quick.HELD, source)
+
+    def test_fewer_tests_than_there_must_be(self):
+        with mock.patch.object(quick, 'run_rt', lambda *words: (self.SAID.format(''), 4)):
+            for least, most_held, is_well in ((1, 1, True), (2, 1, False), (1, 0, False)):
+                with mock.patch.dict(quick.TRIED, {'inline_runs': (least, most_held)}):
+                    self.assertEqual(quick.tests_pass('inline_runs')[0], is_well)
+
+
 class Run(InSmallRepository):
     PARTS = '#!/bin/sh\necho part "$@"\n[ "$1" != "$FAILING" ]\n'
 
@@ -532,7 +758,16 @@ class Run(InSmallRepository):
             status, lines = self.run_gate(failing)
             self.assertEqual(status, 1)
             self.assertRegex(lines[-1], f'^FAILED in .* {failing}, after')
-            self.assertEqual(lines[-2], f'part {failing}')
+            self.assertIn(f'part {failing}', lines)
+            self.assertRegex(lines[-3], f' {failing} .* FAILED$')
+
+    def test_it_says_a_line_a_part_and_keeps_the_rest(self):
+        _, lines = self.run_gate('none')
+        parts = len(re.findall('^part ', text_of(os.path.join(self.place, '.ci/run')), re.MULTILINE))
+        self.assertEqual(sum(bool(re.match(r' *\d+ min \d\d s  .* \.\. passed, in ', line)) for line in lines), parts)
+        self.assertEqual(sum(line.endswith('  passed') for line in lines), parts)
+        self.assertNotIn('part pairs', lines)
+        self.assertIn('part pairs', text_of(os.path.join(self.place, 'out/gate.log')).splitlines())
 
 
 class Reading(unittest.TestCase):
@@ -615,6 +850,12 @@ class Reading(unittest.TestCase):
                          [('push', {'text', 'len'}), ('pop', set()), ('push', {'err'})])
         self.assertEqual(list(promises.wrong_names(text, known)),
                          ['docs/PROMISES.md: there is no function pop', 'docs/PROMISES.md: no push has the clauses err'])
+
+    def test_departures_are_rows(self):
+        source = 'enum D {\n    One,\n    Two,\n}\nOne => "a row",\nTwo => {\n    "another \\\n     row"\n}\n'
+        self.assertEqual(departures.departures_in(source), (['One', 'Two'], ['a row', 'another row']))
+        self.assertEqual(departures.missing_rows(source, '| The crate |\n|---|\n| a row | here |\n'), ['another row'])
+        self.assertEqual(departures.missing_rows(source, '| a row | here |\n| another row | here |\n'), [])
 
     def test_open_goals_of_a_row(self):
         text = ('note: src/worked/room.rt:1:1: it is not proved that what the function ensures holds when it returns '

@@ -1,7 +1,7 @@
 """gate store_lines JUDGE FAMILY WHAT [--seed S]: writes the digests of a judge's answers, or its answers.
 
 To standard output goes the file WHAT, `digests` or `values`, of the folder of `replay/` that has the
-name of the family. The judge is a program that answers the lines of `inline_readings`. This is no
+name of the family. The judge is a program that answers the lines of `side_by_side`. This is no
 part of the gate.
 """
 from gate_parts.digests import print_digests
@@ -9,7 +9,7 @@ from gate_parts.families import FAMILIES
 from gate_parts.line_digests import generated_lines
 from gate_parts.options import options
 from gate_parts.programs import checked
-from gate_parts.stored_lines import answered, drawn_values, told
+from gate_parts.stored_lines import answered, inputs_by_value, told
 
 
 def main(words):
@@ -18,5 +18,6 @@ def main(words):
     if given.what == 'digests':
         print_digests(generated_lines(family), judge, given.seed, family.held['digests'])
     else:
-        print('\n\n'.join(map(told, answered(family, judge, drawn_values(family, f'{given.seed} values')))))
+        inputs = inputs_by_value(family, f'{given.seed} values')
+        print('\n\n'.join(map(told, answered(family, judge, inputs))))
     return True

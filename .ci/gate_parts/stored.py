@@ -29,7 +29,7 @@ def check_files(folder, *wanted):
 
 def stored_cases():
     """All of them, each with a name of its own."""
-    check_files(FOLDER, 'README.md', 'judge', 'pairs', 'readings', *STORED)
+    check_files(FOLDER, 'README.md', 'judge', 'crate_judge', 'calls', 'pairs', 'readings', *STORED)
     cases, names = [], set()
     for name in STORED:
         if name.endswith('.cases'):

@@ -7,19 +7,24 @@
     InlinableString from_utf8 fault e282
     InlinableString from_utf8_lossy owned efbfbd
 
-Empty lines part them. `replay/judge/` has the program that answered them.
+Empty lines part them. `replay/README.md` says which judge answered them.
 """
 import os
 from itertools import count
 from typing import NamedTuple
 
 from gate_parts.digests import stored_digests
-from gate_parts.line_digests import answers_of
+from gate_parts.line_digests import answers_of, answers_to_each
 from gate_parts.lines import Input, text_of_inputs
 from gate_parts.stored import FOLDER, check_count, check_files
 from gate_parts.tree import Failure, text_of
 
-JUDGE = ('main.rs', 'digits.rs', 'pairs.rs', 'readings.rs')
+# The judges: a folder each of `replay/`, with its files.
+JUDGES = {
+    'judge': ('main.rs', 'digits.rs', 'pairs.rs', 'readings.rs'),
+    'crate_judge': ('build', 'main.rs', 'answer.rs', 'array.rs', 'call.rs', 'departures.rs',
+                    'inlinable.rs', 'printed.rs'),
+}
 
 
 class Answered(NamedTuple):
@@ -33,7 +38,8 @@ def path_of(family, name):
 
 
 def stored_line_digests(family):
-    check_files(os.path.join(FOLDER, 'judge'), *JUDGE)
+    for folder, files in JUDGES.items():
+        check_files(os.path.join(FOLDER, folder), *files)
     check_files(os.path.join(FOLDER, family.name), *family.held)
     return stored_digests(path_of(family, 'digests'), family.held['digests'])
 
@@ -51,9 +57,8 @@ def stored_values(family):
 
 def answered(family, program, inputs):
     """What a program answers to each of the inputs."""
-    lines = answers_of(program, 'the stored values', text_of_inputs(inputs)).decode().splitlines()
-    size = family.answers
-    return [Answered(each, lines[at * size:(at + 1) * size]) for at, each in enumerate(inputs)]
+    answers = answers_of(program, 'the stored values', text_of_inputs(inputs))
+    return [Answered(*each) for each in zip(inputs, answers_to_each(family, inputs, answers))]
 
 
 def told(each):
@@ -68,6 +73,11 @@ def failed_values(family, name, program, values):
             failed += 1
             print(f'{name}: FAILED, wanted\n{told(wanted)}\nand given\n{told(given)}\n')
     return failed
+
+
+def inputs_by_value(family, seed):
+    """Those that are to have their answers by value."""
+    return family.named or drawn_values(family, seed)
 
 
 def drawn_values(family, seed):
