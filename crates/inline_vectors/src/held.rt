@@ -8,13 +8,11 @@ pub fn all_memory(rt: &impl Abort, alloc: Global) -> Hoard {
     Hoard::take(alloc).expect(rt, NEEDS_THE_PROVED_BUILD)
 }
 
-/// All memory that can be had but for one block of so many bytes, or for none.
+/// All memory that can be had but for one block, which serves one request of so many bytes, or for
+/// none.
 pub fn all_but(rt: &impl Abort, alloc: Global, block: Option<usize>) -> Hoard {
-    let block: Option<Vec<u8>> = match block {
-        Some(size) => Some(Vec::with_capacity(alloc, size).expect(rt, "memory")),
-        None => None,
-    };
-    let hoard = all_memory(rt, alloc);
-    drop(block);
-    hoard
+    match block {
+        Some(size) => Hoard::take_but_one(alloc, size).expect(rt, NEEDS_THE_PROVED_BUILD),
+        None => all_memory(rt, alloc),
+    }
 }

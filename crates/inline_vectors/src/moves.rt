@@ -51,9 +51,7 @@ const FROM_30_TO_2: &[MoveRow] = &[
 const FROM_30_TO_1: &[MoveRow] = &[
     ("hi", HEAP_ROOM, None, Ok(Heap)),
     ("é", HEAP_ROOM, None, Ok(Heap)),
-    // A block that any request can be cut from: the C library keeps a shorter one for its own length,
-    // which is one of 24 bytes or of 40, as it happens to lie.
-    ("é", None, Some(2000), Ok(Heap)),
+    ("é", None, Some(24), Ok(Heap)),
 ];
 
 const FROM_30_TO_0: &[MoveRow] = &[

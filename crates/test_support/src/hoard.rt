@@ -3,13 +3,19 @@ use std::alloc::Global;
 
 /// How many blocks are held at most. Under the address sanitizer of `rt try` memory cannot be used
 /// up with so few.
-const MOST_BLOCKS: usize = 10_000;
+const MOST_BLOCKS: usize = 20_000;
 
 /// The first size that is asked for is 2 to this power.
 const LARGEST_SHIFT: u32 = 46;
 
 /// The C library keeps freed blocks of up to so many bytes for requests of about their own size.
 const MOST_KEPT: usize = 1040;
+
+/// How often a block is looked for that serves one request of its size.
+const MOST_TRIES: usize = 10;
+
+/// So many blocks more are set aside at each further try, and so another one is given back.
+const SET_ASIDE: usize = 50;
 
 /// What a test says that cannot hold all memory. It fails by that, since it has not checked anything.
 pub const NEEDS_THE_PROVED_BUILD: &str =
@@ -28,7 +34,29 @@ impl Hoard {
     /// Takes blocks of each size until one is refused, the largest first, down to one byte, and
     /// then what is kept for requests of one small size. `None` where memory is not used up then.
     pub fn take(alloc: Global) -> Option<Hoard> {
-        let mut blocks = Vec::with_capacity(alloc, MOST_BLOCKS).ok()?;
+        Hoard::rest(alloc, Vec::with_capacity(alloc, MOST_BLOCKS).ok()?)
+    }
+
+    /// All memory but one block, which serves one request of so many bytes. The C library gives a
+    /// longer one at times, as its free blocks happen to lie, and keeps that for requests of its own
+    /// length; so it is asked whether the block that was given back serves.
+    pub fn take_but_one(alloc: Global, size: usize) -> Option<Hoard> {
+        for tries in 0..MOST_TRIES {
+            let mut blocks = Vec::with_capacity(alloc, MOST_BLOCKS).ok()?;
+            take_some(alloc, &mut blocks, size, tries.saturating_mul(SET_ASIDE));
+            let spare: Vec<u8> = Vec::with_capacity(alloc, size).ok()?;
+            let hoard = Hoard::rest(alloc, blocks)?;
+            drop(spare);
+            let granted: Result<Vec<u8>, _> = Vec::with_capacity(alloc, size);
+            if granted.is_ok() {
+                return Some(hoard);
+            }
+        }
+        None
+    }
+
+    /// All memory that is left, beside these blocks.
+    fn rest(alloc: Global, mut blocks: Vec<Vec<u8>>) -> Option<Hoard> {
         for smaller in 0..=LARGEST_SHIFT {
             take_all(alloc, &mut blocks, 1usize << (LARGEST_SHIFT - smaller));
         }
@@ -46,7 +74,12 @@ impl Hoard {
 
 /// Takes blocks of this size until one is refused, as far as there are places for them.
 fn take_all(alloc: Global, blocks: &mut Vec<Vec<u8>>, size: usize) {
-    for _ in 0..MOST_BLOCKS {
+    take_some(alloc, blocks, size, MOST_BLOCKS);
+}
+
+/// The same, and no more than so many.
+fn take_some(alloc: Global, blocks: &mut Vec<Vec<u8>>, size: usize, count: usize) {
+    for _ in 0..count {
         let Ok(block) = Vec::with_capacity(alloc, size) else {
             break;
         };
