@@ -1,5 +1,6 @@
-//! Each generic caller once at std's `String`, at `InlinableStringN<8>` or at `InlinableString`, so
-//! that its bounds are known to be met.
+//! Each generic caller at std's `String` and at `InlinableStringN` of any limit, so that its bounds
+//! are known to be met: functions with these bounds call it, and are called at the types. A call at
+//! a type parameter is proved in a part of the time that a call at a type takes.
 ghost use Rattle.std.specs.Prelude.{◌≡◌, ◌≤◌, ◌⊎◌, ◌↔◌, [], ◌∷◌, length, IfOk, IsTrue, Err};
 ghost use Rattle.inlinable_string.specs.Text.{size};
 ghost use Rattle.inlinable_string.specs.Utf16.{units_of};
@@ -22,13 +23,223 @@ use std::alloc::{AllocError, Global};
 type Short = InlinableStringN<8>;
 
 /// Growths.
-pub fn grow(string: &mut String, short: &mut Short) -> Result<(), AllocError> {
-    growths::add_word(string, "one")?;
-    growths::add_word(short, "two")?;
-    growths::add_three_times(short, "ab")?;
-    growths::quote(string)?;
-    growths::put_in_front(short, "no ")?;
-    growths::end_sentence(string)
+pub fn grow<S: StringExt>(text: &mut S) -> Result<(), AllocError> {
+    growths::add_word(text, "one")?;
+    growths::add_three_times(text, "ab")?;
+    growths::quote(text)
+}
+
+/// Cuts and an insertion.
+pub fn cut<S: StringExt>(text: &mut S) -> Result<bool, AllocError> {
+    cuts::cut_at(text, 3);
+    cuts::cut_by_str(text, 3);
+    cuts::remove_at(text, 0);
+    cuts::insert_at(text, 1, "inner")
+}
+
+/// A text that is cut in two, and the halves of another behind them.
+pub fn halve<S: StringMake + Drop, T: StringExt>(
+    alloc: Global,
+    text: &mut S,
+    other: &T,
+) -> Result<(), AllocError> {
+    if text.is_char_boundary(4) {
+        let mut tail: S = cuts::split_off(alloc, text, 4)?;
+        cuts::copy_halves(other, 0, text, &mut tail)?;
+    }
+    Ok(())
+}
+
+/// Searches.
+pub fn find<S: StringExt>(text: &mut S) -> Result<(), AllocError> {
+    finds::comma(text)?;
+    finds::first_line(text);
+    finds::shorten(text, 5);
+    finds::trim_end(text);
+    Ok(())
+}
+
+/// Two texts, each behind the other, and a copy of the first that moves behind it.
+pub fn join<S: StringExt, T: StringMake + Drop>(
+    alloc: Global,
+    text: &mut S,
+    other: &mut T,
+) -> Result<(), AllocError> {
+    joins::add_text(text, other)?;
+    let mut copy: T = joins::copy_of(alloc, text)?;
+    joins::move_to(&mut copy, text)?;
+    joins::add_text(other, text)
+}
+
+/// Texts that are made, and filled within their room.
+pub fn make<S: StringMake + Drop>(alloc: Global) -> Result<S, AllocError> {
+    let mut made: S = makes::with_room(alloc, 12)?;
+    room::push_into_room(&mut made, "twelve bytes");
+    room::add_both(&mut made, "first", "second")?;
+    let long: S = room::made_with_room(alloc, "a text of more than thirty bytes")?;
+    joins::add_text(&long, &mut made)?;
+    Ok(made)
+}
+
+/// Letters in a text that is made.
+pub fn make_letters<S: StringMake + Drop>(alloc: Global) -> Result<S, AllocError> {
+    let mut made: S = makes::empty(alloc);
+    room::two_letters(&mut made)?;
+    let dotted: S = joins::dotted(alloc, "a", "b", "c")?;
+    joins::add_text(&dotted, &mut made)?;
+    Ok(made)
+}
+
+/// Characters taken off and out.
+pub fn take<S: StringExt>(text: &mut S) -> Result<Option<char>, AllocError> {
+    takes::take_first(text);
+    takes::chomp(text);
+    takes::drop_last(text);
+    takes::swap_last(text, 'c')?;
+    takes::push_and_pop(text, 'd')
+}
+
+/// Bytes and texts in the place of others.
+pub fn replace<S: StringMake + Drop>(alloc: Global, text: &mut S) -> Result<(), AllocError> {
+    replacements::uppercase(alloc, text)?;
+    replacements::replaced(text, b"bytes");
+    wholes::replace(alloc, text, "another")
+}
+
+/// All or nothing.
+pub fn add_whole<S: StringExt>(text: &mut S) -> Result<(), AllocError> {
+    wholes::add_pair(text, "key", "value")?;
+    wholes::add_and_take_back(text, "less")?;
+    wholes::try_twice(text, "more")
+}
+
+/// Views.
+pub fn view<S: StringExt, T: StringExt>(text: &S, other: &T) -> usize {
+    if views::is_longer(text, other) {
+        return views::upper_bound(text);
+    }
+    if views::last_byte(other).is_none() {
+        return views::spare(text);
+    }
+    views::length_of(other)
+}
+
+/// Lists of commands.
+pub fn run_lists<S: StringExt>(text: &mut S) {
+    runs::set_by_run(text, 'c');
+    runs::clear_by_run(text);
+    runs::pop_of_nothing(text);
+    runs::push_by_run(text, 'c');
+    runs::add_by_run(text, "more");
+}
+
+/// Lists of commands, whose outcome a law tells.
+pub fn run_by_law<S: StringExt>(text: &mut S) {
+    let mut replies = [Reply::NoMemory; 1];
+    by_law::obeyed(text, Command::Clear);
+    by_law::insert_by_run(text, 0, 'c');
+    by_law::remove_by_run(text, 0);
+    by_law::replace_by_run(text, b"bytes");
+    by_law::grow_by_run(text, 'c');
+    by_law::whole_run(text, &[Command::Pop], &mut replies);
+    if by_law::has_parts(text, 1) && text.is_char_boundary(1) {
+        by_law::flash_by_run(text, 1, 'c');
+    }
+}
+
+/// One list of commands to two texts.
+pub fn run_on_both<S: StringExt, T: StringExt>(text: &mut S, other: &mut T) {
+    let mut replies = [Reply::NoMemory; 1];
+    let mut others = [Reply::NoMemory; 1];
+    if by_law::is_same_text(text, other) {
+        by_law::run_side_by_side(text, other, &[Command::Pop], &mut replies, &mut others);
+    }
+}
+
+/// The callers of a text behind a `dyn`.
+pub fn behind_dyn(alloc: Global, text: &mut dyn StringExt) -> Result<String, AllocError> {
+    growths::put_in_front(text, "no ")?;
+    growths::end_sentence(text)?;
+    cuts::cut_dyn(text, 2);
+    finds::strip_extension(text);
+    room::two_characters(text, 'c', 'd')?;
+    takes::take_two(text);
+    replacements::take_bytes(text, b"bytes");
+    wholes::add_line(text, "line")?;
+    views::lies_inline(text);
+    runs::letters_by_run(text);
+    joins::string_of(alloc, text)
+}
+
+/// All that is above and has one text of one type.
+pub fn each<S: StringMake + Drop>(alloc: Global, text: &mut S) -> Result<(), AllocError> {
+    grow(text)?;
+    cut(text)?;
+    find(text)?;
+    take(text)?;
+    replace(alloc, text)?;
+    add_whole(text)?;
+    run_lists(text);
+    run_by_law(text);
+    let letters: S = make_letters(alloc)?;
+    joins::add_text(&letters, text)?;
+    let made: S = make(alloc)?;
+    joins::add_text(&made, text)
+}
+
+/// All that is above and has texts of two types.
+pub fn both<S: StringMake + Drop, T: StringMake + Drop>(
+    alloc: Global,
+    text: &mut S,
+    other: &mut T,
+) -> Result<usize, AllocError> {
+    halve(alloc, text, other)?;
+    run_on_both(text, other);
+    join(alloc, text, other)?;
+    Ok(view(text, other))
+}
+
+/// All of these at `String`.
+pub fn each_string(alloc: Global, text: &mut String) -> Result<String, AllocError> {
+    each(alloc, text)?;
+    behind_dyn(alloc, text)
+}
+
+/// All that has one text of one type, at any limit.
+pub fn each_limit<const N: usize>(
+    alloc: Global,
+    text: &mut InlinableStringN<N>,
+) -> Result<(), AllocError> {
+    each(alloc, text)
+}
+
+/// The same at a limit of 30 bytes.
+pub fn each_inlinable(alloc: Global, text: &mut InlinableString) -> Result<(), AllocError> {
+    each_limit(alloc, text)
+}
+
+/// All of these at a limit of eight.
+pub fn each_short(alloc: Global, short: &mut Short) -> Result<String, AllocError> {
+    each_limit(alloc, short)?;
+    behind_dyn(alloc, short)
+}
+
+/// Those of two types at `String` and at any limit.
+pub fn both_types<const N: usize>(
+    alloc: Global,
+    string: &mut String,
+    text: &mut InlinableStringN<N>,
+) -> Result<usize, AllocError> {
+    both(alloc, string, text)
+}
+
+/// The same at a limit of eight.
+pub fn both_at_limit(
+    alloc: Global,
+    string: &mut String,
+    short: &mut Short,
+) -> Result<usize, AllocError> {
+    both_types(alloc, string, short)
 }
 
 /// Growths in an array, and out of one.
@@ -40,43 +251,6 @@ pub fn grow_inline(alloc: Global, text: &mut InlineStringN<16>) -> Result<Short,
     let copy = joins::growable(alloc, text);
     joins::add_text(&copy, &mut short)?;
     Ok(short)
-}
-
-/// Cuts and insertions.
-pub fn cut(alloc: Global, string: &mut String, short: &mut Short) -> Result<(), AllocError> {
-    cuts::cut_at(string, 3);
-    cuts::cut_by_str(short, 3);
-    cuts::cut_dyn(short, 2);
-    cuts::insert_at(string, 1, "inner")?;
-    cuts::remove_at(short, 0);
-    if StringExt::is_char_boundary(string, 4) {
-        let mut tail: String = cuts::split_off(alloc, string, 4)?;
-        cuts::copy_halves(short, 0, string, &mut tail)?;
-    }
-    Ok(())
-}
-
-/// Searches.
-pub fn find(string: &mut String, short: &mut Short) -> Result<(), AllocError> {
-    finds::comma(string)?;
-    finds::comma(short)?;
-    finds::first_line(string);
-    finds::strip_extension(string);
-    finds::shorten(short, 5);
-    finds::trim_end(short);
-    Ok(())
-}
-
-/// Texts made of others.
-pub fn join(alloc: Global, string: &mut String, short: &mut Short) -> Result<(), AllocError> {
-    joins::add_text(string, short)?;
-    joins::add_text(short, string)?;
-    let copy: Short = joins::copy_of(alloc, string)?;
-    let other: String = joins::string_of(alloc, &copy)?;
-    let three: Short = joins::dotted(alloc, "a", "b", "c")?;
-    let mut last: InlinableString = joins::copy_of(alloc, &other)?;
-    joins::move_to(&mut last, string)?;
-    joins::add_text(&three, string)
 }
 
 /// Texts joined from iterators, and printed.
@@ -111,31 +285,45 @@ pub fn compare(
     Ok(compares::later(copy, compares::copied(second)?))
 }
 
-/// Texts that are made, and filled within their room.
-pub fn make(alloc: Global) -> Result<String, AllocError> {
-    let mut string: String = makes::empty(alloc);
-    let mut short: Short = makes::with_room(alloc, 12)?;
-    room::push_into_room(&mut short, "twelve bytes");
+/// Words that take no memory.
+pub fn make_inline(alloc: Global) -> Result<InlinableString, AllocError> {
     let word: Short = makes::first_word(alloc, "word");
-    let usual: InlinableString = makes::inline_with_room(alloc);
-    let made: InlinableString = room::made_with_room(alloc, "a text of more than thirty bytes")?;
-    room::two_letters(&mut string)?;
-    room::two_characters(&mut string, 'c', 'd')?;
-    room::add_both(&mut short, "first", "second")?;
-    joins::add_text(&word, &mut short)?;
-    joins::add_text(&usual, &mut short)?;
-    joins::move_to(&mut short, &mut string)?;
-    joins::add_text(&made, &mut string)?;
-    Ok(string)
+    let mut usual: InlinableString = makes::inline_with_room(alloc);
+    joins::add_text(&word, &mut usual)?;
+    Ok(usual)
+}
+
+/// A line that is taken out of its buffer and comes back with more.
+pub fn take_line(short: &mut Short) -> Result<(), AllocError> {
+    let mut line = takes::take_line(short)?;
+    let _ = joined::write_pair(&mut line, "name", &InlineStringN::from("value"));
+    joins::add_text(&line, short)
+}
+
+/// A text of four bytes in the place of one, and nothing in the place of any.
+pub fn replace_short(short: &mut Short) -> bool {
+    if short.len() == 4 {
+        replacements::take_same_length(short, "text");
+    }
+    views::is_nothing(short)
+}
+
+/// A list of names.
+pub fn name(alloc: Global) -> Result<Names<8>, AllocError> {
+    let mut names = Names {
+        all: Vec::new(alloc),
+    };
+    names.add(InlineStringN::<8>::from("name"))?;
+    Ok(names)
 }
 
 /// A name read from UTF-16, twice, and taken through its bytes; "é" where the units are no text.
-pub fn read_string(alloc: Global, units: &[u16]) -> Result<String, Utf16Error>
-    ensures text { IfOk result (λ made. (units_of (string_state made).text ≡ units.now)
-        ⊎ ((string_state made).text ≡ 0xE9 ∷ [])) }
+pub fn read<S: StringMake + Drop>(alloc: Global, units: &[u16]) -> Result<S, Utf16Error>
+    ensures text { IfOk result (λ made. (units_of (S.state made).text ≡ units.now)
+        ⊎ ((S.state made).text ≡ 0xE9 ∷ [])) }
     ensures paired { ¬ (result ≡ Err Utf16Error.Unpaired) }
 {
-    let Some(name) = makers::file_name::<String>(alloc, units)? else {
+    let Some(name) = makers::file_name::<S>(alloc, units)? else {
         return makers::accent(alloc);
     };
     let same = makers::same_name(alloc, &name, units)?;
@@ -143,6 +331,15 @@ pub fn read_string(alloc: Global, units: &[u16]) -> Result<String, Utf16Error>
         Ok(text) => Ok(text),
         Err(text) => Ok(text),
     }
+}
+
+/// Such a name in a `String`.
+pub fn read_string(alloc: Global, units: &[u16]) -> Result<String, Utf16Error>
+    ensures text { IfOk result (λ made. (units_of (string_state made).text ≡ units.now)
+        ⊎ ((string_state made).text ≡ 0xE9 ∷ [])) }
+    ensures paired { ¬ (result ≡ Err Utf16Error.Unpaired) }
+{
+    read(alloc, units)
 }
 
 /// The same at a limit of 30 bytes.
@@ -151,14 +348,7 @@ pub fn read_inlinable(alloc: Global, units: &[u16]) -> Result<InlinableString, U
         ⊎ ((inlinable_state 30 made).text ≡ 0xE9 ∷ [])) }
     ensures paired { ¬ (result ≡ Err Utf16Error.Unpaired) }
 {
-    let Some(name) = makers::file_name::<InlinableString>(alloc, units)? else {
-        return makers::accent(alloc);
-    };
-    let same = makers::same_name(alloc, &name, units)?;
-    match makers::through_bytes(alloc, same) {
-        Ok(text) => Ok(text),
-        Err(text) => Ok(text),
-    }
+    read(alloc, units)
 }
 
 /// The same at a limit of eight.
@@ -167,14 +357,7 @@ pub fn read_short(alloc: Global, units: &[u16]) -> Result<Short, Utf16Error>
         ⊎ ((inlinable_state 8 made).text ≡ 0xE9 ∷ [])) }
     ensures paired { ¬ (result ≡ Err Utf16Error.Unpaired) }
 {
-    let Some(name) = makers::file_name::<Short>(alloc, units)? else {
-        return makers::accent(alloc);
-    };
-    let same = makers::same_name(alloc, &name, units)?;
-    match makers::through_bytes(alloc, same) {
-        Ok(text) => Ok(text),
-        Err(text) => Ok(text),
-    }
+    read(alloc, units)
 }
 
 /// Whether a word has at most eight bytes, by arrays of eight and of 30.
@@ -200,85 +383,6 @@ pub fn use_again(alloc: Global) -> Short {
     buffers::reuse_twice(&mut short, "one", "two");
     buffers::release(&mut short);
     short
-}
-
-/// Characters taken off and out.
-pub fn take(string: &mut String, short: &mut Short) -> Result<(), AllocError> {
-    takes::take_first(string);
-    takes::take_first(short);
-    takes::take_two(short);
-    takes::chomp(string);
-    takes::drop_last(short);
-    takes::swap_last(string, 'c')?;
-    takes::push_and_pop(short, 'd')?;
-    let mut line = takes::take_line(short)?;
-    let _ = joined::write_pair(&mut line, "name", &InlineStringN::from("value"));
-    joins::add_text(&line, short)
-}
-
-/// Bytes and texts in the place of others.
-pub fn replace(alloc: Global, string: &mut String, short: &mut Short) -> Result<(), AllocError> {
-    replacements::uppercase(alloc, string)?;
-    replacements::uppercase(alloc, short)?;
-    replacements::replaced(string, b"bytes");
-    replacements::take_bytes(short, b"bytes");
-    if short.len() == 4 {
-        replacements::take_same_length(short, "text");
-    }
-    wholes::replace(alloc, string, "another")?;
-    wholes::add_and_take_back(string, "less")?;
-    wholes::try_twice(short, "more")
-}
-
-/// All or nothing.
-pub fn add_whole(string: &mut String, short: &mut Short) -> Result<(), AllocError> {
-    wholes::add_pair(string, "key", "value")?;
-    wholes::add_pair(short, "key", "value")?;
-    wholes::add_line(short, "line")
-}
-
-/// Views.
-pub fn view(string: &String, short: &Short) -> usize {
-    if views::is_longer(string, short) && views::lies_inline(short) {
-        return views::upper_bound(string);
-    }
-    if views::last_byte(short).is_none() && views::is_nothing(short) {
-        return views::spare(string);
-    }
-    views::length_of(short)
-}
-
-/// Lists of commands.
-pub fn run_lists(string: &mut String, short: &mut Short) {
-    runs::set_by_run(string, 'c');
-    runs::set_by_run(short, 'c');
-    runs::letters_by_run(short);
-    runs::clear_by_run(string);
-    runs::pop_of_nothing(short);
-    runs::push_by_run(string, 'c');
-    runs::add_by_run(short, "more");
-}
-
-/// Lists of commands, whose outcome a law tells.
-pub fn run_by_law(alloc: Global, string: &mut String, short: &mut Short) -> Result<(), AllocError> {
-    let mut replies = [Reply::NoMemory; 1];
-    let mut others = [Reply::NoMemory; 1];
-    by_law::obeyed(string, Command::Clear);
-    by_law::insert_by_run(short, 0, 'c');
-    by_law::remove_by_run(string, 0);
-    by_law::replace_by_run(short, b"bytes");
-    by_law::grow_by_run(string, 'c');
-    by_law::whole_run(short, &[Command::Pop], &mut replies);
-    if by_law::has_parts(string, 1) && short.is_char_boundary(1) {
-        by_law::flash_by_run(short, 1, 'c');
-    }
-    if by_law::is_same_text(string, short) {
-        by_law::run_side_by_side(string, short, &[Command::Pop], &mut replies, &mut others);
-    }
-    let mut names = Names {
-        all: Vec::new(alloc),
-    };
-    names.add(InlineStringN::<8>::from("name"))
 }
 
 /// Texts that go through JSON, and move to another capacity between two runs.
