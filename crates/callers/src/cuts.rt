@@ -2,11 +2,13 @@
 //! or of its `as_str()`.
 ghost use Rattle.std.specs.Prelude.{◌≡◌, ℕ, ◌+◌, ◌≤◌, ◌<◌, ◌↔◌, List, ◌++◌, [], ◌∷◌, IsTrue, IfOk, OnOk, OnErr, IsSome, IfNone, IfSome};
 ghost use Rattle.std.specs.Str.{chars};
-ghost use Rattle.inlinable_string.specs.Text.{size, IsCut, IsPlace, IsSplice, IsRemoval};
+ghost use Rattle.inlinable_string.specs.Text.{size, cut, IsCut, IsPlace, IsSplice, IsRemoval};
 ghost use Rattle.inlinable_string.specs.State.{IsSameText};
 ghost use Rattle.inlinable_string.specs.Values.{string_state};
 
-use inlinable_string::laws::{cuts_are_cuts_of_bytes, places_are_boundaries};
+use inlinable_string::laws::{
+    cuts_are_at_places, cuts_are_cuts_of_bytes, places_are_boundaries, steps_are_over_characters,
+};
 use inlinable_string::{InlineStringN, StringExt, StringMake};
 use std::alloc::{AllocError, Global};
 
@@ -121,6 +123,25 @@ pub fn split_off<S: StringMake + Drop>(
     tail.push_str(&text.as_str()[at..])?;
     text.truncate(at);
     Ok(tail)
+}
+
+/// Whether the text falls into two parts there.
+pub fn has_cut<S: StringExt>(text: &S, place: usize) -> bool
+    ensures { IsTrue result ↔ IsSome (cut (S.state text.now).text place) }
+{
+    cuts_are_at_places();
+    text.is_char_boundary(place)
+}
+
+/// The last character, and what stands before it.
+pub fn split_last<S: StringExt>(text: &S) -> Option<(&str, char)>
+    ensures { IfSome result (λ parts.
+        (S.state text.now).text ≡ chars parts.0.now ++ parts.1 ∷ []) }
+{
+    steps_are_over_characters();
+    let mut front = text.as_str().chars();
+    let last = front.next_back()?;
+    Some((front.as_str(), last))
 }
 
 /// Copies the text before a place and the text behind it to the ends of two others.

@@ -121,6 +121,9 @@ pub fn view<S: StringExt, T: StringExt>(text: &S, other: &T) -> usize {
     if views::last_byte(other).is_none() {
         return views::spare(text);
     }
+    if cuts::has_cut(text, 4) && cuts::split_last(text).is_some() {
+        return 4;
+    }
     views::length_of(other)
 }
 

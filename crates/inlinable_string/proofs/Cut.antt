@@ -1,5 +1,5 @@
 -- The cut of a text, and its last character.
-use Rattle.std.proofs.Common.{◌≡◌, ℕ, ◌+◌, ◌-◌, ◌<◌, ◌≤◌, true, false, nat_eq, nat_lt, List, [], ◌∷◌, ◌++◌, length, refl, sym, ap, ◌∙◌, arith, length-append, take, drop, take_at, take-append-drop, Option, Some, None, Bool, IsTrue, ◌↔◌}
+use Rattle.std.proofs.Common.{◌≡◌, ℕ, ◌+◌, ◌-◌, ◌<◌, ◌≤◌, true, false, nat_eq, nat_lt, List, [], ◌∷◌, ◌++◌, length, refl, sym, ap, ◌∙◌, arith, length-append, take, drop, take_at, take-append-drop, Option, Some, None, IsSome, Bool, IsTrue, ◌↔◌}
 use Rattle.std.proofs.lemmas.Bool.{cond_both, eqb-true}
 use Rattle.std.proofs.lemmas.Bool.Decides.{nat_tests}
 use Rattle.std.proofs.lemmas.List.{append_assoc, append-nil}
@@ -69,6 +69,17 @@ none_from (Some parts) h = absurd (h parts.0 parts.1 refl)
 
 pub no_cut : (t : List ℕ) (p : ℕ) → (IsPlace t p → ⊥) → cut t p ≡ None
 no_cut t p h = none_from (cut t p) (λ a b e. h (a, b, is_cut t p a b e))
+
+at_cut : (t : List ℕ) (p : ℕ) (o : Option (List ℕ × List ℕ)) → cut t p ≡ o → IsSome o → IsPlace t p
+at_cut t p None is kept = cc
+at_cut t p (Some parts) is kept = (parts.0, parts.1, is_cut t p parts.0 parts.1 is)
+
+at_place : (t : List ℕ) (p : ℕ) → IsPlace t p → IsSome (cut t p)
+at_place t p place = rw (cut_is t p place.0 place.1 place.2) refl
+
+-- a text is cut exactly at its places
+pub cut_where_place : (t : List ℕ) (p : ℕ) → IsSome (cut t p) ↔ IsPlace t p
+cut_where_place t p = (at_cut t p (cut t p) refl, at_place t p)
 
 pub split_last-append : (v : List ℕ) (c : ℕ) → split_last (v ++ c ∷ []) ≡ Some (v, c)
 split_last-append [] c = refl

@@ -80,6 +80,12 @@ popped-chars old new c u v e =
     let bytes = encodes-append (chars new) (c ∷ []) in
     sym (chars_from_encodes _ old u (bytes ∙ rw (encodes-chars new v, append-nil) (sym e)))
 
+-- and of bytes that begin with one
+pub stepped-chars : (old new : List ℕ) (c : ℕ) → IsUtf8 old → IsUtf8 new
+    → old ≡ encode_utf8 c ++ new → chars old ≡ c ∷ chars new
+stepped-chars old new c u v e =
+    sym (chars_from_encodes _ old u (ap (λ l. encode_utf8 c ++ l) (encodes-chars new v) ∙ sym e))
+
 -- the number of bytes that std counts
 pub size-string : {Z : Type 0} (s : String Z) → size (chars (string_bytes s)) ≡ string_len s
 size-string s = size-chars _ (IsUtf8-string_bytes s) ∙ sym s.bytes.ok.0

@@ -1,6 +1,7 @@
 //! Laws of places, sizes and values, for callers: a call of one, which does nothing, makes its
 //! clauses known to the proof of the function that calls it.
-ghost use Rattle.std.specs.Prelude.{◌≡◌, ◌↔◌, Some, codes, ℕ, ◌+◌, ◌≤◌, List, ◌++◌, [], ◌∷◌, length, take, drop, IsUtf8};
+ghost use Rattle.std.specs.Prelude.{◌≡◌, ◌↔◌, Some, IsSome, codes, ℕ, ◌+◌, ◌≤◌, List, ◌++◌, [], ◌∷◌, length, take, drop, IsUtf8};
+ghost use Rattle.std.specs.Char.{encode_utf8};
 ghost use Rattle.std.specs.Str.{chars, IsCharBoundary};
 ghost use Rattle.inlinable_string.specs.Text.{bytes_of, size, cut, IsCut, IsPlace, IsSplice, IsRemoval};
 ghost use Rattle.inlinable_string.specs.Values.{inlinable_state};
@@ -54,6 +55,21 @@ pub fn cuts_are_cuts_of_bytes()
 /// A text in two parts is cut between them: so it has one front of each size.
 pub fn parts_are_told_by_their_size()
     ensures { (a b : List ℕ) → cut (a ++ b) (size a) ≡ Some (a, b) }
+{}
+
+/// A text is cut exactly at its places: its start and its end are two of them.
+pub fn cuts_are_at_places()
+    ensures places { (t : List ℕ) (p : ℕ) → IsSome (cut t p) ↔ IsPlace t p }
+    ensures start { (t : List ℕ) → cut t 0 ≡ Some ([], t) }
+    ensures end { (t : List ℕ) → cut t (size t) ≡ Some (t, []) }
+{}
+
+/// The character that an iterator over a `&str` steps over is the first of its text, or the last.
+pub fn steps_are_over_characters()
+    ensures front { (bs rest : List ℕ) (c : ℕ) → IsUtf8 bs → IsUtf8 rest
+        → bs ≡ encode_utf8 c ++ rest → chars bs ≡ c ∷ chars rest }
+    ensures back { (bs rest : List ℕ) (c : ℕ) → IsUtf8 bs → IsUtf8 rest
+        → bs ≡ rest ++ encode_utf8 c → chars bs ≡ chars rest ++ c ∷ [] }
 {}
 
 /// The bytes of a text in two parts are those of the first and then those of the second, and the

@@ -1,19 +1,18 @@
 //! A line editor.
 ghost use Rattle.std.specs.Prelude.{◌≡◌, ℕ, ◌+◌, ◌≤◌, ◌<◌, ◌↔◌, ◌++◌, [], ◌∷◌, length, IsTrue, MatchOption};
-ghost use Rattle.std.specs.Str.{chars};
 ghost use Rattle.inlinable_string.specs.Text.{bytes_of, size};
 ghost use Rattle.inline_uses.specs.Editor.{Parts, text_of};
 
 use inlinable_string::InlineStringN;
-use inlinable_string::laws::{parts_are_told_by_their_size, places_are_boundaries, sizes_of_parts};
+use inlinable_string::laws::{
+    cuts_are_at_places, cuts_are_cuts_of_bytes, parts_are_told_by_their_size,
+    places_are_boundaries, sizes_of_parts, steps_are_over_characters,
+};
 use inlinable_string::run::cut_decides_places;
 use std::marker::Model;
 
-mod places;
 #[cfg(test)]
 mod tests;
-
-use places::{ends_are_places, kept_places};
 
 /// A line of at most `N` bytes, and a cursor in it. A contract sees the characters before the
 /// cursor and those behind it, so that a cursor inside a character can't be said.
@@ -63,7 +62,7 @@ impl<const N: usize> Line<N> {
         ensures fits { IsTrue result ↔ (size (text_of self.old) + size (ch ∷ []) ≤ N) }
     {
         cut_decides_places();
-        kept_places();
+        cuts_are_at_places();
         parts_are_told_by_their_size();
         sizes_of_parts();
         match self.text.insert(self.cursor, ch) {
@@ -83,8 +82,7 @@ impl<const N: usize> Line<N> {
         ensures before { self.new.before ≡ self.old.before }
     {
         cut_decides_places();
-        kept_places();
-        ends_are_places();
+        cuts_are_at_places();
         places_are_boundaries();
         parts_are_told_by_their_size();
         if self.cursor < self.text.len() {
@@ -94,14 +92,68 @@ impl<const N: usize> Line<N> {
         }
     }
 
+    /// Takes out the character before the cursor, and gives it.
+    pub fn backspace(&mut self) -> Option<char>
+        ensures taken { MatchOption result
+            ((self.old.before ≡ []) × (self.new.before ≡ []))
+            (λ ch. self.old.before ≡ self.new.before ++ ch ∷ []) }
+        ensures behind { self.new.behind ≡ self.old.behind }
+    {
+        self.left()?;
+        self.delete()
+    }
+
+    /// Moves the cursor before the character that stands before it, and gives that; `None` at the
+    /// start.
+    pub fn left(&mut self) -> Option<char>
+        ensures passed { MatchOption result
+            ((self.old.before ≡ []) × (self.new.before ≡ []))
+            (λ ch. self.old.before ≡ self.new.before ++ ch ∷ []) }
+        ensures behind { MatchOption result
+            (self.new.behind ≡ self.old.behind)
+            (λ ch. self.new.behind ≡ ch ∷ self.old.behind) }
+    {
+        cut_decides_places();
+        cuts_are_at_places();
+        cuts_are_cuts_of_bytes();
+        places_are_boundaries();
+        sizes_of_parts();
+        steps_are_over_characters();
+        let mut front = self.text.as_str()[..self.cursor].chars();
+        let passed = front.next_back()?;
+        self.cursor = front.as_str().len();
+        Some(passed)
+    }
+
+    /// Moves the cursor behind the character that stands behind it, and gives that; `None` at the
+    /// end.
+    pub fn right(&mut self) -> Option<char>
+        ensures passed { MatchOption result
+            ((self.old.behind ≡ []) × (self.new.behind ≡ []))
+            (λ ch. self.old.behind ≡ ch ∷ self.new.behind) }
+        ensures before { MatchOption result
+            (self.new.before ≡ self.old.before)
+            (λ ch. self.new.before ≡ self.old.before ++ ch ∷ []) }
+    {
+        cut_decides_places();
+        cuts_are_at_places();
+        cuts_are_cuts_of_bytes();
+        places_are_boundaries();
+        sizes_of_parts();
+        steps_are_over_characters();
+        let mut rest = self.text.as_str()[self.cursor..].chars();
+        let passed = rest.next()?;
+        self.cursor = self.text.len() - rest.as_str().len();
+        Some(passed)
+    }
+
     /// Takes out all behind the cursor.
     pub fn kill_to_end(&mut self)
         ensures before { self.new.before ≡ self.old.before }
         ensures behind { self.new.behind ≡ [] }
     {
         cut_decides_places();
-        kept_places();
-        ends_are_places();
+        cuts_are_at_places();
         self.text.truncate(self.cursor);
     }
 
@@ -111,7 +163,7 @@ impl<const N: usize> Line<N> {
         ensures behind { self.new.behind ≡ text_of self.old }
     {
         cut_decides_places();
-        ends_are_places();
+        cuts_are_at_places();
         self.cursor = 0;
     }
 
@@ -121,7 +173,7 @@ impl<const N: usize> Line<N> {
         ensures behind { self.new.behind ≡ [] }
     {
         cut_decides_places();
-        ends_are_places();
+        cuts_are_at_places();
         self.cursor = self.text.len();
     }
 }

@@ -23,3 +23,26 @@ fn a_line_is_typed_and_mended(rt: HostRuntime) -> Result<(), Fail> {
     assert_eq!(rt; line.text(), "a𝄞b");
     Ok(())
 }
+
+#[test]
+fn a_cursor_moves_by_whole_characters(rt: HostRuntime) -> Result<(), Fail> {
+    let mut line: Line<9> = Line::new();
+    for ch in ['a', 'ü', '𝄞'] {
+        assert!(rt; line.type_char(ch));
+    }
+    assert_eq!(rt; line.right(), None);
+    assert_eq!(rt; line.left(), Some('𝄞'));
+    assert_eq!(rt; line.left(), Some('ü'));
+    assert_eq!(rt; line.right(), Some('ü'));
+    assert_eq!(rt; line.backspace(), Some('ü'));
+    assert_eq!(rt; line.text(), "a𝄞");
+    assert!(rt; line.type_char('€'));
+    assert_eq!(rt; line.text(), "a€𝄞");
+    assert_eq!(rt; line.left(), Some('€'));
+    assert_eq!(rt; line.left(), Some('a'));
+    assert_eq!(rt; line.left(), None);
+    assert_eq!(rt; line.backspace(), None);
+    assert_eq!(rt; line.delete(), Some('a'));
+    assert_eq!(rt; line.text(), "€𝄞");
+    Ok(())
+}
