@@ -16,7 +16,7 @@ pub fn sum_of(task: &Task) -> Option<u64> {
         "with_limit" => with_limit(task),
         "json" => json(task),
         "run_dyn" => lists::run_on_dyn(task),
-        _ => return loops::sum_of::<InlinableString>(task),
+        _ => return loops::sum_at::<30>(task),
     };
     sum.ok()
 }

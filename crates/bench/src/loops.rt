@@ -1,8 +1,11 @@
 //! Workloads on texts that are made, edited and read.
+ghost use Rattle.std.specs.Prelude.{◌≤◌};
+
 use crate::pieces::{sink, summed, texts_of, words_of};
 use crate::task::Task;
 use crate::text::Text;
 use crate::{keys, lists, readers};
+use inlinable_string::InlinableStringN;
 use std::alloc::AllocError;
 
 /// The checksum of a workload; none where there is no such workload, or memory is refused.
@@ -35,6 +38,14 @@ pub fn sum_of<T: Text>(task: &Task) -> Option<u64> {
         _ => return None,
     };
     sum.ok()
+}
+
+/// The same on a text of this capacity: one proof for all. A text of at most 62 bytes has a size
+/// that memory can hold, which is to be known of any `T`.
+pub fn sum_at<const N: usize>(task: &Task) -> Option<u64>
+    requires { N ≤ 62 }
+{
+    sum_of::<InlinableStringN<N>>(task)
 }
 
 #[inline(never)]

@@ -14,7 +14,6 @@ mod readers;
 mod task;
 mod text;
 
-use inlinable_string::{InlinableString, InlinableStringN};
 use std::env;
 use std::env::Env;
 use std::io::Read;
@@ -52,11 +51,11 @@ fn sum_on(text: &str, task: &Task) -> Option<u64> {
     match text {
         "InlinableString" => joins::sum_of(task),
         "String" => loops::sum_of::<String>(task),
-        "InlinableStringN<0>" => loops::sum_of::<InlinableStringN<0>>(task),
-        "InlinableStringN<8>" => loops::sum_of::<InlinableStringN<8>>(task),
-        "InlinableStringN<22>" => loops::sum_of::<InlinableStringN<22>>(task),
-        "InlinableStringN<30>" => loops::sum_of::<InlinableStringN<30>>(task),
-        "InlinableStringN<62>" => loops::sum_of::<InlinableStringN<62>>(task),
+        "InlinableStringN<0>" => loops::sum_at::<0>(task),
+        "InlinableStringN<8>" => loops::sum_at::<8>(task),
+        "InlinableStringN<22>" => loops::sum_at::<22>(task),
+        "InlinableStringN<30>" => loops::sum_at::<30>(task),
+        "InlinableStringN<62>" => loops::sum_at::<62>(task),
         _ => None,
     }
 }

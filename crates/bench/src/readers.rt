@@ -2,7 +2,7 @@
 use crate::pieces::{byte_at, pieces_of, sink, summed};
 use crate::task::Task;
 use crate::text::Text;
-use std::alloc::AllocError;
+use std::alloc::{AllocError, Global};
 use std::borrow::CowStr;
 
 /// A vector of the piece is part of the work; 1 for a piece that is no text.
@@ -56,15 +56,20 @@ pub fn from_utf16_lossy<T: Text>(task: &Task) -> Result<u64, AllocError> {
     })
 }
 
-/// The units of each piece, which has the lower byte of each first.
+/// The units of each piece.
 fn units_of(task: &Task) -> Result<Vec<Vec<u16>>, AllocError> {
     let mut units = Vec::new(task.alloc);
     for piece in pieces_of(task)?.iter() {
-        let mut read = Vec::new(task.alloc);
-        for pair in piece.chunks_exact(2) {
-            read.push(u16::from_le_bytes([pair[0], pair[1]]))?;
-        }
-        units.push(read)?;
+        units.push(units_in(task.alloc, piece)?)?;
+    }
+    Ok(units)
+}
+
+/// The units of a piece, which has the lower byte of each first.
+fn units_in(alloc: Global, piece: &[u8]) -> Result<Vec<u16>, AllocError> {
+    let mut units = Vec::new(alloc);
+    for pair in piece.chunks_exact(2) {
+        units.push(u16::from_le_bytes([pair[0], pair[1]]))?;
     }
     Ok(units)
 }
