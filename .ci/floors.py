@@ -104,7 +104,7 @@ DEPARTURES = 10
 PROMISES = 158
 
 # Rows of data that each picture of `docs/` is drawn from.
-PICTURES = {'array': 8, 'ways': 23, 'gate': 12}
+PICTURES = {'array': 8, 'ways': 23, 'bench': 16, 'gate': 12}
 
 # What `CALLING.md` quotes of the sources: fences, clauses, words, laws, and laws with a caller's line.
 QUOTED = {'blocks': 23, 'clauses': 231, 'words': 49, 'laws': 67, 'cited': 58}

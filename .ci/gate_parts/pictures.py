@@ -1,13 +1,13 @@
 """gate pictures [--draw]: the pictures of `docs/` are those that are drawn from their data.
 
-The data of a picture are rows in `docs/pictures/`, or what `.ci/run` and `docs/TESTING.md` say of the
-parts; each is held against the sources before it is drawn. `--draw` writes the pictures, and shows
+The data of a picture are rows in `docs/pictures/`, the table of `bench/README.md`, or what `.ci/run` and
+`docs/TESTING.md` say of the parts; each is held against the sources before it is drawn. `--draw` writes the pictures, and shows
 nothing: it then fails where the data do not stand.
 """
 import os
 
 from floors import PICTURES
-from gate_parts import drawn_array, drawn_gate, drawn_ways
+from gate_parts import drawn_array, drawn_bench, drawn_gate, drawn_ways
 from gate_parts.options import options
 from gate_parts.tree import Failure, in_tree, text_of, write_text
 
@@ -24,6 +24,7 @@ def rows_of_file(name):
 DRAWN = {
     'array': (lambda: rows_of_file('array'), drawn_array.drawing),
     'ways': (lambda: rows_of_file('ways'), drawn_ways.drawing),
+    'bench': (drawn_bench.rows, drawn_bench.drawing),
     'gate': (drawn_gate.rows, drawn_gate.drawing),
 }
 

@@ -684,6 +684,7 @@ class Pictures(InSmallRepository):
         super().setUp()
         shutil.copytree(in_tree('docs'), os.path.join(self.place, 'docs'))
         shutil.copytree(in_tree('crates/inlinable_string/src'), os.path.join(self.place, 'crates/inlinable_string/src'))
+        self.write('bench/README.md', text_of(in_tree('bench', 'README.md')))
 
     def changed(self, path, old, new):
         text = text_of(os.path.join(self.place, path))
@@ -712,6 +713,10 @@ class Pictures(InSmallRepository):
         self.changed('docs/pictures/array.rows', 'remove 8 | 2 |', 'remove 8 | 1 |')
         self.changed('docs/pictures/ways.rows', 'shrink_to_fit | at most N', 'shrink | at most N')
         self.assert_fails("not in the sources ['shrink']", 'pictures', '--draw')
+
+    def test_workload_that_the_bench_lost(self):
+        self.changed('bench/README.md', '| eq 30 |', '| eq 31 |')
+        self.assert_fails('bench/README.md has no row for eq 30', 'pictures', '--draw')
 
     def test_part_of_which_nothing_is_told(self):
         self.changed('.ci/run', 'part .ci/gate pairs\n', 'part .ci/gate pairs\npart .ci/gate others\n')
