@@ -1,3 +1,4 @@
 pub mod Editor
+pub mod Store
 pub mod Symbols
 pub mod Tokens

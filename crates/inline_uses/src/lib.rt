@@ -3,5 +3,6 @@
 #![tactic(auto)]
 
 pub mod editor;
+pub mod store;
 pub mod symbols;
 pub mod tokens;

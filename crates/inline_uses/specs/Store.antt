@@ -1,0 +1,44 @@
+-- What the contracts of a store cite: its whole state is a list of keys with their values, each as
+-- its bytes, in which each key stands once, in the order of the keys.
+use Rattle.std.specs.Prelude.{ℕ, List, Option, map}
+use Rattle.std.specs.declared.cmp.Ordering.{Ordering}
+use Rattle.std.specs.Ordering.{nat_cmp}
+use Rattle.std.specs.Cmp.Lexicographic.{slice_cmp}
+use Rattle.std.specs.List.Sorted.{IsStrictlySortedBy}
+use Rattle.std.specs.Map.{keys_of, lookup, remove_entry}
+use Rattle.std.specs.BTreeMap.{is_at, insert_entry}
+use Rattle.inline_uses.specs.Symbols.{bytes_at}
+use Rattle.inlinable_string.specs.declared.inlinable_string.InlinableStringN.{InlinableStringN}
+use Rattle.inline_uses.specs.declared.store.Store.TheInside.{Inside}
+
+-- keys with their values
+abbrev pub Entries : Type 0
+Entries = List (List ℕ × List ℕ)
+
+-- how keys are ordered: by their bytes, a front before the whole
+abbrev pub key_order : List ℕ → List ℕ → Ordering
+key_order = slice_cmp nat_cmp
+
+-- each key is below those after it
+abbrev pub AreInOrder : Entries → Type 0
+AreInOrder entries = IsStrictlySortedBy key_order (keys_of entries)
+
+-- the value under a key
+abbrev pub value_of : Entries → List ℕ → Option (List ℕ)
+value_of entries key = lookup (is_at (key_order key)) entries
+
+-- the entries with a value under a key, in the place of the one that it had
+abbrev pub with_value : Entries → List ℕ → List ℕ → Entries
+with_value entries key value = insert_entry key_order entries key value
+
+-- the entries without a key
+abbrev pub without : Entries → List ℕ → Entries
+without entries key = remove_entry (is_at (key_order key)) entries
+
+-- a key with its value, which lie anywhere
+abbrev pub entry_of : InlinableStringN 30 × InlinableStringN 30 → List ℕ × List ℕ
+entry_of entry = (bytes_at entry.0, bytes_at entry.1)
+
+-- the keys of a store with their values
+abbrev pub entries_of : Inside → Entries
+entries_of a = map entry_of a.entries.entries
