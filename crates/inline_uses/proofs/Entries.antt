@@ -22,7 +22,7 @@ by_test : {A B : Type 0} (f : A → B) (b : Bool) (x y : A) (z : B) → f y ≡ 
 by_test f true x y z e = refl
 by_test f false x y z e = e
 
-by_order : {A B : Type 0} (f : A → B) (o : Ordering) (x y z : A) (w : B) → f z ≡ w
+pub by_order : {A B : Type 0} (f : A → B) (o : Ordering) (x y z : A) (w : B) → f z ≡ w
     → f (match_ordering o x y z) ≡ match_ordering o (f x) (f y) w
 by_order f Less x y z w e = refl
 by_order f Equal x y z w e = refl

@@ -1,4 +1,5 @@
 pub mod Entries
+pub mod Members
 pub mod Tables
 pub mod Words
 pub mod Cursor

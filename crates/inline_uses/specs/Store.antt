@@ -1,12 +1,15 @@
 -- What the contracts of a store cite: its whole state is a list of keys with their values, each as
 -- its bytes, in which each key stands once, in the order of the keys.
-use Rattle.std.specs.Prelude.{ℕ, List, Option, map}
+use Rattle.std.specs.Prelude.{ℕ, List, [], Option, Some, map, option_and_then}
 use Rattle.std.specs.declared.cmp.Ordering.{Ordering}
 use Rattle.std.specs.Ordering.{nat_cmp}
 use Rattle.std.specs.Cmp.Lexicographic.{slice_cmp}
 use Rattle.std.specs.List.Sorted.{IsStrictlySortedBy}
 use Rattle.std.specs.Map.{keys_of, lookup, remove_entry}
 use Rattle.std.specs.BTreeMap.{is_at, insert_entry}
+use Rattle.serde_json.specs.Data.{Members, no_members, member}
+use Rattle.serde_json.specs.Find.{as_object, as_str}
+use Rattle.serde_json.specs.Read.{read}
 use Rattle.inline_uses.specs.Symbols.{bytes_at}
 use Rattle.inlinable_string.specs.declared.inlinable_string.InlinableStringN.{InlinableStringN}
 use Rattle.inline_uses.specs.declared.store.Store.TheInside.{Inside}
@@ -42,3 +45,13 @@ entry_of entry = (bytes_at entry.0, bytes_at entry.1)
 -- the keys of a store with their values
 abbrev pub entries_of : Inside → Entries
 entries_of a = map entry_of a.entries.entries
+
+-- the entries with the members of a JSON object put in one after another, if each is a string
+abbrev pub with_members : Entries → Members → Option Entries
+with_members entries no_members = Some entries
+with_members entries (member key datum members) = option_and_then
+    (λ value. with_members (with_value entries key value) members) (as_str datum)
+
+-- the entries that bytes tell: those of a JSON object of strings
+abbrev pub entries_in : List ℕ → Option Entries
+entries_in bytes = option_and_then (with_members []) (option_and_then as_object (read bytes))

@@ -9,6 +9,7 @@ use std::collections::BTreeMap;
 use std::collections::btree_map::Iter;
 use std::marker::Model;
 
+pub mod json;
 #[cfg(test)]
 mod tests;
 
@@ -39,6 +40,7 @@ impl Store {
     }
 
     /// How many keys have a value.
+    #[tactic(auto, using(crate::proofs::Entries::in_order))]
     pub fn len(&self) -> usize
         ensures count { result ≡ length self.now }
         ensures order { AreInOrder self.now }
@@ -46,7 +48,8 @@ impl Store {
         self.entries.len()
     }
 
-    /// The value under a key, if it has one. Only a key of more than 30 bytes can be refused memory.
+    /// The value under a key, if it has one. Only a key of more than 30 bytes can be refused
+    /// memory.
     pub fn get(&self, key: &str) -> Result<Option<&str>, AllocError>
         ensures value { IfOk result (λ value. option_copied value ≡ value_of self.now key.now) }
         ensures short { length key.now ≤ 30 → IsOk result }
@@ -59,8 +62,8 @@ impl Store {
         Ok(Some(value.as_str()))
     }
 
-    /// Puts a value under a key, in the place of the one that it had. What is short and goes under a
-    /// short key that has a value is not refused.
+    /// Puts a value under a key, in the place of the one that it had. A short value under a short
+    /// key that has one is not refused.
     pub fn put(&mut self, key: &str, value: &str) -> Result<(), AllocError>
         ensures ok { OnOk result (self.new ≡ with_value self.old key.now value.now) }
         ensures err { OnErr result (self.new ≡ self.old) }
@@ -90,6 +93,7 @@ impl Store {
     }
 
     /// The keys with their values, in the order of the keys.
+    #[tactic(auto, using(crate::proofs::Entries::in_order))]
     pub fn scan(&self) -> Iter<'_, InlinableString, InlinableString>
         ensures all { map entry_of result ≡ self.now }
         ensures order { AreInOrder self.now }

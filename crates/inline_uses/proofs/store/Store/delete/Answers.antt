@@ -12,4 +12,5 @@ returns-clause-ok c =
 pub returns-clause-found : goal.returns-clause-found
 returns-clause-found c =
     let key : bytes_at c.in_ok-key.key ≡ c.args.key.now = search rules in
-    rw (← c.self.view_is, ← key, ← finds c.in_ok-key.key c.self.inside.entries.entries) (search rules)
+    rw (← c.self.view_is, ← key, ← finds c.in_ok-key.key c.self.inside.entries.entries)
+    (search rules)

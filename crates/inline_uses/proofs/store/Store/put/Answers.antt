@@ -13,4 +13,5 @@ returns-in-Ok-clause-ok c =
 pub returns-clause-short : goal.returns-clause-short
 returns-clause-short c =
     let key : bytes_at c.in_ok-key.key ≡ c.args.key.now = search rules in
-    rw (← c.self.view_is, ← key, ← finds c.in_ok-key.key c.self.inside.entries.entries) (search rules)
+    rw (← c.self.view_is, ← key, ← finds c.in_ok-key.key c.self.inside.entries.entries)
+    (search rules)

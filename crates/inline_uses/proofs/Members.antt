@@ -1,0 +1,63 @@
+-- The entries of a store, and the members of a JSON object.
+use Rattle.std.proofs.Common.{◌≡◌, ℕ, List, [], ◌∷◌, ◌++◌, Some, Ordering, Less, Equal, Greater, refl, sym, ap, ◌∙◌, append-nil}
+use Rattle.std.proofs.lemmas.Cmp.{nat_list_cmp_total}
+use Rattle.std.proofs.lemmas.List.{append_assoc}
+use Rattle.std.specs.List.{AllByRecursion}
+use Rattle.std.specs.List.Sorted.{IsStrictlySortedBy}
+use Rattle.std.specs.Map.{keys_of}
+use Rattle.std.specs.Ordering.{match_ordering, ordering_reverse}
+use Rattle.serde_json.specs.Data.{string, Members, no_members, member, put, members_depth}
+use Rattle.inline_uses.proofs.Entries.{by_order}
+use Rattle.inline_uses.specs.Store.{Entries, key_order, AreInOrder, with_value, with_members}
+
+-- the members of a JSON object with the values as strings under their keys
+abbrev pub members_of : Entries → Members
+members_of [] = no_members
+members_of (e ∷ entries) = member e.0 (string e.1) (members_of entries)
+
+-- the entries with others put in one after another
+abbrev pub with_all : Entries → Entries → Entries
+with_all entries [] = entries
+with_all entries (e ∷ more) = with_all (with_value entries e.0 e.1) more
+
+below : (key : List ℕ) (done : Entries) (e : List ℕ × List ℕ) (more : Entries)
+    → AllByRecursion (λ k. key_order key k ≡ Less) (keys_of (done ++ e ∷ more))
+    → key_order key e.0 ≡ Less
+below key [] e more h = h.0
+below key (d ∷ done) e more h = below key done e more h.1
+
+-- a key that is above those before it goes last
+goes_last : (done : Entries) (e : List ℕ × List ℕ) (more : Entries)
+    → AreInOrder (done ++ e ∷ more) → with_value done e.0 e.1 ≡ done ++ e ∷ []
+unfolding IsStrictlySortedBy
+goes_last [] e more h = refl
+goes_last (d ∷ done) e more h =
+    let above : key_order e.0 d.0 ≡ Greater =
+    nat_list_cmp_total.antisymm e.0 d.0 ∙ ap ordering_reverse (below d.0 done e more h.0) in
+    rw above (ap (λ rest. d ∷ rest) (goes_last done e more h.1))
+
+in_turn : (done more : Entries) → AreInOrder (done ++ more) → with_all done more ≡ done ++ more
+in_turn done [] h = sym (append-nil done)
+in_turn done (e ∷ more) h =
+    rw (goes_last done e more h)
+    (in_turn (done ++ e ∷ []) more (rw append_assoc h) ∙ append_assoc done (e ∷ []) more)
+
+-- entries in order, put in one after another, are themselves
+pub all_in_turn : (entries : Entries) → AreInOrder entries → with_all [] entries ≡ entries
+all_in_turn entries h = in_turn [] entries h
+
+-- a value that is put in is a member that is put in
+pub put_in : (entries : Entries) (key value : List ℕ)
+    → put key (string value) (members_of entries) ≡ members_of (with_value entries key value)
+put_in [] key value = refl
+put_in (e ∷ entries) key value = sym (by_order members_of (key_order key e.0) _ _ _ _
+    (ap (λ rest. member e.0 (string e.1) rest) (sym (put_in entries key value))))
+
+pub read_back : (entries more : Entries)
+    → with_members entries (members_of more) ≡ Some (with_all entries more)
+read_back entries [] = refl
+read_back entries (e ∷ more) = read_back (with_value entries e.0 e.1) more
+
+pub flat : (entries : Entries) → members_depth (members_of entries) ≡ 0
+flat [] = refl
+flat (e ∷ entries) = rw (flat entries) refl

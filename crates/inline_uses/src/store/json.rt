@@ -1,0 +1,101 @@
+//! A store as the bytes of a JSON object, and back.
+ghost use Rattle.std.specs.Prelude.{◌≡◌, [], Some, None, Err, IfOk, IsUtf8};
+ghost use Rattle.serde_json.specs.Data.{members_depth};
+ghost use Rattle.serde_json.specs.View.{members_view};
+ghost use Rattle.inline_uses.specs.Store.{entries_in, with_members};
+ghost use Rattle.inline_uses.specs.declared.store.json.ReadError.TheVariants.{NoMemory};
+
+use super::Store;
+use inlinable_string::StringExt;
+use serde_json::{Map, Value, put};
+use std::alloc::{AllocError, Global};
+
+#[cfg(test)]
+mod tests;
+
+/// Why bytes were not read as a store.
+#[derive(Clone, Copy, Debug, PartialEq, Eq)]
+pub enum ReadError {
+    /// They are not the JSON of an object of strings.
+    NotAStore,
+    /// They may be, and memory was refused.
+    NoMemory,
+}
+
+impl From<AllocError> for ReadError {
+    ghost from_gives = { λ _ error. error ≡ NoMemory };
+
+    fn from(_: AllocError) -> Self {
+        ReadError::NoMemory
+    }
+}
+
+impl Store {
+    /// The JSON object with the values as strings under their keys.
+    pub fn to_bytes(&self) -> Result<Vec<u8>, AllocError>
+        ensures entries { IfOk result (λ bytes. entries_in bytes.items ≡ Some self.now) }
+        ensures utf8 { IfOk result (λ bytes. IsUtf8 bytes.items) }
+    {
+        let bytes = Value::Object(self.members()?).to_vec(self.alloc)?;
+        Ok(bytes)
+    }
+
+    /// The members of that object.
+    fn members(&self) -> Result<Map<String, Value>, AllocError>
+        ensures entries { IfOk result (λ members.
+            with_members [] (members_view members.entries) ≡ Some self.now) }
+        ensures flat { IfOk result (λ members. members_depth (members_view members.entries) ≡ 0) }
+    {
+        let mut members = Map::new(self.alloc);
+        for (key, value) in self.scan() {
+            put(&mut members, self.alloc, key.as_str(), value.to_json()?)?;
+        }
+        Ok(members)
+    }
+
+    /// The store that the bytes tell. Fails with [`ReadError::NotAStore`] only on what is not the
+    /// JSON of an object of strings, so never on what [`Store::to_bytes`] gave.
+    pub fn from_bytes(alloc: Global, bytes: &[u8]) -> Result<Self, ReadError>
+        ensures entries { IfOk result (λ store. entries_in bytes.now ≡ Some store) }
+        ensures not_a_store { result ≡ Err ReadError.NotAStore → IsUtf8 bytes.now
+            → entries_in bytes.now ≡ None }
+    {
+        match Value::from_slice(alloc, bytes) {
+            Ok(Value::Object(members)) => Self::from_members(alloc, &members),
+            Ok(_) => Err(ReadError::NotAStore),
+            Err(error) => {
+                if error.is_memory() {
+                    Err(ReadError::NoMemory)
+                } else {
+                    Err(ReadError::NotAStore)
+                }
+            }
+        }
+    }
+
+    /// The store of the members of an object.
+    fn from_members(alloc: Global, members: &Map<String, Value>) -> Result<Self, ReadError>
+        ensures entries { IfOk result (λ store.
+            with_members [] (members_view members.now.entries) ≡ Some store) }
+        ensures not_a_store { result ≡ Err ReadError.NotAStore
+            → with_members [] (members_view members.now.entries) ≡ None }
+    {
+        let mut store = Store::new(alloc);
+        for (name, value) in members {
+            let Some(text) = value.as_str() else {
+                return Err(ReadError::NotAStore);
+            };
+            store.put(name.as_str(), text)?;
+        }
+        Ok(store)
+    }
+}
+
+/// A store goes through its bytes and comes back the same; only memory can be wanting.
+pub fn copied(store: &Store) -> Result<Store, ReadError>
+    ensures same { IfOk result (λ copy. copy ≡ store.now) }
+    ensures granted { ¬ (result ≡ Err ReadError.NotAStore) }
+{
+    let bytes = store.to_bytes()?;
+    Store::from_bytes(store.alloc, &bytes)
+}
