@@ -1,5 +1,6 @@
 pub mod Entries
 pub mod Members
 pub mod Tables
+pub mod Trees
 pub mod Words
 pub mod Cursor

@@ -14,7 +14,7 @@ pub at_push : {X : Type 0} (xs : List X) (y : X) → slice_get (xs ++ y ∷ []) 
 at_push [] y = refl
 at_push (z ∷ xs) y = at_push xs y
 
-from_push : {X : Type 0} (xs : List X) (x y : X) (i : ℕ) → slice_get (xs ++ y ∷ []) i ≡ Some x
+pub from_push : {X : Type 0} (xs : List X) (x y : X) (i : ℕ) → slice_get (xs ++ y ∷ []) i ≡ Some x
     → (slice_get xs i ≡ Some x) ⊎ ((i ≡ length xs) × (y ≡ x))
 from_push [] x y zero is = inr (refl, cc)
 from_push [] x y (suc i) is = cc
@@ -35,7 +35,7 @@ if_not_found None p finds = λ i h. let e : None ≡ Some i = finds i h in cc
 if_not_found (Some i) p finds = search rules
 
 -- a text that has no id gets one
-pub one_id_pushed : (texts : List (List ℕ)) (text : List ℕ)
+pub one_id_pushed : {X : Type 0} (texts : List X) (text : X)
     → ((i : ℕ) → ¬ (slice_get texts i ≡ Some text)) → HaveOneId texts
     → HaveOneId (texts ++ text ∷ [])
 one_id_pushed texts text none once i j t is js =

@@ -2,3 +2,4 @@ pub mod Editor
 pub mod Store
 pub mod Symbols
 pub mod Tokens
+pub mod Tree

@@ -16,8 +16,8 @@ abbrev pub is_same : InlinableStringN 30 → InlinableStringN 30 → Bool
 is_same s t = pointwise nat_eq (bytes_at s) (bytes_at t)
 
 -- no text has two ids
-abbrev pub HaveOneId : List (List ℕ) → Type 0
-HaveOneId texts = (i j : ℕ) (text : List ℕ)
+abbrev pub HaveOneId : {X : Type 0} → List X → Type 0
+HaveOneId texts = (i j : ℕ) (text : _)
     → slice_get texts i ≡ Some text → slice_get texts j ≡ Some text → i ≡ j
 
 -- the texts of a table by their ids

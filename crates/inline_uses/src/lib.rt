@@ -6,3 +6,4 @@ pub mod editor;
 pub mod store;
 pub mod symbols;
 pub mod tokens;
+pub mod tree;

@@ -1,0 +1,172 @@
+//! A document's tree: nodes with short keys, of which no two under one node are equal.
+ghost use Rattle.std.specs.Prelude.{◌≡◌, ℕ, ◌<◌, ◌≤◌, ◌↔◌, List, [], ◌∷◌, ◌++◌, length, slice_get, Some, None, Err, IfOk, OnOk, OnErr, IsTrue, option_map};
+ghost use Rattle.std.specs.Str.{chars};
+ghost use Rattle.inlinable_string.specs.Values.{inlinable_state};
+ghost use Rattle.inline_uses.specs.Tree.{node_at, IsPlaceOf, IsTree, Leads, joined};
+
+use inlinable_string::laws::{bytes_of_parts, splices_at_the_ends};
+use inlinable_string::{InlinableString, InlineStringN, StringExt, StringMake};
+use std::alloc::{AllocError, Global};
+use std::marker::Model;
+
+#[cfg(test)]
+mod tests;
+
+/// A node: what it is under, which is a node by its number or the top, and its key there.
+#[derive(Drop)]
+pub struct Node {
+    pub parent: Option<usize>,
+    pub key: InlineStringN<16>,
+}
+
+/// Why a tree was refused.
+#[derive(Clone, Copy, Debug, PartialEq, Eq)]
+pub enum Fault {
+    /// A key has more than 16 bytes.
+    LongKey,
+    /// There is no such node.
+    NoNode,
+    /// The key stands there already.
+    Taken,
+    /// Memory was refused.
+    NoMemory,
+}
+
+impl From<AllocError> for Fault {
+    ghost use Rattle.inline_uses.specs.declared.tree.Fault.TheVariants.{NoMemory};
+
+    ghost from_gives = { λ _ fault. fault ≡ NoMemory };
+
+    fn from(_: AllocError) -> Self {
+        Fault::NoMemory
+    }
+}
+
+/// A tree, whose nodes are numbered in the order in which they came. A contract sees the list of
+/// them.
+#[derive(Drop)]
+pub struct Tree {
+    nodes: Vec<Node>,
+}
+
+impl Model for Tree {
+    ghost use Rattle.std.specs.Prelude.{List};
+    ghost use Rattle.inline_uses.specs.declared.tree.Node.{Node};
+    ghost use Rattle.inline_uses.specs.Tree.{IsTree};
+
+    ghost Value = { List Node };
+
+    ghost view = { λ s. s.nodes.items };
+
+    ghost invariant = { λ s. IsTree s.nodes.items };
+}
+
+impl Tree {
+    /// The tree of no node.
+    pub fn new(alloc: Global) -> Self
+        ensures { result ≡ [] }
+    {
+        Tree {
+            nodes: Vec::new(alloc),
+        }
+    }
+
+    /// How many nodes there are. No two of them that are under one place have the same key.
+    pub fn len(&self) -> usize
+        ensures count { result ≡ length self.now }
+        ensures tree { IsTree self.now }
+    {
+        self.nodes.len()
+    }
+
+    /// A node by its number.
+    pub fn node(&self, id: usize) -> Option<&Node>
+        ensures { option_map (λ node. node.now) result ≡ slice_get self.now id }
+    {
+        self.nodes.get(id)
+    }
+
+    /// The node under a place that has this key, if there is one.
+    pub fn child(&self, place: Option<usize>, key: &str) -> Option<usize>
+        ensures { (id : ℕ) → (result ≡ Some id)
+            ↔ (slice_get self.now id ≡ Some (node_at place (chars key.now))) }
+    {
+        self.nodes.iter().position(|node| is_at(node, place, key))
+    }
+
+    /// Puts a node with this key under a place, behind the others. A refusal changes nothing.
+    pub fn add(&mut self, place: Option<usize>, key: &str) -> Result<usize, Fault>
+        ensures id { IfOk result (λ id. id ≡ length self.old) }
+        ensures ok { OnOk result (self.new ≡ self.old ++ node_at place (chars key.now) ∷ []) }
+        ensures err { OnErr result (self.new ≡ self.old) }
+
+        // When each fault comes.
+        ensures long_key { (result ≡ Err Fault.LongKey) ↔ (16 < length key.now) }
+        ensures no_node { result ≡ Err Fault.NoNode → ¬ (IsPlaceOf self.old place) }
+        ensures taken { result ≡ Err Fault.Taken
+            → (id : ℕ) × (slice_get self.old id ≡ Some (node_at place (chars key.now))) }
+    {
+        let Ok(short) = key.parse() else {
+            return Err(Fault::LongKey);
+        };
+        if !self.has(place) {
+            return Err(Fault::NoNode);
+        }
+        match self.child(place, key) {
+            Some(_) => Err(Fault::Taken),
+            None => Ok(self.put(place, short)?),
+        }
+    }
+
+    /// Puts a node under a place that has none with its key.
+    fn put(&mut self, parent: Option<usize>, key: InlineStringN<16>) -> Result<usize, AllocError>
+        requires place { IsPlaceOf self.old parent }
+        requires none { (id : ℕ) → ¬ (slice_get self.old id ≡ Some (node_at parent key)) }
+        ensures id { IfOk result (λ id. id ≡ length self.old) }
+        ensures ok { OnOk result (self.new ≡ self.old ++ node_at parent key ∷ []) }
+        ensures err { OnErr result (self.new ≡ self.old) }
+    {
+        let id = self.nodes.len();
+        self.nodes.push(Node { parent, key })?;
+        Ok(id)
+    }
+
+    /// Whether there is this place.
+    fn has(&self, place: Option<usize>) -> bool
+        ensures { IsTrue result ↔ IsPlaceOf self.now place }
+    {
+        match place {
+            Some(id) => id < self.nodes.len(),
+            None => true,
+        }
+    }
+
+    /// The keys from the top down to a node, each behind a `/`.
+    pub fn path(&self, alloc: Global, id: usize) -> Result<InlinableString, Fault>
+        ensures ok { IfOk result (λ path. (keys : List (List ℕ)) × Leads self.now None keys id
+            × ((inlinable_state 30 path).text ≡ joined keys)) }
+        ensures no_node { (result ≡ Err Fault.NoNode) ↔ (length self.now ≤ id) }
+    {
+        splices_at_the_ends();
+        if self.nodes.len() <= id {
+            return Err(Fault::NoNode);
+        }
+        let mut path = InlinableString::new(alloc);
+        let mut place = Some(id);
+        'up: while let Some(at) = place {
+            let node = &self.nodes[at];
+            path.insert_str(0, node.key.as_str())?;
+            path.insert(0, '/')?;
+            place = node.parent;
+        }
+        Ok(path)
+    }
+}
+
+/// Whether a node is the one with this key under a place.
+fn is_at(node: &Node, place: Option<usize>, key: &str) -> bool
+    ensures { IsTrue result ↔ (node.now ≡ node_at place (chars key.now)) }
+{
+    bytes_of_parts();
+    node.parent == place && node.key.as_str() == key
+}

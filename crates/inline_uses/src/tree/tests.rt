@@ -1,0 +1,93 @@
+use super::{Fault, Tree};
+use inlinable_string::StringExt;
+use std::test::Fail;
+use test_support::Hoard;
+
+/// Where nodes are put, by their parents and keys, and their paths.
+const BOOK: &[(Option<usize>, &str, &str)] = &[
+    (None, "book", "/book"),
+    (Some(0), "title", "/book/title"),
+    (Some(0), "chapters", "/book/chapters"),
+    (Some(2), "title", "/book/chapters/title"),
+    (Some(0), "", "/book/"),
+    (None, "title", "/title"),
+    (Some(3), "größe", "/book/chapters/title/größe"),
+    (
+        Some(6),
+        "sixteen bytes ab",
+        "/book/chapters/title/größe/sixteen bytes ab",
+    ),
+];
+
+/// What is not put into that tree, and why.
+const REFUSED: &[(Option<usize>, &str, Fault)] = &[
+    (None, "book", Fault::Taken),
+    (Some(0), "title", Fault::Taken),
+    (Some(0), "", Fault::Taken),
+    (Some(3), "größe", Fault::Taken),
+    (Some(8), "title", Fault::NoNode),
+    (Some(usize::MAX), "title", Fault::NoNode),
+    (None, "seventeen bytes a", Fault::LongKey),
+    (None, "sechzehn Größen", Fault::LongKey),
+];
+
+#[test]
+fn nodes_have_paths_and_are_found_by_their_keys(rt: HostRuntime) -> Result<(), Fail> {
+    let mut tree = Tree::new(rt.alloc());
+    for (id, (place, key, _)) in BOOK.iter().enumerate() {
+        assert_eq!(rt; tree.child(*place, key), None);
+        assert_eq!(rt; tree.add(*place, key), Ok(id));
+    }
+    for (place, key, fault) in REFUSED {
+        assert_eq!(rt; tree.add(*place, key), Err(*fault));
+    }
+    assert_eq!(rt; tree.len(), BOOK.len());
+    for (id, (place, key, path)) in BOOK.iter().enumerate() {
+        assert_eq!(rt; tree.child(*place, key), Some(id));
+        assert!(rt;
+            tree.path(rt.alloc(), id)
+                .is_ok_and(|found| found.as_str() == *path)
+        );
+        let node = tree.node(id).ok_or("no node")?;
+        assert_eq!(rt; (node.parent, node.key.as_str()), (*place, *key));
+    }
+    assert_eq!(rt; tree.child(Some(1), "title"), None);
+    assert_eq!(rt; tree.child(Some(BOOK.len()), "title"), None);
+    assert!(rt; tree.node(BOOK.len()).is_none());
+    assert!(rt;
+        tree.path(rt.alloc(), BOOK.len())
+            .is_err_and(|fault| fault == Fault::NoNode)
+    );
+    Ok(())
+}
+
+#[test]
+fn without_memory_a_tree_stays_as_it_is(rt: HostRuntime) -> Result<(), Fail> {
+    let mut tree = Tree::new(rt.alloc());
+    let book = tree.add(None, "book").map_err(|_| "refused")?;
+    let chapters = tree.add(Some(book), "chapters").map_err(|_| "refused")?;
+    let deep = tree
+        .add(Some(chapters), "a deeper chapter")
+        .map_err(|_| "refused")?;
+    let hoard = Hoard::take(rt.alloc()).expect(&rt, "memory cannot be used up here");
+    let mut refused = Ok(chapters);
+    let mut last = deep;
+    for _ in 0..64 {
+        refused = tree.add(Some(last), "next");
+        let Ok(id) = refused else {
+            break;
+        };
+        last = id;
+    }
+    let short = tree.path(rt.alloc(), chapters);
+    let long = tree.path(rt.alloc(), deep);
+    drop(hoard);
+    assert_eq!(rt; refused, Err(Fault::NoMemory));
+    assert_eq!(rt; tree.child(Some(last), "next"), None);
+    let next = tree.len();
+    assert_eq!(rt; tree.add(Some(last), "next"), Ok(next));
+    // A path of at most 30 bytes takes no memory.
+    assert!(rt; short.is_ok_and(|path| path.as_str() == "/book/chapters"));
+    assert!(rt; long.is_err_and(|fault| fault == Fault::NoMemory));
+    Ok(())
+}
