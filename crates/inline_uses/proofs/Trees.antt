@@ -1,7 +1,10 @@
 -- A tree with one more node at the end of its list.
-use Rattle.std.proofs.Common.{◌≡◌, ◌<◌, inl, inr, ℕ, List, [], ◌∷◌, ◌++◌, length, Option, Some, None, refl, ap, subst, sym, ◌∙◌, arith, rules}
+use Rattle.std.proofs.Common.{◌≡◌, ◌<◌, suc, inl, inr, ℕ, List, [], ◌∷◌, ◌++◌, length, Option, Some, None, refl, ap, subst, sym, ◌∙◌, arith, rules}
 use Rattle.std.specs.Prelude.{slice_get}
-use Rattle.inline_uses.specs.Tree.{node_at, IsPlaceOf, IsTree, Leads}
+use Rattle.std.specs.Str.{chars}
+use Rattle.std.proofs.lemmas.List.{append_assoc, length-append}
+use Rattle.serde_json.specs.Data.{Data, Members, member}
+use Rattle.inline_uses.specs.Tree.{node_at, IsPlaceOf, IsTree, Leads, listed, listed_members}
 use Rattle.inline_uses.specs.declared.tree.Node.{Node}
 use Rattle.inline_uses.proofs.Tables.{from_push, one_id_pushed}
 
@@ -29,3 +32,14 @@ above nodes at id node keys tree within is leads = (has node.parent refl, (at, i
     has (Some p) e =
         let earlier : p < at = tree.later at p node.key (is ∙ ap (λ q. Some (node_at q node.key)) e) in
         omega arith
+
+-- the nodes of one member, and then those of the members after it
+pub one_more : (nodes : List Node) (place : Option ℕ) (key : List ℕ) (d : Data) (ms : Members)
+    → (new after : List Node) → new ≡ nodes ++ node_at place (chars key) ∷ []
+    → after ≡ new ++ listed (length new) (Some (length nodes)) d
+    → after ++ listed_members (length after) place ms
+    ≡ nodes ++ listed_members (length nodes) place (member key d ms)
+one_more nodes place key d ms new after is_new is_after =
+    let count : length new ≡ suc (length nodes) = rw (is_new, length-append) (omega arith) in
+    let one = node_at place (chars key) ∷ [] in
+    rw (is_after, length-append, count, is_new, append_assoc (nodes ++ one), append_assoc nodes) refl

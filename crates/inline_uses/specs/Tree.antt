@@ -1,5 +1,7 @@
 -- A tree of nodes with short keys, as its user sees it.
-use Rattle.std.specs.Prelude.{◌≡◌, ℕ, ◌<◌, List, [], ◌∷◌, ◌++◌, length, Option, Some, slice_get, IfSome}
+use Rattle.std.specs.Prelude.{◌≡◌, ℕ, suc, ◌+◌, ◌<◌, List, [], ◌∷◌, ◌++◌, length, Option, Some, slice_get, IfSome}
+use Rattle.std.specs.Str.{chars}
+use Rattle.serde_json.specs.Data.{Data, null, boolean, number, string, array, object, Members, no_members, member}
 use Rattle.inline_uses.specs.declared.tree.Node.{Node}
 
 -- the node with this key under this place: under a node by its number, or at the top
@@ -27,3 +29,20 @@ pub record IsTree (nodes : List Node) : Type 0 where
       → slice_get nodes i ≡ Some node → slice_get nodes j ≡ Some node → i ≡ j
   pub later : (id parent : ℕ) (key : List ℕ)
       → slice_get nodes id ≡ Some (node_at (Some parent) key) → parent < id
+
+-- the nodes of a JSON object under a place, where the first of them gets the number n: one for each
+-- member, in their order, each before those of the member's own value
+abbrev mutual
+  pub listed : ℕ → Option ℕ → Data → List Node
+  listed n place null = []
+  listed n place (boolean b) = []
+  listed n place (number x) = []
+  listed n place (string s) = []
+  listed n place (array ds) = []
+  listed n place (object ms) = listed_members n place ms
+
+  pub listed_members : ℕ → Option ℕ → Members → List Node
+  listed_members n place no_members = []
+  listed_members n place (member key d ms) =
+      node_at place (chars key) ∷ listed (suc n) (Some n) d
+      ++ listed_members (suc n + length (listed (suc n) (Some n) d)) place ms

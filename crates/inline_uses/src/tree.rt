@@ -9,6 +9,7 @@ use inlinable_string::{InlinableString, InlineStringN, StringExt, StringMake};
 use std::alloc::{AllocError, Global};
 use std::marker::Model;
 
+mod json;
 #[cfg(test)]
 mod tests;
 
@@ -28,6 +29,8 @@ pub enum Fault {
     NoNode,
     /// The key stands there already.
     Taken,
+    /// A JSON value is not an object, or one in it is not.
+    NotObject,
     /// Memory was refused.
     NoMemory,
 }

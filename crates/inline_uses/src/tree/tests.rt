@@ -1,5 +1,6 @@
 use super::{Fault, Tree};
 use inlinable_string::StringExt;
+use serde_json::Value;
 use std::test::Fail;
 use test_support::Hoard;
 
@@ -89,5 +90,62 @@ fn without_memory_a_tree_stays_as_it_is(rt: HostRuntime) -> Result<(), Fail> {
     // A path of at most 30 bytes takes no memory.
     assert!(rt; short.is_ok_and(|path| path.as_str() == "/book/chapters"));
     assert!(rt; long.is_err_and(|fault| fault == Fault::NoMemory));
+    Ok(())
+}
+
+/// JSON texts, and the paths of the nodes of their trees, in the order of their numbers.
+const DOCUMENTS: &[(&str, &[&str])] = &[
+    ("{}", &[]),
+    (r#"{"a":{}}"#, &["/a"]),
+    (
+        r#"{"":{"":{}},"book":{"chapters":{"title":{}},"title":{}},"größe":{"sixteen bytes ab":{}}}"#,
+        &[
+            "/",
+            "//",
+            "/book",
+            "/book/chapters",
+            "/book/chapters/title",
+            "/book/title",
+            "/größe",
+            "/größe/sixteen bytes ab",
+        ],
+    ),
+];
+
+#[test]
+fn trees_go_through_json_and_come_back(rt: HostRuntime) -> Result<(), Fail> {
+    let alloc = rt.alloc();
+    for (text, paths) in DOCUMENTS {
+        let value = Value::from_str(alloc, text)?;
+        let tree = Tree::from_json(alloc, &value).map_err(|_| "refused")?;
+        assert_eq!(rt; tree.len(), paths.len());
+        for (id, path) in paths.iter().enumerate() {
+            assert!(rt;
+                tree.path(alloc, id)
+                    .is_ok_and(|found| found.as_str() == *path)
+            );
+        }
+        assert!(rt; tree.to_json(alloc)? == value);
+        assert!(rt; tree.to_json(alloc)?.to_string(alloc)?.as_str() == *text);
+    }
+    Ok(())
+}
+
+/// JSON texts of no tree, and why.
+const NO_TREES: &[(&str, Fault)] = &[
+    ("null", Fault::NotObject),
+    ("[]", Fault::NotObject),
+    ("\"text\"", Fault::NotObject),
+    (r#"{"a":{"b":{},"c":1}}"#, Fault::NotObject),
+    (r#"{"seventeen bytes a":{}}"#, Fault::LongKey),
+    (r#"{"a":{"sechzehn Größen":{}}}"#, Fault::LongKey),
+];
+
+#[test]
+fn only_objects_in_objects_are_trees(rt: HostRuntime) -> Result<(), Fail> {
+    for (text, fault) in NO_TREES {
+        let value = Value::from_str(rt.alloc(), text)?;
+        assert!(rt; Tree::from_json(rt.alloc(), &value).is_err_and(|found| found == *fault));
+    }
     Ok(())
 }
