@@ -1,7 +1,9 @@
 -- A tree of nodes with short keys, as its user sees it.
-use Rattle.std.specs.Prelude.{◌≡◌, ℕ, suc, ◌+◌, ◌<◌, List, [], ◌∷◌, ◌++◌, length, Option, Some, slice_get, IfSome}
+use Rattle.std.specs.Prelude.{◌≡◌, ◌↔◌, ℕ, suc, ◌+◌, ◌<◌, List, [], ◌∷◌, ◌++◌, length, map, Option, Some, slice_get, IfSome, IsSome, IsUtf8, option_and_then}
+use Rattle.std.specs.List.{AllByRecursion}
 use Rattle.std.specs.Str.{chars}
 use Rattle.serde_json.specs.Data.{Data, null, boolean, number, string, array, object, Members, no_members, member}
+use Rattle.serde_json.specs.Find.{get}
 use Rattle.inline_uses.specs.declared.tree.Node.{Node}
 
 -- the node with this key under this place: under a node by its number, or at the top
@@ -46,3 +48,14 @@ abbrev mutual
   listed_members n place (member key d ms) =
       node_at place (chars key) ∷ listed (suc n) (Some n) d
       ++ listed_members (suc n + length (listed (suc n) (Some n) d)) place ms
+
+-- what the keys lead to in a JSON value
+abbrev pub walk : Data → List (List ℕ) → Option Data
+walk d [] = Some d
+walk d (key ∷ keys) = option_and_then (λ e. walk e keys) (get key d)
+
+-- keys lead somewhere in the JSON value exactly where they lead to a node from the place
+abbrev pub IsShown : List Node → Option ℕ → Data → Type 0
+IsShown nodes place d =
+    (key : List ℕ) (keys : List (List ℕ)) → IsUtf8 key → AllByRecursion IsUtf8 keys
+    → IsSome (walk d (key ∷ keys)) ↔ ((to : ℕ) × Leads nodes place (map chars (key ∷ keys)) to)

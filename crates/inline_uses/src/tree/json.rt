@@ -2,9 +2,10 @@
 ghost use Rattle.std.specs.Prelude.{◌≡◌, ◌++◌, length, None, Err, IfOk, OnOk, IsSome};
 ghost use Rattle.serde_json.specs.Find.{as_object};
 ghost use Rattle.serde_json.specs.View.{view};
-ghost use Rattle.inline_uses.specs.Tree.{IsPlaceOf, listed};
+ghost use Rattle.inline_uses.specs.Tree.{IsPlaceOf, IsShown, listed};
 
 use crate::tree::{Fault, Tree};
+use inlinable_string::laws::bytes_of_parts;
 use serde_json::{Map, Value};
 use std::alloc::{AllocError, Global};
 
@@ -35,9 +36,11 @@ impl Tree {
         Ok(())
     }
 
-    /// The JSON object of the tree, whose members are objects in their turn.
+    /// The JSON object of the tree, whose members are objects in their turn: keys lead somewhere in it
+    /// exactly where they lead to a node.
     pub fn to_json(&self, alloc: Global) -> Result<Value, AllocError>
-        ensures { IfOk result (λ value. IsSome (as_object (view value))) }
+        ensures object { IfOk result (λ value. IsSome (as_object (view value))) }
+        ensures shown { IfOk result (λ value. IsShown self.now None (view value)) }
     {
         self.object(alloc, None)
     }
@@ -45,8 +48,10 @@ impl Tree {
     /// The object of a place.
     fn object(&self, alloc: Global, place: Option<usize>) -> Result<Value, AllocError>
         requires { IsPlaceOf self.now place }
-        ensures { IfOk result (λ value. IsSome (as_object (view value))) }
+        ensures object { IfOk result (λ value. IsSome (as_object (view value))) }
+        ensures shown { IfOk result (λ value. IsShown self.now place (view value)) }
     {
+        bytes_of_parts();
         let count = self.nodes.len();
         let mut members = Map::new(alloc);
         let first = match place {
@@ -55,11 +60,12 @@ impl Tree {
         };
         for id in first..count {
             let node = &self.nodes[id];
-            if node.parent == place {
-                let key = String::from_str(alloc, node.key.as_str())?;
-                let value = self.object(alloc, Some(id))?;
-                drop(members.insert(key, value)?);
+            if node.parent != place {
+                continue;
             }
+            let key = String::from_str(alloc, node.key.as_str())?;
+            let value = self.object(alloc, Some(id))?;
+            drop(members.insert(key, value)?);
         }
         Ok(Value::Object(members))
     }
