@@ -97,8 +97,14 @@ def breaches(group, refused):
 
 
 def functions_of(group):
-    """The words by which `rt` checks alone the functions that the group names."""
-    return only(sorted({goal.function for edit in group for goal in edit.goals}))
+    """The functions that the group names."""
+    return sorted({goal.function for edit in group for goal in edit.goals})
+
+
+def functions_by_crate(tasks):
+    """By crate, the functions that are to be proved before an edit, and refused after it."""
+    return {crate: sorted({function for other, group in tasks if other == crate for function in functions_of(group)})
+            for crate, _ in tasks}
 
 
 def listed(names):
@@ -112,7 +118,7 @@ def tried(rooms, task):
     try:
         folder = crate_folder(crate, room)
         with changed_files(folder, texts_with(folder, group)):
-            said, _ = check(room, crate, 1, *functions_of(group))
+            said, _ = check(room, crate, 1, *only(functions_of(group)))
     finally:
         rooms.put(room)
     found = list(breaches(group, refused_by(crate, group, said)))
@@ -142,9 +148,10 @@ def main(words):
     tasks = [task for crate in crates for task in prepared(crate, given.named)]
     if not tasks:
         raise Failure(f'no edit has {given.named} in its name')
-    require_proofs(crates, given.jobs)
+    functions = functions_by_crate(tasks)
+    require_proofs(sorted(functions), given.jobs, functions)
     rooms = SimpleQueue()
-    with copies(crates, min(given.jobs, len(tasks))) as places:
+    with copies(sorted(functions), min(given.jobs, len(tasks))) as places:
         for place in places:
             rooms.put(place)
         with ThreadPoolExecutor(len(places)) as pool:

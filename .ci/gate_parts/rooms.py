@@ -23,22 +23,25 @@ def only(functions):
     return [word for function in functions for word in ('--only', function)]
 
 
-def require_proof(top, crate, jobs):
-    """Checks that the crate is proved there; what the check keeps in out/ serves later ones."""
-    said, is_well = check(top, crate, jobs)
+def require_proof(top, crate, jobs, functions=()):
+    """Checks that the crate is proved there, or that these functions of it are; what the check keeps in
+    out/ serves later ones."""
+    said, is_well = check(top, crate, jobs, *only(functions))
     if not is_well:
         raise Failure(f'{crate} is not proved as it is:\n{said}')
 
 
-def require_proofs(crates, jobs):
-    """The same of several crates of the tree: first those that others stand on, then the others at once."""
+def require_proofs(crates, jobs, functions):
+    """The same of several crates of the tree, with the functions of each: first those that others stand
+    on, which must be proved whole, then the others at once."""
     below = [crate for crate in crates
              if any(crate in with_those_below([other]) for other in crates if other != crate)]
     for crate in below:
         require_proof(TOP, crate, jobs)
     above = [crate for crate in crates if crate not in below]
     with ThreadPoolExecutor(len(above)) as pool:
-        list(pool.map(lambda crate: require_proof(TOP, crate, max(1, jobs // len(above))), above))
+        list(pool.map(lambda crate: require_proof(TOP, crate, max(1, jobs // len(above)), functions[crate]),
+                      above))
 
 
 @contextmanager
