@@ -28,6 +28,7 @@ by_order f Less x y z w e = refl
 by_order f Equal x y z w e = refl
 by_order f Greater x y z w e = e
 
+-- what is found, taken out and put in is the same, seen through the bytes, and so is the order
 pub finds : (key : InlinableStringN 30) (es : Texts)
     → option_map bytes_at (lookup (is_at (text_order key)) es)
     ≡ value_of (map entry_of es) (bytes_at key)
@@ -49,6 +50,7 @@ puts key value [] = refl
 puts key value (e ∷ es) = by_order (map entry_of) (text_order key e.0) _ _ _ _
     (ap (λ rest. entry_of e ∷ rest) (puts key value es))
 
+-- the keys behind the first are above it
 above : (key : InlinableStringN 30) (es : Texts)
     → AllByRecursion (λ k. text_order key k ≡ Less) (keys_of es)
     → AllByRecursion (λ k. key_order (bytes_at key) k ≡ Less) (keys_of (map entry_of es))

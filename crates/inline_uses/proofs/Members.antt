@@ -1,11 +1,11 @@
 -- The entries of a store, and the members of a JSON object.
-use Rattle.std.proofs.Common.{◌≡◌, ℕ, List, [], ◌∷◌, ◌++◌, Some, Ordering, Less, Equal, Greater, refl, sym, ap, ◌∙◌, append-nil}
+use Rattle.std.proofs.Common.{◌≡◌, ℕ, List, [], ◌∷◌, ◌++◌, Some, Less, Greater, refl, sym, ap, ◌∙◌, append-nil}
 use Rattle.std.proofs.lemmas.Cmp.{nat_list_cmp_total}
 use Rattle.std.proofs.lemmas.List.{append_assoc}
 use Rattle.std.specs.List.{AllByRecursion}
 use Rattle.std.specs.List.Sorted.{IsStrictlySortedBy}
 use Rattle.std.specs.Map.{keys_of}
-use Rattle.std.specs.Ordering.{match_ordering, ordering_reverse}
+use Rattle.std.specs.Ordering.{ordering_reverse}
 use Rattle.serde_json.specs.Data.{string, Members, no_members, member, put, members_depth}
 use Rattle.inline_uses.proofs.Entries.{by_order}
 use Rattle.inline_uses.specs.Store.{Entries, key_order, AreInOrder, with_value, with_members}
@@ -20,6 +20,7 @@ abbrev pub with_all : Entries → Entries → Entries
 with_all entries [] = entries
 with_all entries (e ∷ more) = with_all (with_value entries e.0 e.1) more
 
+-- a key that is below all that follow it is below one of them
 below : (key : List ℕ) (done : Entries) (e : List ℕ × List ℕ) (more : Entries)
     → AllByRecursion (λ k. key_order key k ≡ Less) (keys_of (done ++ e ∷ more))
     → key_order key e.0 ≡ Less
@@ -36,6 +37,7 @@ goes_last (d ∷ done) e more h =
     nat_list_cmp_total.antisymm e.0 d.0 ∙ ap ordering_reverse (below d.0 done e more h.0) in
     rw above (ap (λ rest. d ∷ rest) (goes_last done e more h.1))
 
+-- entries that go on in order are put in at the end
 in_turn : (done more : Entries) → AreInOrder (done ++ more) → with_all done more ≡ done ++ more
 in_turn done [] h = sym (append-nil done)
 in_turn done (e ∷ more) h =
@@ -53,11 +55,13 @@ put_in [] key value = refl
 put_in (e ∷ entries) key value = sym (by_order members_of (key_order key e.0) _ _ _ _
     (ap (λ rest. member e.0 (string e.1) rest) (sym (put_in entries key value))))
 
+-- members are read as entries that are put in one after another
 pub read_back : (entries more : Entries)
     → with_members entries (members_of more) ≡ Some (with_all entries more)
 read_back entries [] = refl
 read_back entries (e ∷ more) = read_back (with_value entries e.0 e.1) more
 
+-- strings have nothing in them
 pub flat : (entries : Entries) → members_depth (members_of entries) ≡ 0
 flat [] = refl
 flat (e ∷ entries) = rw (flat entries) refl

@@ -1,4 +1,4 @@
-use Rattle.std.proofs.Common.{rules, ◌≡◌, ◌∙◌, [], Some, ap}
+use Rattle.std.proofs.Common.{rules, ◌∙◌, [], Some, ap}
 use Rattle.inline_uses.specs.Symbols.{bytes_at}
 use Rattle.inline_uses.specs.Store.{Entries, with_value}
 use Rattle.inline_uses.proofs.Members.{all_in_turn, put_in, read_back, flat}
