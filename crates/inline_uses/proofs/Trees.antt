@@ -13,7 +13,7 @@ pub grown : (nodes : List Node) (place : Option ℕ) (key : List ℕ) → IsTree
     → IsTree (nodes ++ node_at place key ∷ [])
 grown nodes place key tree has none = record {
   once = one_id_pushed nodes (node_at place key) none tree.once;
-  later = λ id parent k is. elim (from_push nodes (node_at (Some parent) k) (node_at place key) id is) [
+  later = λ id parent k is. elim (from_push nodes (node_at (Some parent) k) _ id is) [
     | inl old ↦ tree.later id parent k old
     | inr new ↦ let here : parent < length nodes
         = subst (IsPlaceOf nodes) (ap (λ (node : Node). node.parent) new.1) has in
@@ -30,7 +30,8 @@ above nodes at id node keys tree within is leads = (has node.parent refl, (at, i
     has : (place : Option ℕ) → node.parent ≡ place → IsPlaceOf nodes place
     has None e = search rules
     has (Some p) e =
-        let earlier : p < at = tree.later at p node.key (is ∙ ap (λ q. Some (node_at q node.key)) e) in
+        let under = ap (λ q. Some (node_at q node.key)) e in
+        let earlier : p < at = tree.later at p node.key (is ∙ under) in
         omega arith
 
 -- the nodes of one member, and then those of the members after it
@@ -41,5 +42,5 @@ pub one_more : (nodes : List Node) (place : Option ℕ) (key : List ℕ) (d : Da
     ≡ nodes ++ listed_members (length nodes) place (member key d ms)
 one_more nodes place key d ms new after is_new is_after =
     let count : length new ≡ suc (length nodes) = rw (is_new, length-append) (omega arith) in
-    let one = node_at place (chars key) ∷ [] in
-    rw (is_after, length-append, count, is_new, append_assoc (nodes ++ one), append_assoc nodes) refl
+    let known = nodes ++ node_at place (chars key) ∷ [] in
+    rw (is_after, length-append, count, is_new, append_assoc known, append_assoc nodes) refl

@@ -36,8 +36,8 @@ impl Tree {
         Ok(())
     }
 
-    /// The JSON object of the tree, whose members are objects in their turn: keys lead somewhere in it
-    /// exactly where they lead to a node.
+    /// The JSON object of the tree, whose members are objects in their turn: keys lead somewhere
+    /// in it exactly where they lead to a node.
     pub fn to_json(&self, alloc: Global) -> Result<Value, AllocError>
         ensures object { IfOk result (λ value. IsSome (as_object (view value))) }
         ensures shown { IfOk result (λ value. IsShown self.now None (view value)) }

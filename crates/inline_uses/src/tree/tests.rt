@@ -98,7 +98,7 @@ const DOCUMENTS: &[(&str, &[&str])] = &[
     ("{}", &[]),
     (r#"{"a":{}}"#, &["/a"]),
     (
-        r#"{"":{"":{}},"book":{"chapters":{"title":{}},"title":{}},"größe":{"sixteen bytes ab":{}}}"#,
+        r#"{"":{"":{}},"book":{"chapters":{"title":{}},"title":{}},"größe":{"two bytes: ß":{}}}"#,
         &[
             "/",
             "//",
@@ -107,7 +107,7 @@ const DOCUMENTS: &[(&str, &[&str])] = &[
             "/book/chapters/title",
             "/book/title",
             "/größe",
-            "/größe/sixteen bytes ab",
+            "/größe/two bytes: ß",
         ],
     ),
 ];

@@ -5,5 +5,6 @@ use Rattle.inline_uses.proofs.tree.Tree.+add_json.Given as goal
 
 -- with what the members that are left will add, the nodes are those that are promised
 abbrev pub invariant-loop-key : goal.invariant-loop-key
-invariant-loop-key l = l.self ++ listed_members (length l.self) l.place (members_view l.key-iterator)
+invariant-loop-key l =
+    l.self ++ listed_members (length l.self) l.place (members_view l.key-iterator)
     ≡ l.fn.self ++ listed (length l.fn.self) l.place (view l.fn.value)
