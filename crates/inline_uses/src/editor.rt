@@ -1,6 +1,7 @@
 //! A line editor.
-ghost use Rattle.std.specs.Prelude.{◌≡◌, ℕ, ◌+◌, ◌≤◌, ◌<◌, ◌↔◌, ◌++◌, [], ◌∷◌, length, IsTrue, MatchOption};
+ghost use Rattle.std.specs.Prelude.{◌≡◌, ℕ, ◌+◌, ◌≤◌, ◌<◌, ◌↔◌, List, ◌++◌, [], ◌∷◌, length, IsTrue, MatchOption};
 ghost use Rattle.inlinable_string.specs.Text.{bytes_of, size};
+ghost use Rattle.inlinable_string.specs.Edit.{edit, becomes, yields};
 ghost use Rattle.inline_uses.specs.Editor.{Parts, text_of};
 
 use inlinable_string::InlineStringN;
@@ -8,11 +9,29 @@ use inlinable_string::laws::{
     cuts_are_at_places, cuts_are_cuts_of_bytes, parts_are_told_by_their_size,
     places_are_boundaries, sizes_of_parts, steps_are_over_characters,
 };
-use inlinable_string::run::cut_decides_places;
+use inlinable_string::run::{Command, cut_decides_places};
 use std::marker::Model;
 
 #[cfg(test)]
 mod tests;
+
+/// What a key does to the text of a line, a command does at the cursor: so a list of keys is one of
+/// commands, and what `run` says of these is said of the line.
+pub fn keys_are_commands()
+    ensures type_char { (before behind : List ℕ) (ch : ℕ)
+        → edit (before ++ behind) (Command.Insert (size before) ch)
+        ≡ becomes ((before ++ ch ∷ []) ++ behind) }
+    ensures delete { (before behind : List ℕ) (ch : ℕ)
+        → edit (before ++ ch ∷ behind) (Command.Remove (size before))
+        ≡ yields ch (before ++ behind) }
+    ensures backspace { (before behind : List ℕ) (ch : ℕ)
+        → edit ((before ++ ch ∷ []) ++ behind) (Command.Remove (size before))
+        ≡ yields ch (before ++ behind) }
+    ensures kill_to_end { (before behind : List ℕ)
+        → edit (before ++ behind) (Command.Truncate (size before)) ≡ becomes before }
+{
+    parts_are_told_by_their_size();
+}
 
 /// A line of at most `N` bytes, and a cursor in it. A contract sees the characters before the
 /// cursor and those behind it, so that a cursor inside a character can't be said.
