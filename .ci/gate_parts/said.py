@@ -21,8 +21,9 @@ GONE = re.compile(r'has no field|has no `|is not in scope|can be named from here
 
 
 def answers_of(path):
-    """The function whose answers stand in a file of proofs/; None where it is a file of lemmas."""
-    parts = path.split('/')
+    """The function whose answers stand in a file of proofs/; None where it is a file of lemmas. A folder has
+    a `+` before the name of a function of a module further down."""
+    parts = [part.lstrip('+') for part in path.split('/')]
     return '::'.join(parts[1:-1]) if parts[0] == 'proofs' and len(parts) > 2 else None
 
 

@@ -784,6 +784,11 @@ class Reading(unittest.TestCase):
             write_text(path, text)
             return read_edits(path, 'toy')
 
+    def test_function_whose_answers_a_file_has(self):
+        self.assertEqual(said.answers_of('proofs/tree/Tree/+add_json/Answers.antt'), 'tree::Tree::add_json')
+        self.assertEqual(said.answers_of('proofs/tree/is_at/Answers.antt'), 'tree::is_at')
+        self.assertIsNone(said.answers_of('proofs/Trees.antt'))
+
     def test_edits_are_parted_by_empty_lines(self):
         edits = self.read('# why\n' + EDIT + '\n\n' + EDIT)
         self.assertEqual(edits, self.read(EDIT) * 2)
