@@ -1,8 +1,8 @@
 use super::Store;
 use inlinable_string::StringExt;
 use std::test::Fail;
-use test_support::Hoard;
 use test_support::letters::LETTERS_31;
+use test_support::{Hoard, NEEDS_THE_PROVED_BUILD};
 
 /// What is put, in its order, and what a scan then finds.
 const PUT: &[(&str, &str)] = &[
@@ -70,7 +70,7 @@ fn refused_memory_changes_nothing(rt: HostRuntime) -> Result<(), Fail> {
     let mut store = Store::new(rt.alloc());
     store.put("known", "old")?;
     store.put(LETTERS_31, "long")?;
-    let hoard = Hoard::take(rt.alloc()).expect(&rt, "memory cannot be used up here");
+    let hoard = Hoard::take(rt.alloc()).expect(&rt, NEEDS_THE_PROVED_BUILD);
     let short = store.put("known", "new");
     let long_value = store.put("known", LETTERS_31);
     let long_key = store.put(LETTERS_31, "short");

@@ -1,7 +1,7 @@
 use super::{Symbols, have_same_id};
 use std::test::Fail;
-use test_support::Hoard;
 use test_support::letters::LETTERS_31;
+use test_support::{Hoard, NEEDS_THE_PROVED_BUILD};
 
 /// Texts as a program meets them, and the ids that they get.
 const MET: &[(&str, usize)] = &[
@@ -45,7 +45,7 @@ fn a_known_short_text_takes_no_memory(rt: HostRuntime) -> Result<(), Fail> {
     let mut symbols = Symbols::new(rt.alloc());
     symbols.intern("known")?;
     symbols.intern(LETTERS_31)?;
-    let hoard = Hoard::take(rt.alloc()).expect(&rt, "memory cannot be used up here");
+    let hoard = Hoard::take(rt.alloc()).expect(&rt, NEEDS_THE_PROVED_BUILD);
     let known = symbols.intern("known");
     let found = symbols.find("unknown");
     let long = symbols.intern(LETTERS_31);

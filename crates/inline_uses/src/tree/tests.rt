@@ -2,7 +2,7 @@ use super::{Fault, Tree};
 use inlinable_string::StringExt;
 use serde_json::Value;
 use std::test::Fail;
-use test_support::Hoard;
+use test_support::{Hoard, NEEDS_THE_PROVED_BUILD};
 
 /// Where nodes are put, by their parents and keys, and their paths.
 const BOOK: &[(Option<usize>, &str, &str)] = &[
@@ -70,7 +70,7 @@ fn without_memory_a_tree_stays_as_it_is(rt: HostRuntime) -> Result<(), Fail> {
     let deep = tree
         .add(Some(chapters), "a deeper chapter")
         .map_err(|_| "refused")?;
-    let hoard = Hoard::take(rt.alloc()).expect(&rt, "memory cannot be used up here");
+    let hoard = Hoard::take(rt.alloc()).expect(&rt, NEEDS_THE_PROVED_BUILD);
     let mut refused = Ok(chapters);
     let mut last = deep;
     for _ in 0..64 {

@@ -1,8 +1,8 @@
 use super::{ReadError, copied};
 use crate::store::Store;
 use std::test::Fail;
-use test_support::Hoard;
 use test_support::letters::LETTERS_31;
+use test_support::{Hoard, NEEDS_THE_PROVED_BUILD};
 
 /// Keys with their values, and the JSON of the store that has these alone.
 const SINGLE: &[(&str, &str, &str)] = &[
@@ -93,7 +93,7 @@ fn want_of_memory_is_told_from_what_is_no_store(rt: HostRuntime) -> Result<(), F
     let mut store = Store::new(rt.alloc());
     store.put("key", "value")?;
     let bytes = store.to_bytes()?;
-    let hoard = Hoard::take(rt.alloc()).expect(&rt, "memory cannot be used up here");
+    let hoard = Hoard::take(rt.alloc()).expect(&rt, NEEDS_THE_PROVED_BUILD);
     let written = store.to_bytes().is_err();
     let read = Store::from_bytes(rt.alloc(), &bytes);
     let is_no_memory = matches!(read, Err(ReadError::NoMemory));
