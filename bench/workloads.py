@@ -4,6 +4,7 @@ A program of the bench takes a type of text, the word of a workload, how many by
 its input has (0: pieces end at spaces) and a number of rounds, and the input on standard input. It
 prints a checksum, which has to be the same of every type and every program.
 """
+import os
 from functools import lru_cache
 from typing import Callable, NamedTuple
 
@@ -62,6 +63,16 @@ def symbols():
             new.append(bytes(ord('a') + next(drawn) % 26 for _ in range(size)))
             words.append(new[-1])
     return b' '.join(words)
+
+
+def words_listed(path):
+    """100,000 words, drawn out of those that a file lists, one a line; one may come more than once."""
+    with open(path, 'rb') as reading:
+        listed = [word for word in reading.read().split(b'\n') if word and b' ' not in word]
+    if len(listed) < 1000:
+        raise ValueError(f'{path} lists {len(listed)} words, and must list 1,000')
+    drawn = numbers(42)
+    return b' '.join(listed[next(drawn) % len(listed)] for _ in range(100_000))
 
 
 MIXED = 'aé€😀zß中𝄞'
@@ -158,6 +169,12 @@ def on_words(name, word, width, pieces=64, peers=ALL, **more):
 
 def on_symbols(name, word, **more):
     return Workload(name, word, 0, symbols, 100_000, ALL, (1, 2), **more)
+
+
+def on_listed(path):
+    """Interning words of a real list, which is not in the repository: so its checksum isn't stored."""
+    words = words_listed(path)
+    return Workload(f'intern 100k of {os.path.basename(path)}', 'intern', 0, lambda: words, 100_000, ALL, (1, 2))
 
 
 def on_pieces(name, word, width, drawn, pieces=64):
