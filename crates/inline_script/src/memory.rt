@@ -61,7 +61,7 @@ fn with_room_for_the_input(
 ) -> [(Result<(), ScriptFault>, usize); 2] {
     let room: Option<Vec<u8>> = Vec::with_capacity(alloc, MOST_BYTES + 1).ok();
     assert!(rt; room.is_some());
-    let hoard = Hoard::take(alloc).expect(rt, "all memory");
+    let hoard = Hoard::take(alloc).expect(rt, NEEDS_THE_PROVED_BUILD);
     drop(room);
     let [heap, inline] = words;
     let answers = [

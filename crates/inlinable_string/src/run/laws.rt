@@ -49,7 +49,7 @@ pub fn truncations_are_cuts()
         ↔ ((rest : List ℕ) × IsCut t p v rest) }
 {}
 
-/// `BadPlace` is answered exactly where there is no place.
+/// To an insertion or a `Truncate`, `BadPlace` is answered exactly where there is no place.
 pub fn bad_places_are_no_places()
     ensures insert { (t : List ℕ) (p c : ℕ)
         → (reply_of (edit t (Command.Insert p c)) ≡ Reply.BadPlace) ↔ (¬ IsPlace t p) }
@@ -59,7 +59,7 @@ pub fn bad_places_are_no_places()
         → (reply_of (edit t (Command.Truncate p)) ≡ Reply.BadPlace) ↔ (¬ IsPlace t p) }
 {}
 
-/// `Done` is answered exactly where there is one.
+/// To an insertion or a `Truncate`, `Done` is answered exactly where there is a place.
 pub fn edits_are_done_at_places()
     ensures insert { (t : List ℕ) (p c : ℕ)
         → (reply_of (edit t (Command.Insert p c)) ≡ Reply.Done) ↔ IsPlace t p }
