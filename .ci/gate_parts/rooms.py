@@ -2,7 +2,6 @@
 import os
 import shutil
 import tempfile
-from concurrent.futures import ThreadPoolExecutor
 from contextlib import contextmanager
 
 from gate_parts.tree import (TOP, Failure, crate_folder, run_rt, text_of, with_those_below,
@@ -33,15 +32,15 @@ def require_proof(top, crate, jobs, functions=()):
 
 def require_proofs(crates, jobs, functions):
     """The same of several crates of the tree, with the functions of each: first those that others stand
-    on, which must be proved whole, then the others at once."""
+    on, which must be proved whole. One at a time, since each check keeps the others out of what it
+    stands on."""
     below = [crate for crate in crates
              if any(crate in with_those_below([other]) for other in crates if other != crate)]
     for crate in below:
         require_proof(TOP, crate, jobs)
-    above = [crate for crate in crates if crate not in below]
-    with ThreadPoolExecutor(len(above)) as pool:
-        list(pool.map(lambda crate: require_proof(TOP, crate, max(1, jobs // len(above)), functions[crate]),
-                      above))
+    for crate in crates:
+        if crate not in below:
+            require_proof(TOP, crate, jobs, functions[crate])
 
 
 @contextmanager
