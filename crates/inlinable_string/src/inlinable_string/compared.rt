@@ -21,6 +21,7 @@ impl<const N: usize> PartialEq for InlinableStringN<N> {
     ghost laws = { on_per (λ s. bytes_of (inlinable_state N s).text)
         (partial_equiv_from_equiv nat_list_eq_equiv) };
 
+    #[inline]
     fn eq(&self, other: &Self) -> bool {
         self.as_str() == other.as_str()
     }
