@@ -3,8 +3,19 @@ use Rattle.std.proofs.Common.{◌≡◌, ℕ, List, [], ◌∷◌, ◌++◌, Boo
 use Rattle.std.specs.Char.{encode_utf8}
 use Rattle.std.specs.List.{take_while}
 use Rattle.std.specs.Str.{NonePass, NoCharPasses, chars, IsUtf8}
+use Rattle.inline_uses.specs.Tokens.{is_word_part, word_of}
 use Rattle.std.proofs.lemmas.List.Sums.{take_while-cons}
 use Rattle.std.proofs.lemmas.Str.{chars_from_encodes, chars_past_char, chars-append}
+
+taken_none : (b : Bool) (c : ℕ) (cs : List ℕ) → cond b (c ∷ cs) [] ≡ [] → b ≡ false
+taken_none true c cs e = cc
+taken_none false c cs e = refl
+
+-- what is taken of a text, by its first character
+front_char : (t : ℕ → Bool) (s rest : List ℕ) (c : ℕ) → IsUtf8 s → s ≡ encode_utf8 c ++ rest
+    → take_while t (chars s) ≡ cond (t c) (c ∷ take_while t (chars rest)) []
+front_char t s rest c utf8 split =
+    ap (take_while t) (chars_past_char s rest c utf8 split) ∙ take_while-cons t c (chars rest)
 
 other : (a b : Bool) → not a ≡ b → a ≡ not b
 other true b is = ap not is
@@ -45,3 +56,10 @@ front_word t front back rest c utf8 utf8_back (cs, is, none) stop split =
     let whole : chars (front ++ back) ≡ cs ++ c ∷ chars rest =
     rw (chars-append front back utf8, e, chars_past_char back rest c utf8_back split) refl in
     e ∙ sym (before_stop t cs c (chars rest) none stop) ∙ ap (take_while t) (sym whole)
+
+-- where a source begins with no word, words don't have its first character
+pub ends_no_word : (source rest : List ℕ) (c : ℕ) → word_of source ≡ [] → IsUtf8 source
+    → source ≡ encode_utf8 c ++ rest → is_word_part c ≡ false
+ends_no_word source rest c none utf8 split =
+    taken_none (is_word_part c) c (take_while is_word_part (chars rest))
+    (sym (front_char is_word_part source rest c utf8 split) ∙ none)

@@ -1,8 +1,8 @@
 //! A lexer whose words go into one buffer of `N` bytes, so that it never asks for memory.
-ghost use Rattle.std.specs.Prelude.{not, ◌≡◌, ◌≤◌, ◌<◌, ◌↔◌, ◌++◌, [], length, IsTrue, IfOk, OnOk, OnErr, IsOk, MatchResult};
+ghost use Rattle.std.specs.Prelude.{not, ◌≡◌, ◌≤◌, ◌<◌, ◌↔◌, ◌++◌, [], length, None, Ok, IsTrue, IfOk, IfSome, OnOk, OnErr, MatchResult};
 ghost use Rattle.std.specs.Str.{chars, trim_start};
 ghost use Rattle.inlinable_string.specs.Text.{bytes_of, size};
-ghost use Rattle.inline_uses.specs.Tokens.{is_word_part, word_of};
+ghost use Rattle.inline_uses.specs.Tokens.{is_word_part, word_of, BeginsWith};
 
 use inlinable_string::InlineStringN;
 use inlinable_string::laws::{bytes_of_parts, sizes_of_parts};
@@ -70,23 +70,32 @@ pub fn read_word<'a, const N: usize>(
     }
 }
 
-/// Reads the next token behind any white space, and gives what follows it; none at the end.
+/// Reads the next token behind any white space, and gives what follows it; none where nothing else
+/// is there. A word comes to lie in the buffer. Fails exactly where it has more than `N` bytes, and
+/// leaves the buffer empty then.
+#[tactic(auto, using(crate::proofs::Words::ends_no_word))]
 pub fn next_token<'a, const N: usize>(
     word: &mut InlineStringN<N>,
     source: &'a str,
 ) -> Result<Option<(Token, &'a str)>, TooLong>
-    ensures room { size (word_of (trim_start source.now)) ≤ N → IsOk result }
+    ensures token { IfOk result (λ found. IfSome found
+        (λ t. BeginsWith (trim_start source.now) t.0 word.new t.1.now)) }
+    ensures end { result ≡ Ok None → trim_start source.now ≡ [] }
+    ensures fits { MatchResult result
+        (λ _. size (word_of (trim_start source.now)) ≤ N)
+        (λ _. N < size (word_of (trim_start source.now))) }
+    ensures err { OnErr result (word.new ≡ []) }
 {
     let source = source.trim_start();
-    let mut rest = source.chars();
-    let Some(first) = rest.next() else {
-        return Ok(None);
-    };
-    if is_part_of_words(first) {
-        let rest = read_word(word, source)?;
+    let rest = read_word(word, source)?;
+    if !word.is_empty() {
         return Ok(Some((Token::Word, rest)));
     }
-    Ok(Some((Token::Mark(first), rest.as_str())))
+    let mut rest = source.chars();
+    match rest.next() {
+        Some(mark) => Ok(Some((Token::Mark(mark), rest.as_str()))),
+        None => Ok(None),
+    }
 }
 
 /// How many tokens of each kind a source has, and how many bytes its longest word.

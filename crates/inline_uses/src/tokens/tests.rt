@@ -46,8 +46,8 @@ fn tokens_come_one_by_one(rt: HostRuntime) -> Result<(), Fail> {
     assert_eq!(rt; (token, word.as_str()), (Token::Word, "x"));
     let (token, rest) = next_token(&mut word, rest)?.ok_or("no token")?;
     assert_eq!(rt; (token, rest), (Token::Mark('='), "é;"));
-    let (token, _) = next_token(&mut word, rest)?.ok_or("no token")?;
-    assert_eq!(rt; token, Token::Mark('é'));
+    let (token, rest) = next_token(&mut word, rest)?.ok_or("no token")?;
+    assert_eq!(rt; (token, rest, word.as_str()), (Token::Mark('é'), ";", ""));
     assert!(rt; next_token(&mut word, "  ")?.is_none());
     assert!(rt; next_token(&mut word, "words").is_err());
     Ok(())
