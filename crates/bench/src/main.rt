@@ -1,7 +1,7 @@
 //! Runs one workload on one type of text, round after round, and prints a checksum.
 //!
-//! The arguments are the type of the text, the workload, how many bytes of standard input a piece of
-//! it has (0: pieces end at spaces), and how many rounds. The workloads are those of
+//! The arguments are the type of the text, the workload, how many bytes of standard input a piece
+//! of it has (0: pieces end at spaces), and how many rounds. The workloads are those of
 //! `bench/workloads.py`; programs in Rust and C++ take the same words and print the same sums.
 #![tactic(auto)]
 

@@ -86,8 +86,8 @@ pub struct Names<const N: usize> {
 }
 
 impl<const N: usize> Names<N> {
-    /// Adds a name. The caller makes it: a method of a type that is generic over `N` knows the size of
-    /// what it makes where a parameter or the result is of that type.
+    /// Adds a name. The caller makes it: a method of a type that is generic over `N` knows the size
+    /// of what it makes where a parameter or the result is of that type.
     pub fn add(&mut self, name: InlineStringN<N>) -> Result<(), AllocError>
         ensures { OnOk result (self.new.all.items ≡ self.old.all.items ++ name.entry ∷ []) }
     {

@@ -1,4 +1,5 @@
-//! std's traits on texts and on the errors: what `default` and conversions make, and what is printed.
+//! std's traits on texts and on the errors: what `default` and conversions make, and what is
+//! printed.
 ghost use Rattle.std.specs.Prelude.{◌≡◌, ◌≤◌, ◌↔◌, [], ◌∷◌, length, codes, IfOk, IfSome, IsSome};
 ghost use Rattle.std.specs.Str.{chars};
 ghost use Rattle.std.specs.String.{string_bytes};

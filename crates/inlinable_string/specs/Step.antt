@@ -13,8 +13,8 @@ pub record Covers (s value : TextState) : Type 0 where
   pub room : s.capacity ≤ value.capacity
   pub policy : value.policy ≡ s.policy
 
--- a command took the value from old to new and got the reply; of the old capacity a run knows only a
--- part n for certain, and whatever that part is, the reply is legal and the new value covers the
+-- a command took the value from old to new and got the reply; of the old capacity a run knows only
+-- a part n for certain, and whatever that part is, the reply is legal and the new value covers the
 -- state after the step
 pub record IsStep (old : TextState) (command : Command) (reply : Reply) (new : TextState)
     : Type 0 where

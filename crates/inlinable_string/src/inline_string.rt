@@ -63,8 +63,8 @@ impl fmt::Display for ReplaceError {
 
 /// An owned text whose UTF-8 lies in `N` bytes of the value, so that no call asks for memory. A
 /// contract sees the list of its characters.
-// The text is the `len` bytes from `start` on, so that an edit near the front moves few bytes. `len`
-// comes second, as in std's `String`, so that an `InlinableStringN` has it in one place.
+// The text is the `len` bytes from `start` on, so that an edit near the front moves few bytes.
+// `len` comes second, as in std's `String`, so that an `InlinableStringN` has it in one place.
 #[derive(Drop)]
 pub struct InlineStringN<const N: usize> {
     start: usize,

@@ -55,7 +55,8 @@ impl Symbols {
 
     /// The id of a text, if it has one. Only a text of more than 30 bytes can be refused memory.
     pub fn find(&self, text: &str) -> Result<Option<usize>, AllocError>
-        ensures known { IfOk result (λ id. IfSome id (λ id. slice_get self.now id ≡ Some text.now)) }
+        ensures known { IfOk result (λ id. IfSome id
+            (λ id. slice_get self.now id ≡ Some text.now)) }
         ensures unknown { IfOk result (λ id. IfNone id
             ((i : ℕ) → ¬ (slice_get self.now i ≡ Some text.now))) }
         ensures short { length text.now ≤ 30 → IsOk result }

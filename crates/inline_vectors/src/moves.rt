@@ -15,8 +15,8 @@ use test_support::step::HEAP_ROOM;
 
 mod wrong_tables;
 
-/// A text, the room that it is made with, the one block of memory that can be had, of so many bytes,
-/// and where the text lies after the move, or in the value that is handed back.
+/// A text, the room that it is made with, the one block of memory that can be had, of so many
+/// bytes, and where the text lies after the move, or in the value that is handed back.
 pub type MoveRow<'a> = (
     &'a str,
     Option<usize>,

@@ -11,7 +11,8 @@ others P n ns all k d h = all (suc k) d (omega (arith, h))
 behind_byte : (digits bytes : List ℕ) → All (λ byte. byte < 2 ^ 8) bytes
     → digits ≡ digits_of_bytes bytes → AreOfBytes (drop 2 digits)
 behind_byte digits [] all e = ([], all, ap (drop 2) e)
-behind_byte digits (byte ∷ bytes) all e = (bytes, others (λ b. b < 2 ^ 8) byte bytes all, ap (drop 2) e)
+behind_byte digits (byte ∷ bytes) all e =
+    (bytes, others (λ b. b < 2 ^ 8) byte bytes all, ap (drop 2) e)
 
 -- what follows two digits of bytes is of bytes
 pub rest_of_bytes : (digits : List ℕ) → AreOfBytes digits
@@ -37,7 +38,8 @@ no_byte digits l none h = let b = first_byte digits h.0 l h.1 h.2 in none b.0 b.
 behind_unit : (digits units : List ℕ) → All (λ unit. unit < 2 ^ 16) units
     → digits ≡ digits_of_units units → AreOfUnits (drop 4 digits)
 behind_unit digits [] all e = ([], all, ap (drop 4) e)
-behind_unit digits (unit ∷ units) all e = (units, others (λ u. u < 2 ^ 16) unit units all, ap (drop 4) e)
+behind_unit digits (unit ∷ units) all e =
+    (units, others (λ u. u < 2 ^ 16) unit units all, ap (drop 4) e)
 
 -- what follows four digits of units is of units
 pub rest_of_units : (digits : List ℕ) → AreOfUnits digits

@@ -38,7 +38,8 @@ bytes_added Popped = 1
 bytes_added Removed = 1
 bytes_added RemovedWide = 4
 
--- for how many more there was room, where room can be reserved: 31 are too many for any of the types
+-- for how many more there was room, where room can be reserved: 31 are too many for any of the
+-- types
 abbrev pub room_taken : Way → ℕ
 room_taken Made = 0
 room_taken Reserved = 31

@@ -23,7 +23,8 @@ pub fn push_bytes_read<S: StringExt + Drop>(
         ++ answer_line name.now (codes "from_utf8_lossy borrowed") (cow_str_bytes read.now.lossy))
         (λ error. answers.new.items ≡ answers.old.items
         ++ answer_line name.now (codes "from_utf8 fault") (from_utf8_error_vec error).items
-        ++ answer_line name.now (codes "from_utf8_lossy borrowed") (cow_str_bytes read.now.lossy))) }
+        ++ answer_line name.now (codes "from_utf8_lossy borrowed")
+        (cow_str_bytes read.now.lossy))) }
     ensures owned { OnOk result (¬ (IsBorrowedStr read.now.lossy) → MatchResult read.now.strict
         (λ made. answers.new.items ≡ answers.old.items
         ++ answer_line name.now (codes "from_utf8 text") (bytes_of (S.state made).text)

@@ -1,6 +1,6 @@
-//! A line that asks for calls on one text, one after the other: the type of the text, and a word for
-//! each call, as `insert@1:c3a9`. Behind `@` stands a number (a place, an amount or a width), and
-//! behind `:` the digits of what the call is given (a text, bytes or units).
+//! A line that asks for calls on one text, one after the other: the type of the text, and a word
+//! for each call, as `insert@1:c3a9`. Behind `@` stands a number (a place, an amount or a width),
+//! and behind `:` the digits of what the call is given (a text, bytes or units).
 //!
 //! The text starts empty. One line tells what each call answers and where the text lies after it,
 //! and at the end where it lies, its length, and its bytes.

@@ -2,8 +2,9 @@
 //!
 //! A line of the readers is `bytes` or `units`, a space, and hexadecimal digits: two for each byte,
 //! four for each unit. The answers of both types of text are printed, a line each. A line of a pair
-//! of texts is `pair` and what `pair.rt` says: where both lie is printed, and how they compare, hash
-//! and print. A line of calls is `calls` and what `calls.rt` says: one line has all their answers.
+//! of texts is `pair` and what `pair.rt` says: where both lie is printed, and how they compare,
+//! hash and print. A line of calls is `calls` and what `calls.rt` says: one line has all their
+//! answers.
 #![tactic(auto)]
 
 mod answers;

@@ -17,7 +17,8 @@ const MOST_TRIES: usize = 10;
 /// So many blocks more are set aside at each further try, and so another one is given back.
 const SET_ASIDE: usize = 50;
 
-/// What a test says that cannot hold all memory. It fails by that, since it has not checked anything.
+/// What a test says that cannot hold all memory. It fails by that, since it has not checked
+/// anything.
 pub const NEEDS_THE_PROVED_BUILD: &str =
     "all memory cannot be held here: this test needs the proved build";
 
@@ -38,8 +39,8 @@ impl Hoard {
     }
 
     /// All memory but one block, which serves one request of so many bytes. The C library gives a
-    /// longer one at times, as its free blocks happen to lie, and keeps that for requests of its own
-    /// length; so it is asked whether the block that was given back serves.
+    /// longer one at times, as its free blocks happen to lie, and keeps that for requests of its
+    /// own length; so it is asked whether the block that was given back serves.
     pub fn take_but_one(alloc: Global, size: usize) -> Option<Hoard> {
         for tries in 0..MOST_TRIES {
             let mut blocks = Vec::with_capacity(alloc, MOST_BLOCKS).ok()?;

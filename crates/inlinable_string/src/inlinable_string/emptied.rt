@@ -1,4 +1,5 @@
-//! The empty texts that std makes: in a map where none stands, and in the place of one that is taken.
+//! The empty texts that std makes: in a map where none stands, and in the place of one that is
+//! taken.
 ghost use Rattle.std.specs.Prelude.{◌≡◌, [], IfOk, IsOk};
 ghost use Rattle.inlinable_string.specs.declared.string_ext.Storage.TheVariants.{Inline};
 ghost use Rattle.inlinable_string.specs.Values.{inlinable_state};
@@ -18,8 +19,8 @@ impl<const N: usize> MadeWith<Global> for InlinableStringN<N> {
     }
 }
 
-/// What `mem::try_take` leaves in the place of a text: the empty text, inline, with the allocator of
-/// the one that is taken. It takes no memory, so nothing is refused.
+/// What `mem::try_take` leaves in the place of a text: the empty text, inline, with the allocator
+/// of the one that is taken. It takes no memory, so nothing is refused.
 impl<const N: usize> Emptied for InlinableStringN<N> {
     ghost is_emptied = { λ left. ((inlinable_state N left).text ≡ [])
         × ((inlinable_state N left).storage ≡ Inline) };

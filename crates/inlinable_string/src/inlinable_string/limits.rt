@@ -11,8 +11,9 @@ impl<const N: usize> InlinableStringN<N> {
     /// The same text with room for `M` bytes inline: it lies there exactly where it has at most as
     /// many. A refusal hands the text back as it was.
     ///
-    /// Only a text that lies inline and has more than `M` bytes takes memory, for as many as it has,
-    /// asked for once. A heap text of more than `M` bytes is moved as it is, with its capacity.
+    /// Only a text that lies inline and has more than `M` bytes takes memory, for as many as it
+    /// has, asked for once. A heap text of more than `M` bytes is moved as it is, with its
+    /// capacity.
     pub fn with_limit<const M: usize>(self) -> Result<InlinableStringN<M>, InlinableStringN<N>>
         ensures text { IfOk result (λ moved.
             (inlinable_state M moved).text ≡ (inlinable_state N self.entry).text) }

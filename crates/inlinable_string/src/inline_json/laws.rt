@@ -9,8 +9,8 @@ use super::JsonError;
 use std::alloc::AllocError;
 use std::fmt;
 
-/// A JSON value is the string of one text at most: so what `from_json` reads of what `to_json` gave is
-/// the same text. `len` tells that the characters of the first are scalar values.
+/// A JSON value is the string of one text at most: so what `from_json` reads of what `to_json` gave
+/// is the same text. `len` tells that the characters of the first are scalar values.
 pub fn json_gives_the_text_back()
     ensures { (value : Data) (t u : List ℕ) → all_scalars t ≡ true
         → value ≡ string (bytes_of t) → value ≡ string (bytes_of u) → u ≡ t }

@@ -17,7 +17,8 @@ pub fn texts_of_items()
 /// "a", of which two bytes may lie inline, stays there with "b", and goes to the heap with "é"; "b"
 /// stands behind it, and not before it.
 pub fn text_with_one_item()
-    ensures inline { IsExtended (inline_text (codes "a") 2) (codes "b") (inline_text (codes "ab") 2) }
+    ensures inline { IsExtended (inline_text (codes "a") 2) (codes "b")
+        (inline_text (codes "ab") 2) }
     ensures heap { IsExtended (inline_text (codes "a") 2) (233 ∷ []) (heap_text (97 ∷ 233 ∷ []) 3) }
     ensures stayed { ¬ IsExtended (inline_text (codes "a") 2) (233 ∷ [])
         (inline_text (97 ∷ 233 ∷ []) 2) }

@@ -76,8 +76,8 @@ pub fn fronts_of_a_line()
     ensures unknown { ¬ WritesFront (Some []) None (codes "done") }
 {}
 
-/// "do" waits, and then comes "ne": nothing, a part or all of it may be written, the rest waits, and
-/// none is lost or written twice.
+/// "do" waits, and then comes "ne": nothing, a part or all of it may be written, the rest waits,
+/// and none is lost or written twice.
 pub fn gathered_bytes()
     ensures nothing { IsGathered (Some []) (Some []) (codes "do") (codes "ne") (codes "done") }
     ensures part { IsGathered (Some (codes "x")) (Some (codes "xdo"))

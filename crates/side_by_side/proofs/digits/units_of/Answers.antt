@@ -9,5 +9,7 @@ returns-in_default-unit_of-clause-none c h =
     (c.loop-rest.invariant.1 h)
 
 pub loop-rest-preserved : goal.loop-rest-preserved
-loop-rest-preserved c =
-    (grind (arith, common_steps), λ h. rest_of_units c.loop-rest.rest.now (c.loop-rest.invariant.1 h))
+loop-rest-preserved c = (
+  grind (arith, common_steps),
+  λ h. rest_of_units c.loop-rest.rest.now (c.loop-rest.invariant.1 h),
+)
