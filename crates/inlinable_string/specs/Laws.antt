@@ -13,7 +13,7 @@ replies_of t [] = []
 replies_of t (command ∷ commands) =
     reply_of (edit t command) ∷ replies_of (text_left t (edit t command)) commands
 
--- the text after them
+-- the text after commands from the text t, one after the other, where no memory is refused
 abbrev pub text_after_edits : List ℕ → List Command → List ℕ
 text_after_edits t [] = t
 text_after_edits t (command ∷ commands) =
@@ -24,12 +24,13 @@ abbrev pub ReservesWithin : ℕ → List ℕ → Need → Type 0
 ReservesWithin n t (reserved m) = size t + m ≤ n
 ReservesWithin n t need = Unit {0}
 
--- a command on the text t leaves at most n bytes, and so has t with what is reserved beside it
+-- a command on the text t leaves at most n bytes, and what it reserves has room within n beside t
 abbrev pub LeavesWithin : ℕ → List ℕ → Command → Type 0
 LeavesWithin n t command =
     ReservesWithin n t (need_of command) × (size (text_left t (edit t command)) ≤ n)
 
--- each command of a run from t in which no memory is refused does
+-- each command of a list from the text t, where no memory is refused, leaves and reserves for at
+-- most n bytes
 abbrev pub StaysWithin : ℕ → List ℕ → List Command → Type 0
 StaysWithin n t [] = Unit {0}
 StaysWithin n t (command ∷ commands) =

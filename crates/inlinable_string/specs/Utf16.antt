@@ -28,7 +28,7 @@ abbrev pub is_unpaired : List ℕ → ℕ → Bool
 is_unpaired v i =
     (is_high_at v i && not (is_low_at v (i + 1))) || (is_low_at v i && not (is_high_before v i))
 
--- some unit is
+-- some unit of v is a surrogate without its partner
 abbrev pub HasUnpaired : List ℕ → Type 0
 HasUnpaired v = (i : ℕ) × IsTrue (is_unpaired v i)
 

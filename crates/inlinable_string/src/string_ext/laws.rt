@@ -17,7 +17,7 @@ pub fn paired_units_are_a_text()
         → units_of (lossy_utf16 v) ≡ v }
 {}
 
-/// Where one is unpaired, no text has these units.
+/// Units of which one is unpaired are those of no text.
 pub fn units_of_a_text_are_paired()
     ensures { (t : List ℕ) → all_scalars t ≡ true → ¬ (HasUnpaired (units_of t)) }
 {}
