@@ -13,6 +13,15 @@ STATED = {
         'on {reading_values} stored and {run_lines} generated inputs; {reading_inputs} once',
         'on {pair_values} stored and {run_lines} generated pairs; {pair_inputs} once',
         'on {call_values} stored and {run_lines} generated lines of calls; {call_inputs} once',
+        '| `from` of 6 bytes | {from_6_ours} | {from_6_original} | {from_6_rust} | {from_6_cxx} |',
+        '| `push_str` of 6 bytes onto the empty text | {push_str_6_ours} | {push_str_6_original} '
+        '| {push_str_6_rust} | {push_str_6_cxx} |',
+        '| 30 `push` of a letter, all together | {push_30_ours} | {push_30_original} | {push_30_rust} '
+        '| {push_30_cxx} |',
+        '| a command of 256 by `run`, in place | {run_in_place_ours} | {run_in_place_original} '
+        '| {run_in_place_rust} | |',
+        '| `from_utf8_lossy` of 694 bytes, every tenth of them bad | {bad_694_ours} | {bad_694_original} '
+        '| {bad_694_rust} | |',
     ),
     'docs/TESTING.md': (
         '{crates} crates, the {edits_alone} edits of `must-fail/`, {tests} tests',

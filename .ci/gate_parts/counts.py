@@ -12,7 +12,7 @@ from collections import Counter
 from floors import (
     BENCH_WORKLOADS, CALLS, DEPARTURES, HOSTILE_INPUTS, PAIRS, PROMISES, QUOTED, READINGS, REFUSALS, STORED,
     TRIED)
-from gate_parts import answered_lines, departures, promises, quoted
+from gate_parts import answered_lines, bench_table, departures, promises, quoted
 from gate_parts.callers import require_callers
 from gate_parts.digests import STEP
 from gate_parts.edit_files import edits_of
@@ -149,6 +149,7 @@ def counted():
         'run_lines': answered_lines.THOUSANDS * STEP,
         'workloads': BENCH_WORKLOADS,
         'tried_tests': tried, 'held_tests': held,
+        **bench_table.shown(bench_table.table()),
     }
 
 

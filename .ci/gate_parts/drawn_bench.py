@@ -1,9 +1,7 @@
 """The picture of the bench: the instructions of some workloads beside those of the peers, by the table of
 `bench/README.md`."""
-import re
-
+from gate_parts.bench_table import number, rows_named, table
 from gate_parts.svg import ADDED, FAINT, FREE, KEPT, MOVED, Drawing
-from gate_parts.tree import Failure, in_tree, text_of
 
 # The workloads that are drawn: some of each kind, those among them on which ours takes most.
 DRAWN = ('from 6', 'from 30', 'from 694', 'push 30 chars', 'push 31 chars (promotes)', 'from 29, insert(0)',
@@ -16,29 +14,9 @@ LEFT, NAME_WIDTH, WIDTH, BAR, GAP, LETTER = 24, 220, 760, 11, 10, 7
 FULL = 400
 
 
-def cells(line):
-    return [cell.strip() for cell in line.strip('|').split('|')]
-
-
 def rows():
     """The drawn workloads, each with what the peers take; none where a peer has it not."""
-    lines = [cells(line) for line in text_of(in_tree('bench', 'README.md')).splitlines()
-             if line.startswith('|')]
-    heads = [line for line in lines if line[0] == 'workload' and 'original' in line]
-    if not heads:
-        raise Failure('bench/README.md has no table of workloads beside the original crate')
-    places = {peer: heads[0].index(peer) for peer, _ in PEERS}
-    found = {line[0]: line for line in lines if len(line) == len(heads[0])}
-    missing = [name for name in DRAWN if name not in found]
-    if missing:
-        raise Failure(f'bench/README.md has no row for {", ".join(missing)}')
-    return [[name, *(found[name][places[peer]] for peer, _ in PEERS)] for name in DRAWN]
-
-
-def number(cell):
-    if cell and not re.fullmatch(r'[\d,]+(\.\d+)?', cell):
-        raise Failure(f'bench/README.md: {cell} is no number of instructions')
-    return float(cell.replace(',', '')) if cell else None
+    return [[name, *(row[peer] for peer, _ in PEERS)] for name, row in zip(DRAWN, rows_named(DRAWN, table()))]
 
 
 def drawing(lines):

@@ -16,8 +16,8 @@ from collections import Counter
 from unittest import mock
 
 from floors import CALL_ANSWERS, PAIR_ANSWERS, READING_ANSWERS
-from gate_parts import (call_inputs, counts, departures, hostile_inputs, pair_inputs, pictures, promises, quick, quoted,
-                        reading_inputs, said, specified, stored_lines)
+from gate_parts import (bench_table, call_inputs, counts, departures, hostile_inputs, pair_inputs, pictures, promises,
+                        quick, quoted, reading_inputs, said, specified, stored_lines)
 from gate_parts.answered_lines import shortfalls
 from gate_parts.callers import promising
 from gate_parts.counts import misstatements
@@ -623,6 +623,32 @@ class Counts(unittest.TestCase):
     def test_number_that_nobody_counts(self):
         with self.assertRaises(Failure):
             self.wrong('12 bugs', '{bugs} bugs')
+
+
+class BenchTable(unittest.TestCase):
+    """The rows of the bench that the README shows."""
+    HEAD = '| workload | ours | original | Rust `String` | libstdc++ |'
+    SHOWN = mock.patch.object(bench_table, 'SHOWN', {'read': 'read 6'})
+
+    def shown(self, *lines):
+        with self.SHOWN:
+            return bench_table.shown(bench_table.rows_of('\n'.join(lines)))
+
+    def test_half_is_rounded_up(self):
+        self.assertEqual(self.shown(self.HEAD, '| read 6 | 1,018.5 | 20.4 | 13.0 |  |'),
+                         {'read_ours': 1019, 'read_original': 20, 'read_rust': 13})
+
+    def test_row_that_is_missing(self):
+        with self.assertRaisesRegex(Failure, 'has no row for read 6'):
+            self.shown(self.HEAD, '| read 30 | 18.5 | 20.4 | 13.0 |  |')
+
+    def test_table_that_is_missing(self):
+        with self.assertRaisesRegex(Failure, 'has no table of workloads'):
+            self.shown('| read 6 | 18.5 | 20.4 | 13.0 |  |')
+
+    def test_cell_that_is_no_number(self):
+        with self.assertRaisesRegex(Failure, 'few is no number'):
+            self.shown(self.HEAD, '| read 6 | few | 20.4 | 13.0 |  |')
 
 
 class Quoted(unittest.TestCase):
