@@ -95,7 +95,7 @@ WRONG_DEFINITIONS = {'inlinable_string': 143, 'script_language': 101}
 
 # Edits in `wrong-clauses/`, and public functions of `callers` that promise something.
 WRONG_CLAUSES = 5
-CALLERS = 185
+CALLERS = 190
 
 # Departures that the judge over the original crate makes, each of a row of `docs/DIFFERENCES.md`.
 DEPARTURES = 10
@@ -107,7 +107,7 @@ PROMISES = 158
 PICTURES = {'array': 8, 'ways': 23, 'bench': 16, 'gate': 12}
 
 # What `CALLING.md` quotes of the sources: fences, clauses, words, laws, and laws with a caller's line.
-QUOTED = {'blocks': 23, 'clauses': 231, 'words': 50, 'laws': 71, 'cited': 62}
+QUOTED = {'blocks': 23, 'clauses': 231, 'words': 50, 'laws': 71, 'cited': 66}
 
 # By crate, for `gate quick`: tests that must pass without being proved, and how many at most may say
 # that they need the proved build.

@@ -1,18 +1,18 @@
 //! Lists of commands whose outcome is told in other words than those of `run`: the body calls the
 //! law that has these words.
-ghost use Rattle.std.specs.Prelude.{◌≡◌, ◌↔◌, ℕ, ◌+◌, [], ◌∷◌, None, length, map, Contains, IsTrue, IsUtf8};
+ghost use Rattle.std.specs.Prelude.{◌≡◌, ◌↔◌, ℕ, ◌+◌, [], ◌∷◌, Some, None, length, take, map, slice_get, Contains, IsTrue, IsUtf8};
 ghost use Rattle.inlinable_string.specs.Text.{bytes_of, size, cut, IsPlace, IsSplice, IsRemoval};
 ghost use Rattle.inlinable_string.specs.State.{IsSameText};
 ghost use Rattle.inlinable_string.specs.Run.{state_after};
-ghost use Rattle.inlinable_string.specs.Laws.{replies_of, text_after_edits, StaysWithin, is_refusal};
+ghost use Rattle.inlinable_string.specs.Laws.{replies_of, text_after_edits, LeavesWithin, StaysWithin, is_refusal};
 ghost use Rattle.inlinable_string.specs.Values.{inlinable_state};
 
 use inlinable_string::run::{
     Command, Reply, bad_places_are_no_places, cut_decides_places, each_reply_is_legal_in_its_turn,
     growths_add_their_bytes, insertions_are_splices, outcomes_are_told_by_reply_and_text,
     refusals_change_nothing, refusals_determine_the_run, remove_is_a_removal, remove_undoes_insert,
-    replacement_has_the_bytes, run, short_runs_are_edits, short_runs_never_ask,
-    texts_are_told_by_their_bytes, unrefused_runs_are_edits,
+    replacement_has_the_bytes, run, short_runs_are_edits, short_runs_are_short_at_each_command,
+    short_runs_never_ask, texts_are_told_by_their_bytes, unrefused_runs_are_edits,
 };
 use inlinable_string::{InlinableString, Storage, StringExt};
 
@@ -122,6 +122,21 @@ pub fn short_run(text: &mut InlinableString, commands: &[Command], replies: &mut
     short_runs_are_edits();
     let _ = text.len();
     run(text, commands, replies);
+}
+
+/// A run of which each command stays within the limit, on the text after those before it.
+pub fn run_of_short_steps(text: &mut InlinableString, commands: &[Command], replies: &mut [Reply])
+    requires count { length replies.old ≡ length commands.now }
+    requires inline { (inlinable_state 30 text.old).storage ≡ Storage.Inline }
+    requires short { (i : ℕ) (command : Command) → slice_get commands.now i ≡ Some command
+        → LeavesWithin 30
+        (text_after_edits (inlinable_state 30 text.old).text (take i commands.now)) command }
+    ensures granted { ¬ Contains replies.new Reply.NoMemory }
+    ensures text { (inlinable_state 30 text.new).text
+        ≡ text_after_edits (inlinable_state 30 text.old).text commands.now }
+{
+    short_runs_are_short_at_each_command();
+    short_run(text, commands, replies);
 }
 
 /// Any run: where no reply is want of memory, the text is that of edits.

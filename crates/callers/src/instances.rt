@@ -251,6 +251,9 @@ pub fn grow_inline(alloc: Global, text: &mut InlineStringN<16>) -> Result<Short,
     let mut short = Short::new(alloc);
     growths::add_inline(&mut short, "eight");
     growths::outgrow(&mut short, "no more than that")?;
+    let _ = joined::letters_of(text);
+    let spelled = joined::respelled(alloc, text)?;
+    joins::add_text(&spelled, &mut short)?;
     let copy = joins::growable(alloc, text);
     joins::add_text(&copy, &mut short)?;
     Ok(short)

@@ -1,16 +1,19 @@
 //! Texts that are joined from iterators, printed, written into, and used in the place of a `str`.
 ghost use Rattle.std.specs.Prelude.{◌≡◌, ◌+◌, ◌≤◌, ◌↔◌, ◌++◌, ◌∷◌, length, IfOk, IfErr, IsOk, OnOk, IsTrue};
 ghost use Rattle.std.specs.Str.{chars};
+ghost use Rattle.std.specs.Str.Iter.{chars_rest};
 ghost use Rattle.std.specs.String.{string_bytes};
 ghost use Rattle.inlinable_string.specs.Text.{bytes_of, size};
 ghost use Rattle.inlinable_string.specs.State.{IsSameText, HasRoom, storage_when_made};
 ghost use Rattle.inlinable_string.specs.Joins.{text_of_strs};
 ghost use Rattle.inlinable_string.specs.Values.{inlinable_policy, inlinable_state};
 
+use inlinable_string::laws::borrowed::loops_go_over_the_text;
 use inlinable_string::laws::printed::writing_in_calls_appends;
 use inlinable_string::{InlinableString, InlinableStringN, InlineStringN, StringExt};
 use std::alloc::{AllocError, Global};
 use std::fmt::{self, Write};
+use std::str::Chars;
 
 /// Words joined.
 pub fn joined<const N: usize>(
@@ -69,6 +72,25 @@ pub fn collected(alloc: Global, word: &str) -> Result<InlinableString, AllocErro
     ensures { IfOk result (λ made. bytes_of (inlinable_state 30 made).text ≡ word.now) }
 {
     word.chars().collect(alloc)
+}
+
+/// What a `for` over a word in an array goes over: its letters.
+pub fn letters_of<'a, const N: usize>(word: &'a InlineStringN<N>) -> Chars<'a>
+    ensures { chars_rest result ≡ bytes_of word.now }
+{
+    loops_go_over_the_text::<N>();
+    word.into_iter()
+}
+
+/// A word in an array, letter by letter.
+pub fn respelled<const N: usize>(
+    alloc: Global,
+    word: &InlineStringN<N>,
+) -> Result<InlinableString, AllocError>
+    ensures { IfOk result (λ made. bytes_of (inlinable_state 30 made).text ≡ bytes_of word.now) }
+{
+    let _ = word.len();
+    InlinableString::from_chars(alloc, word.into_iter())
 }
 
 /// A name with an ending, or the name back as it was.

@@ -1,5 +1,6 @@
 //! Texts from bytes and from UTF-16, and taken apart again.
-ghost use Rattle.std.specs.Prelude.{◌≡◌, ◌≤◌, ◌<◌, ◌↔◌, [], ◌∷◌, ◌++◌, length, drop, IfOk, IfErr, IfSome, IfNone, IsOk, Err, IsUtf8, true, IsSome};
+ghost use Rattle.std.specs.Prelude.{◌≡◌, ℕ, ◌≤◌, ◌<◌, ◌↔◌, List, [], ◌∷◌, ◌++◌, length, drop, IfOk, IfErr, IfSome, IfNone, IsOk, Err, IsUtf8, true, IsSome};
+ghost use Rattle.std.specs.Char.{IsScalar, encode_utf8};
 ghost use Rattle.std.specs.Str.{chars, StartsWithNoChar};
 ghost use Rattle.std.specs.String.{string_bytes};
 ghost use Rattle.std.specs.Cow.{cow_str_bytes, IsBorrowedStr};
@@ -11,7 +12,7 @@ ghost use Rattle.inlinable_string.specs.Values.{inlinable_policy, inlinable_stat
 
 use inlinable_string::laws::bytes_of_parts;
 use inlinable_string::string_ext::laws::{
-    a_subpart_is_replaced, bytes_give_the_text_back, paired_units_are_a_text,
+    a_character_is_read, a_subpart_is_replaced, bytes_give_the_text_back, paired_units_are_a_text,
     units_of_a_text_are_paired, utf8_is_read_as_it_is, utf16_is_read_as_it_is,
 };
 use inlinable_string::{
@@ -131,6 +132,15 @@ pub fn shown_behind<'a>(alloc: Global, bytes: &'a [u8]) -> Result<CowStr<'a>, Al
         ≡ bytes_of (0xFFFD ∷ lossy_utf8 (drop (subpart_len bytes.now) bytes.now))) }
 {
     a_subpart_is_replaced();
+    InlinableString::from_utf8_lossy(alloc, bytes)
+}
+
+/// Bytes that may begin with a character: it is read, and then what stands behind it.
+pub fn shown_from<'a>(alloc: Global, bytes: &'a [u8]) -> Result<CowStr<'a>, AllocError>
+    ensures { (c : ℕ) (rest : List ℕ) → IsScalar c → bytes.now ≡ encode_utf8 c ++ rest
+        → IfOk result (λ read. cow_str_bytes read ≡ bytes_of (c ∷ lossy_utf8 rest)) }
+{
+    a_character_is_read();
     InlinableString::from_utf8_lossy(alloc, bytes)
 }
 

@@ -1,5 +1,5 @@
 //! Lists of commands: what the replies and the text are where the commands are known.
-ghost use Rattle.std.specs.Prelude.{◌≡◌, ◌↔◌, ℕ, ◌+◌, ◌≤◌, List, ◌++◌, [], ◌∷◌, length, map, vec_len, IsTrue, OnOk, OnErr};
+ghost use Rattle.std.specs.Prelude.{◌≡◌, ◌↔◌, ℕ, ◌+◌, ◌*◌, ◌<◌, ◌≤◌, List, ◌++◌, [], ◌∷◌, Some, length, take, drop, map, slice_get, vec_len, IsTrue, OnOk, OnErr};
 ghost use Rattle.std.specs.Str.{chars};
 ghost use Rattle.inlinable_string.specs.Text.{IsPlace};
 ghost use Rattle.inlinable_string.specs.State.{HasInlineRoom};
@@ -8,8 +8,8 @@ ghost use Rattle.inlinable_string.specs.Values.{inlinable_state};
 
 use inlinable_string::laws::sizes_of_parts;
 use inlinable_string::run::{
-    Command, Reply, edits_are_done_at_places, pop_takes_off_the_last_character,
-    reserved_pushes_never_fail, run, run_dyn, run_each,
+    Command, Reply, each_text_has_its_own_run, edits_are_done_at_places,
+    pop_takes_off_the_last_character, reserved_pushes_never_fail, run, run_dyn, run_each,
 };
 use inlinable_string::{InlinableString, Storage, StringExt};
 use std::alloc::{AllocError, Global};
@@ -151,4 +151,15 @@ pub fn clear_all(
     replies.resize(texts.len(), Reply::NoMemory)?;
     run_each(texts, &[Command::Clear], &mut replies);
     Ok(())
+}
+
+/// The reply of one of many texts to one of the commands: it is among the text's own replies.
+pub fn reply_of_one(commands: &[Command], replies: &[Reply], text: usize, command: usize) -> Reply
+    requires command { command < length commands.now }
+    requires reply { text * length commands.now + command < length replies.now }
+    ensures { slice_get (take (length commands.now)
+        (drop (text * length commands.now) replies.now)) command ≡ Some result }
+{
+    each_text_has_its_own_run();
+    replies[text * commands.len() + command]
 }
