@@ -29,8 +29,8 @@ abbrev pub LeavesWithin : ℕ → List ℕ → Command → Type 0
 LeavesWithin n t command =
     ReservesWithin n t (need_of command) × (size (text_left t (edit t command)) ≤ n)
 
--- each command of a list from the text t, where no memory is refused, leaves and reserves for at
--- most n bytes
+-- each command of a list that begins at the text t, where no memory is refused, leaves at most n
+-- bytes, and what it reserves has room within n beside the text that it finds
 abbrev pub StaysWithin : ℕ → List ℕ → List Command → Type 0
 StaysWithin n t [] = Unit {0}
 StaysWithin n t (command ∷ commands) =

@@ -9,7 +9,7 @@ use Rattle.std.specs.Str.{encode_utf8_all}
 abbrev pub bytes_of : List ℕ → List ℕ
 bytes_of t = encode_utf8_all t
 
--- how many bytes these are
+-- how many bytes the UTF-8 of a text has
 abbrev pub size : List ℕ → ℕ
 size t = length (encode_utf8_all t)
 

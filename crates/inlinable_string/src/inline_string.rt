@@ -91,8 +91,8 @@ impl<const N: usize> InlineStringN<N> {
         ensures { result ≡ [] }
     {
         InlineStringN {
-            len: 0,
             start: 0,
+            len: 0,
             bytes: [0; N],
         }
     }

@@ -180,6 +180,12 @@ const ACCEPTED: &[Accepted] = &[
         "done\ndone\ntext \nlength 0\nstorage inline\n",
     ),
     (
+        "a line that ends with the space before its empty text is whole",
+        "inline",
+        "push_str \n",
+        "done\ntext \nlength 0\nstorage inline\n",
+    ),
+    (
         "the empty text has no last character",
         "inline",
         "pop\n",

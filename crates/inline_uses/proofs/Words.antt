@@ -1,4 +1,4 @@
--- Where the word at the front of a text ends.
+-- Where the word at the front of a text ends, and with what no word begins.
 use Rattle.std.proofs.Common.{◌≡◌, ℕ, List, [], ◌∷◌, ◌++◌, Bool, true, false, not, cond, refl, sym, ap, ◌∙◌}
 use Rattle.std.specs.Char.{encode_utf8}
 use Rattle.std.specs.List.{take_while}

@@ -20,7 +20,7 @@ pub fn parsed_where_it_fits<const N: usize>()
         → ⟦<InlineStringN<N> as FromStr>⟧.from_str_gives bytes (Err error) ↔ (N < length bytes) }
 {}
 
-/// So does `try_from` of a `&str`.
+/// `try_from` of a `&str` makes a text of an array exactly where the bytes have room.
 pub fn taken_where_it_fits<'a, const N: usize>()
     ensures made { (string : Bor (List ℕ)) (t : List ℕ)
         → ⟦<InlineStringN<N> as TryFrom<&'a str>>⟧.try_from_gives string (Ok t)

@@ -28,7 +28,7 @@ pub fn a_character_is_read()
         → lossy_utf8 (encode_utf8 c ++ rest) ≡ c ∷ lossy_utf8 rest }
 {}
 
-/// Where none begins, U+FFFD is read for the maximal subpart, and what follows it by itself.
+/// Where no character begins, U+FFFD is read for the maximal subpart; what follows, by itself.
 pub fn a_subpart_is_replaced()
     ensures { (bs : List ℕ) → 0 < length bs → StartsWithNoChar bs
         → lossy_utf8 bs ≡ 0xFFFD ∷ lossy_utf8 (drop (subpart_len bs) bs) }
