@@ -2,7 +2,7 @@
 ghost use Rattle.std.specs.Prelude.{◌≤◌};
 
 use crate::held::all_but;
-use crate::texts::{is_text, text_of};
+use crate::texts::{is_lying, is_text, text_of};
 use Answer::{NoMemory, NotString, Other, Right};
 use Storage::{Heap, Inline};
 use inlinable_string::inline_json::JsonError;
@@ -114,11 +114,13 @@ pub enum Answer {
     NoMemory,
 }
 
+/// The text must lie inline where it has at most `N` bytes.
 fn answer_to_from_json<const N: usize>(alloc: Global, value: &Value, content: &str) -> Answer
     requires { N ≤ 300 }
 {
+    let storage = if content.len() <= N { Inline } else { Heap };
     match InlinableStringN::<N>::from_json(alloc, value) {
-        Ok(text) if is_text(&text, content) => Right,
+        Ok(text) if is_lying(&text, content, storage) => Right,
         Ok(_) => Other,
         Err(JsonError::NotString) => NotString,
         Err(JsonError::NoMemory) => NoMemory,

@@ -3,7 +3,7 @@
 ghost use Rattle.std.specs.Prelude.{◌≤◌};
 
 use super::Items::{self, Chars, Strs};
-use super::{EXTENSIONS, Extension, collected, extend, is_made, join_letters, joined};
+use super::{EXTENSIONS, Extension, collected, extend, join_letters, joined};
 use crate::held::{all_but, all_memory};
 use crate::texts::{LONG, is_lying, text_of};
 use Storage::{Heap, Inline};
@@ -106,7 +106,15 @@ fn is_extended(rt: &impl Abort, alloc: Global, extension: Extension, shortage: &
     answer == shortage.answer && is_lying(&text, shortage.after, shortage.storage)
 }
 
-/// Whether the calls that make a text of items give it where it is not refused.
+/// Whether a text was made that is this and lies there, or none where that is refused.
+fn is_answered(made: Result<InlinableString, AllocError>, shortage: &Shortage) -> bool {
+    match made {
+        Ok(text) => { shortage.answer.is_ok() && is_lying(&text, shortage.after, shortage.storage) }
+        Err(AllocError) => shortage.answer.is_err(),
+    }
+}
+
+/// Whether the calls that make a text of items give it exactly where it is not refused.
 fn is_made_new(rt: &impl Abort, alloc: Global, shortage: &Shortage) -> bool {
     let hoard = all_but(rt, alloc, shortage.block);
     let made = [
@@ -115,9 +123,7 @@ fn is_made_new(rt: &impl Abort, alloc: Global, shortage: &Shortage) -> bool {
     ];
     drop(hoard);
     let [first, second] = made;
-    let wanted = shortage.answer.is_ok();
-    is_made(first, shortage.after, shortage.storage) == wanted
-        && is_made(second, shortage.after, shortage.storage) == wanted
+    is_answered(first, shortage) && is_answered(second, shortage)
 }
 
 /// The first shortage through which a text goes wrong.

@@ -61,9 +61,12 @@ fn answer_to_maker<S: StringMake + Drop>(made: Result<S, AllocError>, content: &
     }
 }
 
-fn answer_to_utf8(read: Result<CowStr, AllocError>, content: &str) -> Answer {
+/// The bytes are borrowed where they are the text.
+fn answer_to_utf8(read: Result<CowStr, AllocError>, bytes: &[u8], content: &str) -> Answer {
+    let is_borrowed = bytes == content.as_bytes();
     match read {
-        Ok(text) => answer_of(text.as_str() == content),
+        Ok(CowStr::Borrowed(text)) => answer_of(is_borrowed && text == content),
+        Ok(CowStr::Owned(text)) => answer_of(!is_borrowed && text.as_str() == content),
         Err(AllocError) => NoMemory,
     }
 }
@@ -72,7 +75,7 @@ fn read<S: StringMake + Drop>(alloc: Global, call: Call, content: &str) -> Answe
     match call {
         FromUtf16(units) => answer_to_utf16(S::from_utf16(alloc, units), content),
         FromUtf16Lossy(units) => answer_to_maker(S::from_utf16_lossy(alloc, units), content),
-        FromUtf8Lossy(bytes) => answer_to_utf8(S::from_utf8_lossy(alloc, bytes), content),
+        FromUtf8Lossy(bytes) => { answer_to_utf8(S::from_utf8_lossy(alloc, bytes), bytes, content) }
     }
 }
 
