@@ -11,7 +11,7 @@ EDITS = {'inlinable_string': 210, 'inline_model': 34, 'inline_uses': 26, 'script
 REFUSALS = {'inline_refusals': (4, 106), 'inline_script': (7, 57)}
 
 # The stored cases of the files in `replay/`, and the digests of a thousand answers each: all of them.
-STORED = {'named.cases': 258, 'sparrow.cases': 200, 'wren.cases': 250, 'digests': 100}
+STORED = {'named.cases': 258, 'drawn.cases': 63, 'digests': 100}
 
 # Inputs for the readers: how many have their answers by value, and the digests of a thousand each.
 READINGS = {'values': 500, 'digests': 1000}

@@ -68,6 +68,6 @@ STATED = {
         'one of the {departures} departures',
         'a line for each thousand of {pair_inputs} generated pairs, of which the gate runs the '
         'first {run_lines}',
-        'They are the first {sparrow_cases} and the first {wren_cases} that a Python program drew',
+        '{drawn_cases} cases, kept of 450 that a Python program drew',
     ),
 }

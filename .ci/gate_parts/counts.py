@@ -139,7 +139,7 @@ def counted():
         'callers': require_callers(),
         # in each crate one more build shows that no test makes a further request
         'requests': requests, 'meetings': meetings, 'refusal_builds': requests + len(REFUSALS),
-        'stored_cases': cases, 'original_cases': cases - STORED['named.cases'],
+        'stored_cases': cases,
         **{name.replace('.', '_'): count for name, count in STORED.items()},
         'stored_answers': STORED['digests'] * STEP, 'replayed_answers': THOUSANDS * STEP,
         'hostile_inputs': HOSTILE_INPUTS,

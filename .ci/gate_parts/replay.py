@@ -2,7 +2,7 @@
 
 Without PROGRAM they are the two that `rt ci` builds. Of the generated scripts, whose answers
 `replay/digests` keeps, it runs the first 30,000, and all with --all. Each difference is printed;
-the last lines are, for each program, like `llvm: 708 cases and 30 digests of 1000 scripts: 738
+the last lines are, for each program, like `llvm: 321 cases and 30 digests of 1000 scripts: 351
 passed, 0 failed`. The files of replay/ must hold just as much as `.ci/floors.py` says;
 replay/README.md says how they came about.
 """
