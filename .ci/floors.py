@@ -10,11 +10,13 @@ EDITS = {'inlinable_string': 210, 'inline_model': 34, 'inline_uses': 26, 'script
 # By crate: requests for memory refused one after the other, and how often a test met one.
 REFUSALS = {'inline_refusals': (4, 106), 'inline_script': (7, 57)}
 
-# The stored cases of the files in `replay/`, and the digests of a thousand answers each: all of them.
-STORED = {'named.cases': 258, 'drawn.cases': 63, 'digests': 100}
+# The stored cases of the files in `replay/`, and the scripts whose answers are kept as digests: all of them.
+STORED = {'named.cases': 258, 'drawn.cases': 63, 'digests': 100_000}
+# Of those scripts, and of the lines below, so many are run, the first, unless all are asked for.
+SCRIPTS_RUN, LINES_RUN = 40_000, 100_000
 
-# Inputs for the readers: how many have their answers by value, and the digests of a thousand each.
-READINGS = {'values': 500, 'digests': 1000}
+# Inputs for the readers: how many have their answers by value, and how many as digests.
+READINGS = {'values': 500, 'digests': 1_000_000}
 # Of those that are run: how many there must be of each kind and of each answer.
 READINGS_OF_EACH = 2_000
 READING_KINDS = (
@@ -28,7 +30,7 @@ READING_ANSWERS = tuple(f'{name} {answer}' for name in ('String', 'InlinableStri
 
 # Pairs of texts: the same. The words are the formats, and for each type the ways in which a text of it
 # comes about.
-PAIRS = {'values': 60, 'digests': 1000}
+PAIRS = {'values': 60, 'digests': 1_000_000}
 PAIRS_OF_EACH = 2_000
 PAIR_KINDS = (
     'equal_texts', 'front_of_other', 'other_last', 'same_size', 'an_empty_text', 'at_the_limits',
@@ -50,7 +52,7 @@ PAIR_ANSWERS = (
 # Calls on one text, on the original crate too: the same. The words are the calls of each type; the
 # answers are the refusals of each call, the calls by which a text goes to the heap or comes back, and
 # where it lies at the end.
-CALLS = {'values': 60, 'digests': 1000}
+CALLS = {'values': 60, 'digests': 1_000_000}
 CALLS_OF_EACH = 300
 CALL_KINDS = (
     'growths', 'cuts', 'slides', 'makers', 'room', 'readers', 'joins', 'comparisons', 'prints', 'views')

@@ -59,15 +59,12 @@ STATED = {
         'digests for {stored_answers} generated scripts',
         'all cases and the first {replayed_answers} scripts',
         '{reading_values} inputs, as many of each kind',
-        'a line for each thousand of {reading_inputs} generated inputs, of which the gate runs the '
-        'first {run_lines}',
+        'digests for {reading_inputs} generated inputs, of which the gate runs the first {run_lines}',
         '{pair_values} pairs, as many of each kind',
         '{call_values} lines of calls with their answers',
-        'a line for each thousand of {call_inputs} generated lines, of which the gate runs the first '
-        '{run_lines}',
+        'digests for {call_inputs} generated lines, of which the gate runs the first {run_lines}',
         'one of the {departures} departures',
-        'a line for each thousand of {pair_inputs} generated pairs, of which the gate runs the '
-        'first {run_lines}',
+        'digests for {pair_inputs} generated pairs, of which the gate runs the first {run_lines}',
         '{drawn_cases} cases, kept of 450 that a Python program drew',
     ),
 }

@@ -1,12 +1,10 @@
 """The builds of `side_by_side` on the lines of a family, against what `replay/` holds of it."""
-from gate_parts.digests import STEP, failed_digests
+from floors import LINES_RUN
+from gate_parts.digests import STEP, all_passed, failed_digests
 from gate_parts.line_digests import generated_lines
 from gate_parts.options import options
 from gate_parts.programs import chosen
 from gate_parts.stored_lines import failed_values, stored_line_digests, stored_values
-
-# So many thousands of generated inputs are run, unless all are.
-THOUSANDS = 100
 
 
 def shortfalls(wanted, of_each, tally):
@@ -19,19 +17,17 @@ def shortfalls(wanted, of_each, tally):
 def is_answered(family, builds, is_whole):
     """Whether every build, each a name and a path, answers as is stored, and there is enough of each kind."""
     values, digests = stored_values(family), stored_line_digests(family)
-    run = digests if is_whole else digests[:THOUSANDS]
+    run = digests if is_whole else digests[:LINES_RUN // STEP]
     failed, tally = failed_digests(generated_lines(family), builds, run)
     for kind, count in sorted(tally.items()):
         print(f'{count:>9,}  {kind}')
     for name, path in builds.items():
         failed[name] += failed_values(family, name, path, values)
-    for name, count in failed.items():
-        print(f'{name}: {len(values)} inputs and {len(run)} digests of {STEP} inputs: '
-              f'{len(values) + len(run) - count} passed, {count} failed')
+    has_passed = all_passed(failed, values, run, 'inputs')
     lacking = list(shortfalls(family.wanted, family.of_each, tally))
     for text in lacking:
         print(f'TOO FEW: {text}')
-    return not lacking and not any(failed.values())
+    return has_passed and not lacking
 
 
 def part_of(family, told, words):

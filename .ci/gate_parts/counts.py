@@ -10,14 +10,12 @@ import re
 from collections import Counter
 
 from floors import (
-    BENCH_WORKLOADS, CALLS, DEPARTURES, HOSTILE_INPUTS, PAIRS, PROMISES, QUOTED, READINGS, REFUSALS, STORED,
-    TRIED)
-from gate_parts import answered_lines, bench_table, departures, promises, quoted
+    BENCH_WORKLOADS, CALLS, DEPARTURES, HOSTILE_INPUTS, LINES_RUN, PAIRS, PROMISES, QUOTED, READINGS, REFUSALS,
+    SCRIPTS_RUN, STORED, TRIED)
+from gate_parts import bench_table, departures, promises, quoted
 from gate_parts.callers import require_callers
-from gate_parts.digests import STEP
 from gate_parts.edit_files import edits_of
 from gate_parts.options import options
-from gate_parts.replay import THOUSANDS
 from gate_parts.tree import TOP, Failure, crate_folder, dependencies, in_tree, text_of
 from stated import STATED
 
@@ -141,12 +139,12 @@ def counted():
         'requests': requests, 'meetings': meetings, 'refusal_builds': requests + len(REFUSALS),
         'stored_cases': cases,
         **{name.replace('.', '_'): count for name, count in STORED.items()},
-        'stored_answers': STORED['digests'] * STEP, 'replayed_answers': THOUSANDS * STEP,
+        'stored_answers': STORED['digests'], 'replayed_answers': SCRIPTS_RUN,
         'hostile_inputs': HOSTILE_INPUTS,
-        'reading_values': READINGS['values'], 'reading_inputs': READINGS['digests'] * STEP,
-        'pair_values': PAIRS['values'], 'pair_inputs': PAIRS['digests'] * STEP,
-        'call_values': CALLS['values'], 'call_inputs': CALLS['digests'] * STEP, 'departures': DEPARTURES,
-        'run_lines': answered_lines.THOUSANDS * STEP,
+        'reading_values': READINGS['values'], 'reading_inputs': READINGS['digests'],
+        'pair_values': PAIRS['values'], 'pair_inputs': PAIRS['digests'],
+        'call_values': CALLS['values'], 'call_inputs': CALLS['digests'], 'departures': DEPARTURES,
+        'run_lines': LINES_RUN,
         'workloads': BENCH_WORKLOADS,
         'tried_tests': tried, 'held_tests': held,
         **bench_table.shown(bench_table.table()),

@@ -1,13 +1,17 @@
-"""Digests of the answers to what is generated, a thousand at a time.
+"""Digests of the answers to what is generated.
 
-A line of a file of digests has a seed, the number of the first of a thousand inputs, a digest of the
-inputs, and one of a judge's answers to them. A digest is a SHA-256. Of the inputs' digest the first
-16 digits are enough: it only tells whether the inputs are still those that the judge answered.
-`script_digests.py` and `line_digests.py` say of what bytes the digests are.
+A line of a file of digests has a seed, the number of the first input, how many inputs it is of, a digest of
+the inputs, and one of a judge's answers to them. Each thousand that the gate runs has a line; the others,
+which it runs with --all, have one for each 30,000. A digest is a SHA-256: of a thousand, of the bytes that
+`script_digests.py` and `line_digests.py` say; of more, of the digests of its thousands in a row. Of the
+inputs' digest the first 16 digits are enough: it only tells whether the inputs are still those that the
+judge answered.
 """
 import os
 from collections import Counter
 from functools import partial
+from hashlib import sha256
+from itertools import islice
 from multiprocessing import Pool
 from typing import Callable, NamedTuple
 
@@ -16,19 +20,20 @@ from gate_parts.quick_runs import TooSlow
 from gate_parts.stored import check_count
 from gate_parts.tree import Failure
 
-STEP = 1000
+STEP, LONG_STEP = 1000, 30_000
 
 
 class Digest(NamedTuple):
     """What a line says."""
     seed: str
     first: int
+    count: int
     inputs: str
     answers: str
 
 
-class Thousand(NamedTuple):
-    """The digest of a thousand inputs, that of each program's answers, and what there is of each kind."""
+class Made(NamedTuple):
+    """The digest of some inputs, that of each program's answers, and what there is of each kind."""
     inputs: str
     answers: list
     tally: Counter
@@ -45,15 +50,24 @@ class Generated(NamedTuple):
     made_by: str
 
 
-def stored_digests(path, count):
-    """Those of a file, which must have so many."""
+def ranges(run, total):
+    """The first input of each digest, and how many it is of: where the gate runs so many of the total."""
+    return [*((first, STEP) for first in range(0, run, STEP)),
+            *((first, min(LONG_STEP, total - first)) for first in range(run, total, LONG_STEP))]
+
+
+def stored_digests(path, run, total):
+    """Those of a file, which must be of so many inputs."""
     with open(path, encoding='ascii') as file:
         rows = [line.split(' ') for line in file.read().splitlines()]
     try:
-        digests = [Digest(seed, int(first), *both) for seed, first, *both in rows]
+        digests = [Digest(seed, int(first), int(count), *both) for seed, first, count, *both in rows]
     except (TypeError, ValueError) as error:
         raise Failure(f'{path}: not a line of digests ({error})')
-    check_count(path, 'digests', len({(each.seed, each.first) for each in digests}), count)
+    wanted = ranges(run, total)
+    check_count(path, 'digests', len(digests), len(wanted))
+    if [(each.first, each.count) for each in digests] != wanted:
+        raise Failure(f'{path}: the digests are not one behind the other of {total:,} inputs')
     return digests
 
 
@@ -62,21 +76,33 @@ def framed(*parts):
     return b''.join(b'%d:%b' % (len(part), part) for part in parts)
 
 
-def all_digests(generated, programs, starts):
-    """Those of the thousands that start there, each at a seed and a number, on all processors."""
+def joined(thousands):
+    """The digest of several thousands; that of one is its own."""
+    if len(thousands) == 1:
+        return thousands[0]
+    inputs, *answers = (sha256(''.join(digests).encode()).hexdigest()
+                        for digests in zip(*((each.inputs, *each.answers) for each in thousands)))
+    return Made(inputs[:16], answers, sum((each.tally for each in thousands), Counter()))
+
+
+def all_digests(generated, programs, asked):
+    """Those of a list of ranges, each of a seed, a number and a count, on all processors."""
     check_draws()
+    starts = [(seed, at) for seed, first, count in asked for at in range(first, first + count, STEP)]
     with Pool(os.cpu_count()) as pool:
         try:
-            yield from pool.imap(partial(generated.digests_from, programs), starts)
+            thousands = pool.imap(partial(generated.digests_from, programs), starts)
+            for _, _, count in asked:
+                yield joined(list(islice(thousands, count // STEP)))
         except TooSlow as error:
             raise Failure(str(error))
 
 
-def print_digests(generated, judge, seed, count):
-    """Prints as many lines of digests of a judge's answers."""
-    starts = [(seed, number * STEP) for number in range(count)]
-    for start, made in zip(starts, all_digests(generated, [judge], starts)):
-        print(*start, made.inputs, *made.answers, flush=True)
+def print_digests(generated, judge, seed, run, total):
+    """Prints the lines of digests of a judge's answers."""
+    asked = [(seed, *each) for each in ranges(run, total)]
+    for each, made in zip(asked, all_digests(generated, [judge], asked)):
+        print(*each, made.inputs, *made.answers, flush=True)
 
 
 def failed_digests(generated, builds, wanted):
@@ -85,9 +111,9 @@ def failed_digests(generated, builds, wanted):
     Each that fails is printed, and where to look in the first of a build.
     """
     failed, tally = dict.fromkeys(builds, 0), Counter()
-    starts = [(digest.seed, digest.first) for digest in wanted]
-    for digest, made in zip(wanted, all_digests(generated, list(builds.values()), starts)):
-        title = f'seed {digest.seed}, {generated.name} {digest.first} to {digest.first + STEP - 1}'
+    asked = [digest[:3] for digest in wanted]
+    for digest, made in zip(wanted, all_digests(generated, list(builds.values()), asked)):
+        title = f'seed {digest.seed}, {generated.name} {digest.first} to {digest.first + digest.count - 1}'
         if made.inputs != digest.inputs:
             raise Failure(f'{title}: not those that the judge answered, since what draws them '
                              f'was changed: run `.ci/gate {generated.made_by}`')
@@ -99,3 +125,12 @@ def failed_digests(generated, builds, wanted):
                     print(generated.first_difference(builds[name], digest))
                 failed[name] += 1
     return failed, tally
+
+
+def all_passed(failed, stored, digests, name):
+    """Whether no build failed anything of what is stored, by value or as digests; prints what each passed."""
+    inputs = sum(digest.count for digest in digests)
+    for build, count in failed.items():
+        print(f'{build}: {len(stored)} {name} by value and {inputs} by {len(digests)} digests: '
+              f'{len(stored) + len(digests) - count} passed, {count} failed')
+    return not any(failed.values())

@@ -8,7 +8,7 @@ from functools import partial
 from hashlib import sha256
 
 from gate_parts.cases import Case
-from gate_parts.digests import Generated, Thousand
+from gate_parts.digests import STEP, Generated, Made
 from gate_parts.lines import inputs_from, text_of_inputs
 from gate_parts.quick_runs import QuickRuns, TooSlow
 from gate_parts.tree import Failure
@@ -36,18 +36,19 @@ def answers_to_each(family, inputs, answers):
 
 def digests_from(family, programs, start):
     """The digest of a thousand inputs, that of what each program answers, and the kinds of both."""
-    inputs = inputs_from(family, *start)
+    inputs = inputs_from(family, *start, STEP)
     lines = text_of_inputs(inputs)
     answers = [answers_of(program, f'the inputs from {start[1]} on', lines) for program in programs]
     # the answers of the first program: where those of another differ, its digest does
     answered = zip(inputs, answers_to_each(family, inputs, answers[0]))
     tally = Counter(name for each, lines in answered for name in family.counted(each, lines))
-    return Thousand(sha256(lines).hexdigest()[:16], [sha256(each).hexdigest() for each in answers], tally)
+    return Made(sha256(lines).hexdigest()[:16], [sha256(each).hexdigest() for each in answers], tally)
 
 
 def first_difference(family, program, digest):
     """How to find it: no answers but the judge's are there to compare with."""
-    given = f'.ci/gate draw_lines {family.name} --seed {digest.seed} --first {digest.first}'
+    given = (f'.ci/gate draw_lines {family.name} --seed {digest.seed} --first {digest.first} '
+             f'--thousands {digest.count // STEP}')
     return (f'To see at which, with JUDGE built as replay/README.md says:\n'
             f'    {given} >INPUTS; JUDGE <INPUTS >WANTED; {program} <INPUTS | diff WANTED -')
 

@@ -1,8 +1,6 @@
 """Inputs that are lines of `side_by_side`, in families that are drawn, stored and answered alike."""
 from typing import Callable, NamedTuple
 
-STEP = 1000
-
 
 class Input(NamedTuple):
     """A line, and its kind among those of its family."""
@@ -22,7 +20,7 @@ class Family(NamedTuple):
     counted: Callable
     # how many lines answer an input
     answers: int
-    # how many have their answers by value, and how many digests there are
+    # how many have their answers by value, and how many as digests
     held: dict
     # of each of these so many must be among the inputs and answers of what is run
     wanted: tuple
@@ -36,9 +34,9 @@ def kind_of_answer(line):
     return ' '.join(line.split(' ')[:3])
 
 
-def inputs_from(family, seed, first):
-    """A thousand of a seed."""
-    return [family.drawn(seed, number) for number in range(first, first + STEP)]
+def inputs_from(family, seed, first, count):
+    """So many of a seed."""
+    return [family.drawn(seed, number) for number in range(first, first + count)]
 
 
 def text_of_inputs(inputs):

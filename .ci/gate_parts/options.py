@@ -17,6 +17,7 @@ KNOWN = {
     '--jobs': {'type': int, 'default': PROCESSORS, 'metavar': 'N'},
     '--seed': {'default': SEED},
     '--first': {'type': int, 'default': 0, 'metavar': 'N'},
+    '--thousands': {'type': int, 'default': 1, 'metavar': 'N'},
     '--count': {'type': int, 'default': HOSTILE_INPUTS},
     '--all': {'action': 'store_true'},
     '--draw': {'action': 'store_true'},

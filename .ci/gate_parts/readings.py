@@ -3,7 +3,7 @@
 Without PROGRAM they are the two builds of `side_by_side` that `rt ci` leaves. What Rust's own std
 answers is stored in `replay/readings`: by value for some inputs, and as digests for the generated
 ones, of which it runs the first 100,000, and all with --all. Each difference is printed; the last
-lines are, for each program, like `llvm: 500 inputs and 100 digests of 1000 inputs: 600 passed, 0
+lines are, for each program, like `llvm: 60 inputs by value and 100000 by 100 digests: 160 passed, 0
 failed`. There must be as many inputs of each kind and as many of each answer as `.ci/floors.py` says.
 """
 from gate_parts.answered_lines import part_of

@@ -6,8 +6,8 @@ answer's standard output and exit status.
 from collections import Counter
 from hashlib import sha256
 
-from floors import STORED
-from gate_parts.digests import STEP, Generated, Thousand, framed, stored_digests
+from floors import SCRIPTS_RUN, STORED
+from gate_parts.digests import STEP, Generated, Made, framed, stored_digests
 from gate_parts.generated import generated_case
 from gate_parts.language import answer
 from gate_parts.programs import difference
@@ -18,12 +18,12 @@ from gate_parts.stored import path_of
 
 def stored_script_digests():
     """Those of `replay/digests`."""
-    return stored_digests(path_of('digests'), STORED['digests'])
+    return stored_digests(path_of('digests'), SCRIPTS_RUN, STORED['digests'])
 
 
-def scripts_from(seed, first):
-    """A thousand of a seed."""
-    return (generated_case(seed, number) for number in range(first, first + STEP))
+def scripts_from(seed, first, count=STEP):
+    """So many of a seed."""
+    return (generated_case(seed, number) for number in range(first, first + count))
 
 
 def digests_from(programs, start):
@@ -36,13 +36,13 @@ def digests_from(programs, start):
             for program, digest in zip(programs, answers):
                 output, status = runs.run(program, case)
                 digest.update(framed(output, b'%d' % status))
-    return Thousand(scripts.hexdigest()[:16], [digest.hexdigest() for digest in answers], Counter())
+    return Made(scripts.hexdigest()[:16], [digest.hexdigest() for digest in answers], Counter())
 
 
 def first_difference(program, digest):
-    """The first of a thousand scripts at which a program is not as the model."""
+    """The first of the scripts of a digest at which a program is not as the model."""
     with QuickRuns() as runs:
-        for case in scripts_from(digest.seed, digest.first):
+        for case in scripts_from(*digest[:3]):
             answer(case)
             given = runs.run(program, case)
             if given != (case.output, case.status):

@@ -38,9 +38,10 @@ FLOORS = '''
 EDITS = {'toy': 1}
 REFUSALS = {'toy': (2, 3)}
 STORED = {'a.cases': 2, 'b.cases': 1, 'digests': 0}
-READINGS, READINGS_OF_EACH, READING_KINDS, READING_ANSWERS = {'values': 40, 'digests': 2}, 0, (), ()
-PAIRS, PAIRS_OF_EACH, PAIR_KINDS, PAIR_WORDS, PAIR_ANSWERS = {'values': 40, 'digests': 2}, 0, (), (), ()
-CALLS, CALLS_OF_EACH, CALL_KINDS, CALL_WORDS, CALL_ANSWERS = {'values': 60, 'digests': 2}, 0, (), (), ()
+SCRIPTS_RUN, LINES_RUN = 0, 2_000
+READINGS, READINGS_OF_EACH, READING_KINDS, READING_ANSWERS = {'values': 40, 'digests': 4_000}, 0, (), ()
+PAIRS, PAIRS_OF_EACH, PAIR_KINDS, PAIR_WORDS, PAIR_ANSWERS = {'values': 40, 'digests': 4_000}, 0, (), (), ()
+CALLS, CALLS_OF_EACH, CALL_KINDS, CALL_WORDS, CALL_ANSWERS = {'values': 60, 'digests': 4_000}, 0, (), (), ()
 HOSTILE_INPUTS, HOSTILE_ACCEPTED_PART, HOSTILE_OF_EACH, HOSTILE_REPLIES, HOSTILE_FAULTS = 1, 0, 0, (), ()
 WRONG_DEFINITIONS, WRONG_CLAUSES, CALLERS, PROMISES, DEPARTURES = {'toy': 1}, 1, 1, 0, 0
 PICTURES = {'array': 8, 'ways': 23, 'gate': 12}
@@ -349,7 +350,7 @@ class Replay(InSmallRepository):
         self.assert_fails('missing, or read by nothing: c.cases', 'replay', self.program)
 
     def test_digests_that_are_cut(self):
-        self.write('.ci/floors.py', FLOORS.replace("'digests': 0", "'digests': 1"))
+        self.write('.ci/floors.py', FLOORS.replace("'digests': 0", "'digests': 1000"))
         self.assert_fails('has 0 digests, and must have 1', 'replay', self.program)
 
     def test_words_that_are_drawn_are_those_of_the_rules(self):
@@ -469,11 +470,12 @@ class AnsweredLines:
     def assert_part_passes(self, program):
         self.assert_passes(self.FAMILY.name, program)
 
-    def assert_part_fails(self, why, program):
-        self.assert_fails(why, self.FAMILY.name, program)
+    def assert_part_fails(self, why, program, *words):
+        self.assert_fails(why, self.FAMILY.name, program, *words)
 
     def test_answers_as_they_are_stored(self):
         self.assert_part_passes(self.program)
+        self.assert_passes(self.FAMILY.name, self.program, '--all')
 
     def test_answers_that_are_not(self):
         other = self.program_of('other', self.echo.replace(f'{self.last} /', 'other /'))
@@ -497,11 +499,23 @@ class AnsweredLines:
 
     def test_digests_that_are_cut(self):
         path = self.path_of('digests')
-        write_text(path, text_of(path).split('\n')[0] + '\n')
-        self.assert_part_fails('has 1 digests, and must have 2', self.program)
+        whole = text_of(path)
+        write_text(path, whole.split('\n')[0] + '\n')
+        self.assert_part_fails('has 1 digests, and must have 3', self.program)
+        for old, new in ((' 2000 2000 ', ' 2000 1000 '), (' 1000 1000 ', ' 0 1000 ')):
+            write_text(path, whole.replace(old, new))
+            self.assert_part_fails('not one behind the other of 4,000 inputs', self.program)
+
+    def test_digest_of_more_than_a_thousand(self):
+        path = self.path_of('digests')
+        rest, _, answers = text_of(path).rpartition(' ')
+        write_text(path, f'{rest} {answers[1:-1]}\n')
+        self.assert_part_passes(self.program)
+        self.assert_part_fails('inputs 2000 to 3999: not the answers of the judge', self.program, '--all')
+        self.assert_part_fails('--first 2000 --thousands 2 >INPUTS', self.program, '--all')
 
     def test_inputs_that_are_others(self):
-        self.changed('digests', text_of(self.path_of('digests')).split(' ')[2], '0' * 16)
+        self.changed('digests', text_of(self.path_of('digests')).split(' ')[3], '0' * 16)
         self.assert_part_fails('not those that the judge answered', self.program)
 
     def test_file_that_is_gone(self):
@@ -533,7 +547,7 @@ class Calls(AnsweredLines, InSmallRepository):
     VALUES = 60
 
     def test_too_few_of_each(self):
-        floors = FLOORS.replace("60, 'digests': 2}, 0, (), (), ()", "60, 'digests': 2}, 1, (), (), ('add promotes',)")
+        floors = FLOORS.replace("60, 'digests': 4_000}, 0, (), (), ()", "60, 'digests': 4_000}, 1, (), (), ('add promotes',)")
         self.write('.ci/floors.py', floors)
         self.assert_part_fails('TOO FEW: 0 are `add promotes`', self.program)
 
@@ -542,7 +556,7 @@ class LineInputs(unittest.TestCase):
     """What is drawn of a thousand inputs, for which the floors are too high, and without answers."""
 
     def lacking(self, family):
-        tally = Counter(name for each in inputs_from(family, 'selftest', 0) for name in family.counted(each, []))
+        tally = Counter(name for each in inputs_from(family, 'selftest', 0, 1000) for name in family.counted(each, []))
         wanted = [name for name in family.wanted if name not in ANSWERS]
         return list(shortfalls(wanted, family.of_each // 200, tally))
 

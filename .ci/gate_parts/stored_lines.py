@@ -13,6 +13,7 @@ import os
 from itertools import count
 from typing import NamedTuple
 
+from floors import LINES_RUN
 from gate_parts.digests import stored_digests
 from gate_parts.line_digests import answers_of, answers_to_each
 from gate_parts.lines import Input, text_of_inputs
@@ -41,7 +42,7 @@ def stored_line_digests(family):
     for folder, files in JUDGES.items():
         check_files(os.path.join(FOLDER, folder), *files)
     check_files(os.path.join(FOLDER, family.name), *family.held)
-    return stored_digests(path_of(family, 'digests'), family.held['digests'])
+    return stored_digests(path_of(family, 'digests'), LINES_RUN, family.held['digests'])
 
 
 def stored_values(family):
