@@ -16,7 +16,7 @@ STORED = {'named.cases': 258, 'drawn.cases': 63, 'digests': 100_000}
 SCRIPTS_RUN, LINES_RUN = 40_000, 100_000
 
 # Inputs for the readers: how many have their answers by value, and how many as digests.
-READINGS = {'values': 500, 'digests': 1_000_000}
+READINGS = {'values': 60, 'digests': 1_000_000}
 # Of those that are run: how many there must be of each kind and of each answer.
 READINGS_OF_EACH = 2_000
 READING_KINDS = (

@@ -30,7 +30,7 @@ def answers_of(program, name, lines):
 
 def answers_to_each(family, inputs, answers):
     """The lines of each input among those that a program prints of all."""
-    lines, size = answers.decode().splitlines(), family.answers
+    lines, size = answers.decode().splitlines(), family.answers * max(1, len(family.types))
     return [lines[at * size:(at + 1) * size] for at in range(len(inputs))]
 
 

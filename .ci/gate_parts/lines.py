@@ -18,7 +18,7 @@ class Family(NamedTuple):
     kinds: tuple
     # what an input counts as, with the lines that answer it
     counted: Callable
-    # how many lines answer an input
+    # how many lines answer an input; of each type, where there are types that must answer alike
     answers: int
     # how many have their answers by value, and how many as digests
     held: dict
@@ -27,6 +27,9 @@ class Family(NamedTuple):
     of_each: int
     # those that have their answers by value; where none are named, some of each kind are drawn
     named: tuple = ()
+    # and those that are drawn are no longer than this, to be read
+    longest: int = 1000
+    types: tuple = ()
 
 
 def kind_of_answer(line):

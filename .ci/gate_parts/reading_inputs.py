@@ -189,7 +189,6 @@ def counted(drawn, answers):
     return [drawn.kind, *map(kind_of_answer, answers)]
 
 
-# Each input has two answers of each of two types.
 READINGS = Family(
     name='readings', drawn=reading_input, kinds=tuple(kinds()),
-    counted=counted, answers=4, held=HELD, wanted=(*READING_KINDS, *READING_ANSWERS), of_each=READINGS_OF_EACH)
+    counted=counted, answers=2, types=('String', 'InlinableString'), longest=80, held=HELD, wanted=(*READING_KINDS, *READING_ANSWERS), of_each=READINGS_OF_EACH)

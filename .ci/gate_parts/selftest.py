@@ -435,9 +435,9 @@ class AnsweredLines:
 
     def setUp(self):
         super().setUp()
-        self.last = self.FAMILY.answers
-        again = (f's/^/{number} /p;g' for number in range(1, self.last))
-        self.echo = f"#!/bin/sh\nexec sed 'h;{';'.join(again)};s/^/{self.last} /'\n"
+        fronts = stored_lines.of_each_type(self.FAMILY, [f'{at + 1} ' for at in range(self.FAMILY.answers)])
+        self.last = f'/{fronts[-1]}/'
+        self.echo = f"#!/bin/sh\nexec sed 'h;{'p;g;'.join(f's/^/{front}/' for front in fronts)}'\n"
         self.program = self.program_of('echo', self.echo)
         for folder, files in stored_lines.JUDGES.items():
             for name in files:
@@ -478,16 +478,16 @@ class AnsweredLines:
         self.assert_passes(self.FAMILY.name, self.program, '--all')
 
     def test_answers_that_are_not(self):
-        other = self.program_of('other', self.echo.replace(f'{self.last} /', 'other /'))
+        other = self.program_of('other', self.echo.replace(self.last, '/other /'))
         self.assert_part_fails(f'0 passed, {self.VALUES + 2} failed', other)
-        late = self.program_of('late', self.echo.replace(f'{self.last} /', f'{self.last} /;999s/[0-9]/other/'))
+        late = self.program_of('late', self.echo.replace(self.last, f'{self.last};999s/[0-9]/other/'))
         self.assert_part_fails(f'{self.VALUES} passed, 2 failed', late)
 
     def test_program_that_does_not_take_the_lines(self):
         self.assert_part_fails('ends with 2', self.program_of('fault', '#!/bin/sh\nexit 2\n'))
 
     def test_stored_value_that_is_another(self):
-        self.changed('values', f'\n{self.last} ', '\nother ')
+        self.changed('values', f'\n{self.FAMILY.answers} ', '\nother ')
         self.assert_part_fails(f'{self.VALUES + 1} passed, 1 failed', self.program)
 
     def test_values_that_are_cut(self):
@@ -528,6 +528,12 @@ class AnsweredLines:
 
 class Readings(AnsweredLines, InSmallRepository):
     FAMILY = reading_inputs.READINGS
+
+    def test_types_that_answer_otherwise(self):
+        for name in self.FAMILY.types:
+            other = self.program_of('other', self.echo.replace(f'/{name} 1 ', f'/{name} other '))
+            self.assert_part_fails(f'0 passed, {self.VALUES + 2} failed', other)
+            self.assert_fails('not alike', 'store_lines', other, 'readings', 'values')
 
     def test_too_few_of_each(self):
         self.write('.ci/floors.py', FLOORS.replace('0, (), ()\nPAIRS', "1, (), ('String from_utf8 text',)\nPAIRS"))

@@ -10,7 +10,7 @@ from gate_parts.families import FAMILIES
 from gate_parts.line_digests import generated_lines
 from gate_parts.options import options
 from gate_parts.programs import checked
-from gate_parts.stored_lines import answered, inputs_by_value, told
+from gate_parts.stored_lines import answered, inputs_by_value, said_once
 
 
 def main(words):
@@ -20,5 +20,5 @@ def main(words):
         print_digests(generated_lines(family), judge, given.seed, LINES_RUN, family.held['digests'])
     else:
         inputs = inputs_by_value(family, f'{given.seed} values')
-        print('\n\n'.join(map(told, answered(family, judge, inputs))))
+        print('\n\n'.join(said_once(family, each) for each in answered(family, judge, inputs)))
     return True

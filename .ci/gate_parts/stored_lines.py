@@ -2,12 +2,11 @@
 
     cut_character
     bytes e282
-    String from_utf8 fault e282
-    String from_utf8_lossy owned efbfbd
-    InlinableString from_utf8 fault e282
-    InlinableString from_utf8_lossy owned efbfbd
+    from_utf8 fault e282
+    from_utf8_lossy owned efbfbd
 
-Empty lines part them. `replay/README.md` says which judge answered them.
+What several types must answer alike, as here `String` and `InlinableString`, stands once, without their names.
+Empty lines part the inputs. `replay/README.md` says which judge answered them.
 """
 import os
 from itertools import count
@@ -51,9 +50,23 @@ def stored_values(family):
     blocks = [block.split('\n') for block in text_of(path).rstrip('\n').split('\n\n')]
     if any(len(block) != 2 + family.answers for block in blocks):
         raise Failure(f'{path}: not each input has a kind and {family.answers} answers')
-    values = [Answered(Input(kind, line), answers) for kind, line, *answers in blocks]
+    values = [Answered(Input(kind, line), of_each_type(family, answers)) for kind, line, *answers in blocks]
     check_count(path, 'values', len({each.input.line for each in values}), family.held['values'])
     return values
+
+
+def of_each_type(family, answers):
+    """The lines that a program must print, of answers that stand once for all types."""
+    return [f'{name} {answer}' for name in family.types for answer in answers] or answers
+
+
+def said_once(family, each):
+    """An input with its answers as they are stored."""
+    name = ''.join(f'{first} ' for first in family.types[:1])
+    once = [line[len(name):] for line in each.answers[:family.answers]]
+    if of_each_type(family, once) != each.answers:
+        raise Failure(f'not alike:\n{told(each)}')
+    return told(Answered(each.input, once))
 
 
 def answered(family, program, inputs):
@@ -87,7 +100,7 @@ def drawn_values(family, seed):
     most = family.held['values'] // len(found)
     for number in count():
         drawn = family.drawn(seed, number)
-        if len(found[drawn.kind]) < most and drawn.line not in lines:
+        if len(found[drawn.kind]) < most and len(drawn.line) <= family.longest and drawn.line not in lines:
             found[drawn.kind].append(drawn)
             lines.add(drawn.line)
         if len(lines) == most * len(found):
