@@ -3,16 +3,17 @@
     case the_name_of_the_case
     words "inline"
     io stdin-pipe
-    input "push_str abc\\n"
-    input "pop\\n" * 3 "pop"
+    input "push_str abbb\\n"
+    input "pop\\n" * 2 "pop"
     output "done\\n"
-    output "char c\\n"
-    status 0
+    output "char b\\n" * 3
+    ends inline 1 "a"
 
 A text is made of quoted pieces, each as often as the number after its `*` says; lines of the same
-key follow one another. In a piece `\\n`, `\\r`, `\\t`, `\\"`, `\\\\` and `\\xNN`, one byte, stand for
-what is hard to see; all else is itself, in UTF-8. Empty lines and lines that begin with `#` say
-nothing.
+key follow one another. `ends` says where the text lies, how long it is, and the text: that is the status 0,
+and the three lines of output before it. Any other end is told by more lines `output` and by a line `status`.
+In a piece `\\n`, `\\r`, `\\t`, `\\"`, `\\\\` and `\\xNN`, one byte, stand for what is hard to see; all else
+is itself, in UTF-8. Empty lines and lines that begin with `#` say nothing.
 """
 import re
 import unicodedata
@@ -59,6 +60,8 @@ def read_cases(path):
 
 
 def read_line(case, key, value):
+    if case.status is not None:
+        raise ValueError('the case has ended')
     if key == 'words':
         case.words += pieces(value)
     elif key == 'io' and value in STREAMS:
@@ -67,6 +70,11 @@ def read_line(case, key, value):
         case.input += b''.join(pieces(value))
     elif key == 'output':
         case.output += b''.join(pieces(value))
+    elif key == 'ends':
+        storage, length, *text = value.split(' ', 2)
+        lines = b'text %b\nlength %d\nstorage %b\n'
+        case.output += lines % (b''.join(pieces(''.join(text))), int(length), storage.encode())
+        case.status = 0
     elif key == 'status':
         case.status = int(value)
     else:

@@ -20,6 +20,7 @@ from gate_parts import (bench_table, call_inputs, counts, departures, hostile_in
                         quick, quoted, reading_inputs, said, specified, stored_lines)
 from gate_parts.answered_lines import shortfalls
 from gate_parts.callers import promising
+from gate_parts.cases import read_cases
 from gate_parts.counts import misstatements
 from gate_parts.definitions import Reach, cite_copies
 from gate_parts.edit_files import Change, Edit, read_edits, texts_with
@@ -338,6 +339,17 @@ class Replay(InSmallRepository):
         self.write('replay/a.cases', CASES.format('a').replace('\nstatus', '\noutput "done\\n"\nstatus', 2)
                    .replace('output "done\\n"\n', '', 1))
         self.assert_passes('replay', self.program)
+
+    def test_ending_stands_for_its_lines(self):
+        path = os.path.join(self.place, 'replay/a.cases')
+        for ending, lines in (('ends heap 2 "a" * 2', b'text aa\nlength 2\nstorage heap\n'),
+                              ('ends inline 0', b'text \nlength 0\nstorage inline\n')):
+            write_text(path, f'case one\noutput "done\\n"\n{ending}\n')
+            self.assertEqual([(case.output, case.status) for case in read_cases(path)], [(b'done\n' + lines, 0)])
+        for ending in ('ends heap', 'ends heap "aa"', 'ends heap 2 aa', 'ends heap 2 "aa"\nends heap 2 "aa"', ''):
+            write_text(path, f'case one\n{ending}\n')
+            with self.assertRaises(Failure, msg=ending):
+                read_cases(path)
 
     def test_file_that_is_gone(self):
         for name in ('b.cases', 'digests'):
