@@ -30,7 +30,7 @@ READING_ANSWERS = tuple(f'{name} {answer}' for name in ('String', 'InlinableStri
 
 # Pairs of texts: the same. The words are the formats, and for each type the ways in which a text of it
 # comes about.
-PAIRS = {'values': 60, 'digests': 1_000_000}
+PAIRS = {'values': 30, 'digests': 1_000_000}
 PAIRS_OF_EACH = 2_000
 PAIR_KINDS = (
     'equal_texts', 'front_of_other', 'other_last', 'same_size', 'an_empty_text', 'at_the_limits',
