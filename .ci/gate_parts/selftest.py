@@ -143,8 +143,7 @@ class InSmallRepository(unittest.TestCase):
         self.write('.ci/floors.py', FLOORS)
         self.write('crates.txt', CRATES)
         self.write('HANDLES', 'Handles allowed: none.\n')
-        self.write('bin/rt', STAND_IN)
-        os.chmod(os.path.join(self.place, 'bin/rt'), 0o755)
+        self.write_program('bin/rt', STAND_IN)
         self.write('crates/toy/src/lib.rt', SOURCE)
         self.write('crates/toy/specs/Lib.antt', 'pub mod Word\n')
         self.write('crates/toy/specs/Word.antt', 'word = 1\n')
@@ -156,6 +155,19 @@ class InSmallRepository(unittest.TestCase):
         whole = os.path.join(self.place, path)
         os.makedirs(os.path.dirname(whole), exist_ok=True)
         write_text(whole, text)
+
+    def write_program(self, path, text):
+        """The whole path of a file that can be run."""
+        self.write(path, text)
+        whole = os.path.join(self.place, path)
+        os.chmod(whole, 0o755)
+        return whole
+
+    def changed(self, path, old, new):
+        """Changes a text once, where it stands first in a file."""
+        text = text_of(os.path.join(self.place, path))
+        self.assertIn(old, text)
+        self.write(path, text.replace(old, new, 1))
 
     def gate(self, *words, **variables):
         """The exit status of a part, and what it prints."""
@@ -330,9 +342,7 @@ class Replay(InSmallRepository):
         self.write('replay/README.md', '')
         for name in (*stored_lines.JUDGES, *FAMILIES):
             os.mkdir(os.path.join(self.place, 'replay', name))
-        self.write('bin/program', '#!/bin/sh\necho done\n')
-        self.program = os.path.join(self.place, 'bin/program')
-        os.chmod(self.program, 0o755)
+        self.program = self.write_program('bin/program', '#!/bin/sh\necho done\n')
 
     def test_cases_are_counted_and_compared(self):
         self.assert_fails('2 passed, 1 failed', 'replay', self.program)
@@ -388,12 +398,7 @@ class Bench(InSmallRepository):
         self.write('bench/sums.py', text_of(in_tree('bench', 'sums.py')))
         self.write('bench/workloads.py', BENCH)
         self.write('bench/sums', SUMS)
-        self.write_program(SUMMING)
-
-    def write_program(self, text):
-        self.write('bin/program', text)
-        self.program = os.path.join(self.place, 'bin/program')
-        os.chmod(self.program, 0o755)
+        self.program = self.write_program('bin/program', SUMMING)
 
     def assert_bench_fails(self, why):
         self.assert_fails(why, 'bench', self.program)
@@ -406,15 +411,15 @@ class Bench(InSmallRepository):
         self.assert_bench_fails('2 passed, 1 failed')
 
     def test_text_whose_sum_differs(self):
-        self.write_program(SUMMING.replace('6 2") echo 11;;\n    "One read', '6 2") echo 10;;\n    "One read'))
+        self.write_program('bin/program', SUMMING.replace('6 2") echo 11;;\n    "One read', '6 2") echo 10;;\n    "One read'))
         self.assert_bench_fails('FAILED from 6 on Two: wanted 11, given 10')
 
     def test_program_that_does_not_know_a_text(self):
-        self.write_program(SUMMING.replace('Two', 'Three'))
+        self.write_program('bin/program', SUMMING.replace('Two', 'Three'))
         self.assert_bench_fails('2 passed, 1 failed')
 
     def test_program_that_gives_the_sum_and_fails(self):
-        self.write_program(SUMMING.replace('echo 12', 'echo 12; exit 3'))
+        self.write_program('bin/program', SUMMING.replace('echo 12', 'echo 12; exit 3'))
         self.assert_bench_fails('given 12 with status 3')
 
     def test_workload_that_is_gone(self):
@@ -450,7 +455,7 @@ class AnsweredLines:
         fronts = stored_lines.of_each_type(self.FAMILY, [f'{at + 1} ' for at in range(self.FAMILY.answers)])
         self.last = f'/{fronts[-1]}/'
         self.echo = f"#!/bin/sh\nexec sed 'h;{'p;g;'.join(f's/^/{front}/' for front in fronts)}'\n"
-        self.program = self.program_of('echo', self.echo)
+        self.program = self.write_program('bin/echo', self.echo)
         for folder, files in stored_lines.JUDGES.items():
             for name in files:
                 self.write(f'replay/{folder}/{name}', '')
@@ -468,17 +473,6 @@ class AnsweredLines:
     def path_of(self, name):
         return os.path.join(self.place, 'replay', self.FAMILY.name, name)
 
-    def program_of(self, name, text):
-        self.write('bin/' + name, text)
-        path = os.path.join(self.place, 'bin', name)
-        os.chmod(path, 0o755)
-        return path
-
-    def changed(self, name, old, new):
-        text = text_of(self.path_of(name))
-        self.assertIn(old, text)
-        write_text(self.path_of(name), text.replace(old, new, 1))
-
     def assert_part_passes(self, program):
         self.assert_passes(self.FAMILY.name, program)
 
@@ -490,16 +484,16 @@ class AnsweredLines:
         self.assert_passes(self.FAMILY.name, self.program, '--all')
 
     def test_answers_that_are_not(self):
-        other = self.program_of('other', self.echo.replace(self.last, '/other /'))
+        other = self.write_program('bin/other', self.echo.replace(self.last, '/other /'))
         self.assert_part_fails(f'0 passed, {self.VALUES + 2} failed', other)
-        late = self.program_of('late', self.echo.replace(self.last, f'{self.last};999s/[0-9]/other/'))
+        late = self.write_program('bin/late', self.echo.replace(self.last, f'{self.last};999s/[0-9]/other/'))
         self.assert_part_fails(f'{self.VALUES} passed, 2 failed', late)
 
     def test_program_that_does_not_take_the_lines(self):
-        self.assert_part_fails('ends with 2', self.program_of('fault', '#!/bin/sh\nexit 2\n'))
+        self.assert_part_fails('ends with 2', self.write_program('bin/fault', '#!/bin/sh\nexit 2\n'))
 
     def test_stored_value_that_is_another(self):
-        self.changed('values', f'\n{self.FAMILY.answers} ', '\nother ')
+        self.changed(self.path_of('values'), f'\n{self.FAMILY.answers} ', '\nother ')
         self.assert_part_fails(f'{self.VALUES + 1} passed, 1 failed', self.program)
 
     def test_values_that_are_cut(self):
@@ -527,7 +521,7 @@ class AnsweredLines:
         self.assert_part_fails('--first 2000 --thousands 2 >INPUTS', self.program, '--all')
 
     def test_inputs_that_are_others(self):
-        self.changed('digests', text_of(self.path_of('digests')).split(' ')[3], '0' * 16)
+        self.changed(self.path_of('digests'), text_of(self.path_of('digests')).split(' ')[3], '0' * 16)
         self.assert_part_fails('not those that the judge answered', self.program)
 
     def test_file_that_is_gone(self):
@@ -543,7 +537,7 @@ class Readings(AnsweredLines, InSmallRepository):
 
     def test_types_that_answer_otherwise(self):
         for name in self.FAMILY.types:
-            other = self.program_of('other', self.echo.replace(f'/{name} 1 ', f'/{name} other '))
+            other = self.write_program('bin/other', self.echo.replace(f'/{name} 1 ', f'/{name} other '))
             self.assert_part_fails(f'0 passed, {self.VALUES + 2} failed', other)
             self.assert_fails('not alike', 'store_lines', other, 'readings', 'values')
 
@@ -744,11 +738,6 @@ class Pictures(InSmallRepository):
         shutil.copytree(in_tree('crates/inlinable_string/src'), os.path.join(self.place, 'crates/inlinable_string/src'))
         self.write('bench/README.md', text_of(in_tree('bench', 'README.md')))
 
-    def changed(self, path, old, new):
-        text = text_of(os.path.join(self.place, path))
-        self.assertIn(old, text)
-        self.write(path, text.replace(old, new, 1))
-
     def test_pictures_as_they_are_drawn(self):
         self.assert_passes('pictures')
 
@@ -804,8 +793,7 @@ class Run(InSmallRepository):
 
     def run_gate(self, failing):
         for path in ('.ci/gate', 'bin/rt'):
-            self.write(path, self.PARTS)
-            os.chmod(os.path.join(self.place, path), 0o755)
+            self.write_program(path, self.PARTS)
         path = os.path.join(self.place, 'bin') + os.pathsep + os.environ['PATH']
         ran = subprocess.run([os.path.join(self.place, '.ci/run')], stdout=subprocess.PIPE, encoding='utf-8',
                              env={**os.environ, 'PATH': path, 'FAILING': failing})
