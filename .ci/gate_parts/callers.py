@@ -11,7 +11,7 @@ import os
 import re
 
 from floors import CALLERS, WRONG_CLAUSES
-from gate_parts.edit_files import edits_of, texts_with
+from gate_parts.edit_files import edits_that_name, texts_with
 from gate_parts.edits import breaches
 from gate_parts.options import options
 from gate_parts.rooms import changed_files, check, copies, only, require_proof
@@ -27,11 +27,7 @@ ENSURES = re.compile(r'^ *ensures\b', re.MULTILINE)
 
 def wrong_clauses(library):
     """The edits of the library's contracts: they name callers alone, and go together."""
-    edits = edits_of(os.path.join(crate_folder(library), FOLDER), library)
-    for edit in edits:
-        for goal in edit.goals:
-            if goal.crate != CRATE:
-                raise Failure(f'{library}: {edit.name} names {goal}, which is not of {CRATE}')
+    edits = edits_that_name(CRATE, os.path.join(crate_folder(library), FOLDER), library)
     texts_with(crate_folder(library), edits)
     return edits
 

@@ -57,6 +57,16 @@ def edits_of(folder, crate):
     return edits
 
 
+def edits_that_name(named, folder, crate):
+    """The same, where all must name functions of one crate."""
+    edits = edits_of(folder, crate)
+    for edit in edits:
+        for goal in edit.goals:
+            if goal.crate != named:
+                raise Failure(f'{crate}: {edit.name} names {goal}, which is not of {named}')
+    return edits
+
+
 def edit_files(folder):
     """The files of edits in a folder and in those below it, in order; other files are refused."""
     paths = sorted(os.path.join(place, name)

@@ -24,7 +24,7 @@ from queue import SimpleQueue
 from time import monotonic
 
 from floors import EDITS
-from gate_parts.edit_files import edits_of, texts_with
+from gate_parts.edit_files import edits_that_name, texts_with
 from gate_parts.enclosing import function_changed
 from gate_parts.options import options
 from gate_parts.rooms import changed_files, check, copies, only, require_proofs
@@ -36,11 +36,7 @@ FOLDER = 'must-fail-together'
 
 def own_edits(crate):
     """The edits of the crate, which name functions of it alone."""
-    edits = edits_of(os.path.join(crate_folder(crate), FOLDER), crate)
-    for edit in edits:
-        for goal in edit.goals:
-            if goal.crate != crate:
-                raise Failure(f'{crate}: {edit.name} names {goal}, which is of another crate')
+    edits = edits_that_name(crate, os.path.join(crate_folder(crate), FOLDER), crate)
     if len(edits) < EDITS.get(crate, 1):
         raise Failure(f'{crate} has {len(edits)} edits, and must have {EDITS.get(crate, 1)}')
     return edits

@@ -218,6 +218,10 @@ class Edits(InSmallRepository):
         self.write('crates/toy/must-fail-together/more.edits', EDIT.replace('two_for_one', 'other'))
         self.assert_fails('changes just what', 'edits', **self.IN_ORDER)
 
+    def test_edit_that_names_a_function_of_another_crate(self):
+        self.write('crates/toy/must-fail-together/lib.edits', EDIT.replace('refused: one', 'refused: above/row'))
+        self.assert_fails('which is not of toy', 'edits', **self.IN_ORDER)
+
     def test_fewer_edits_than_there_must_be(self):
         self.write('.ci/floors.py', FLOORS.replace("EDITS = {'toy': 1}", "EDITS = {'toy': 2}"))
         self.assert_fails('has 1 edits, and must have 2', 'edits', **self.IN_ORDER)
@@ -302,6 +306,10 @@ class Callers(InSmallRepository):
 
     def test_library_that_is_refused_itself(self):
         self.assert_fails('toy is not proved as it is', 'callers', WORD='result ≡ result', REFUSED='toy/one')
+
+    def test_clause_that_names_no_caller(self):
+        self.write('crates/toy/wrong-clauses/lib.edits', CLAUSE.replace('callers/call', 'toy/one'))
+        self.assert_fails('which is not of callers', 'callers', **self.IN_ORDER)
 
     def test_callers_with_proofs(self):
         self.write('crates/callers/proofs/Lib.antt', '')
