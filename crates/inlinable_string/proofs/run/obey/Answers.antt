@@ -1,12 +1,7 @@
 use Rattle.std.proofs.Common.{refl}
 use Rattle.inlinable_string.proofs.Cut.{not_from_test}
-use Rattle.inlinable_string.proofs.Steps.{push_done, insert_done, insert_refused, insert_misplaced, truncate_done, truncate_misplaced, pop_char, remove_char, remove_misplaced, remove_at_end, replace_done, replace_not_utf8}
+use Rattle.inlinable_string.proofs.Steps.{insert_done, insert_refused, insert_misplaced, truncate_done, truncate_misplaced, pop_char, remove_char, remove_misplaced, remove_at_end, replace_done, replace_not_utf8}
 use Rattle.inlinable_string.proofs.run.obey.Goals as goal
-
-pub returns-in-Ok : goal.returns-in-Ok
-returns-in-Ok g c laws =
-    let e = c.in-Ok.ensures in
-    rw c.in-Push.is (push_done _ _ _ laws e.text e.storage e.room e.policy)
 
 pub returns-in-Ok-insert : goal.returns-in-Ok-insert
 returns-in-Ok-insert g c laws =

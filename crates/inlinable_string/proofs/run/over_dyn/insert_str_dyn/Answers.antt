@@ -1,13 +1,6 @@
-use Rattle.std.proofs.Common.{refl}
-use mathlib.Core.List.{mem-append_right}
 use Rattle.inlinable_string.proofs.Cut.{not_from_test}
 use Rattle.inlinable_string.proofs.Steps.{insert_str_done, insert_str_refused, insert_str_misplaced}
 use Rattle.inlinable_string.proofs.run.over_dyn.insert_str_dyn.Goals as goal
-
-pub insert_str-requires : goal.insert_str-requires
-insert_str-requires g c κs =
-    let place = c.is_char_boundary.ensures.0 c.if-is_char_boundary.true in
-    (refl, λ i. (tt, (λ a m. i a (mem-append_right _ m), place)))
 
 pub returns-in-Ok : goal.returns-in-Ok
 returns-in-Ok g c laws =

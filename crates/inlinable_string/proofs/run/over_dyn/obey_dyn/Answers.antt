@@ -1,30 +1,7 @@
 use Rattle.std.proofs.Common.{refl}
-use mathlib.Core.List.{mem-append_right}
 use Rattle.inlinable_string.proofs.Cut.{not_from_test}
-use Rattle.inlinable_string.proofs.Steps.{push_done, insert_done, insert_refused, insert_misplaced, truncate_done, truncate_misplaced, pop_char, remove_char, remove_misplaced, remove_at_end, replace_done, replace_not_utf8}
+use Rattle.inlinable_string.proofs.Steps.{insert_done, insert_refused, insert_misplaced, truncate_done, truncate_misplaced, pop_char, remove_char, remove_misplaced, remove_at_end, replace_done, replace_not_utf8}
 use Rattle.inlinable_string.proofs.run.over_dyn.obey_dyn.Goals as goal
-
-pub insert-requires : goal.insert-requires
-insert-requires g c κs =
-    let place = c.is_char_boundary.ensures.0 c.if-is_char_boundary.true in
-    (refl, λ i. (tt, (λ a m. i a (mem-append_right _ m), place)))
-
-pub truncate-requires : goal.truncate-requires
-truncate-requires g c κs =
-    let place = c.is_char_boundary-in-Truncate.ensures.0 c.if-is_char_boundary-2.true in
-    (refl, λ i. (tt, (λ a m. i a (mem-append_right _ m), place)))
-
-pub remove-requires : goal.remove-requires
-remove-requires g c κs =
-    let place = c.is_char_boundary-in-Remove.ensures.0 c.if-not-is_char_boundary.false in
-    let len = c.len.ensures in
-    let below = rw len.0 at c.if-idx-len.true in
-    (refl, λ i. (tt, (λ a m. i a (mem-append_right _ m), (place, below))))
-
-pub returns-in-Ok : goal.returns-in-Ok
-returns-in-Ok g c laws =
-    let e = c.in-Ok.ensures in
-    rw c.in-Push.is (push_done _ _ _ laws e.0 e.1.1.1.0 e.1.1.1.1.1.1.1.0 e.1.1.1.1.1.1.1.1)
 
 pub returns-in-Ok-insert : goal.returns-in-Ok-insert
 returns-in-Ok-insert g c laws =

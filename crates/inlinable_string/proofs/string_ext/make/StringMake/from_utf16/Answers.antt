@@ -16,10 +16,3 @@ returns-clause-text g c =
     let made = text_made _ c.in_ok-read.read bytes.result bytes.ensures.value in
     ap units_of (made c.from_utf8_unchecked.ensures.text ∙ c.in_ok-read.ensures)
     ∙ units-lossy v paired (λ i. let fits = c.type_inv.v i in omega arith)
-
-pub returns-clause-read : goal.returns-clause-read
-returns-clause-read g c =
-    let bytes = c.into_bytes in
-    let made = text_made _ c.in_ok-read.read bytes.result bytes.ensures.value in
-    made c.from_utf8_unchecked.ensures.text
-    ∙ c.in_ok-read.ensures

@@ -28,6 +28,3 @@ returns-clause-text c =
 pub returns-clause-same_length : goal.returns-clause-same_length
 returns-clause-same_length c =
     c.if-bytes-len.false ∙ c.len.ensures ∙ sym (size-string c.args.self.now)
-
-pub returns-clause-well_formed : goal.returns-clause-well_formed
-returns-clause-well_formed c = c.in-Ok.ensures.cases.1
