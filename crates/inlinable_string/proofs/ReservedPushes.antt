@@ -1,5 +1,5 @@
 -- Pushes within room that was reserved: no memory can be refused to them.
-use Rattle.std.proofs.Common.{◌≡◌, ℕ, ◌+◌, ◌-◌, ◌≤◌, inr, List, [], ◌∷◌, length, refl, sym, ap, ◌∙◌, arith, subst, Contains, ◌++◌}
+use Rattle.std.proofs.Common.{◌≡◌, ℕ, ◌+◌, ◌-◌, ◌≤◌, inr, List, [], ◌∷◌, length, refl, sym, ap, ◌∙◌, arith, subst, Contains, ◌++◌, rules}
 use Rattle.inlinable_string.specs.Text.{size}
 use Rattle.inlinable_string.specs.State.{TextState}
 use Rattle.inlinable_string.specs.Edit.{edit, reply_of}
@@ -42,22 +42,17 @@ pushes_within_credit s k (c ∷ commands) (r ∷ replies) within enough legal =
 pub pushes_from_start : (s : TextState) (k : ℕ) (commands : List Command) (replies : List Reply)
     → PushesWithin k commands → size s.text + k ≤ s.capacity
     → LegalReplies s commands replies → ¬ Contains replies NoMemory
-pushes_from_start s k commands replies within room legal =
-    pushes_within_credit s k commands replies within (omega (arith, room)) legal
+pushes_from_start s k commands replies within room legal = search (rules, pushes_within_credit)
 
 pub pushes_after_reserve : (s : TextState) (k : ℕ) (commands : List Command) (replies : List Reply)
     → PushesWithin k commands
     → LegalReplies s (Reserve k ∷ commands) (Done ∷ replies) → ¬ Contains replies NoMemory
-pushes_after_reserve s k commands replies within legal =
-    pushes_within_credit (state_after_step s (Reserve k) Done) k commands replies within
-    (omega arith) legal.1
+pushes_after_reserve s k commands replies within legal = search (rules, pushes_within_credit)
 
 pub pushes_after_reserve_exact : (s : TextState) (k : ℕ) (commands : List Command)
     (replies : List Reply) → PushesWithin k commands
     → LegalReplies s (ReserveExact k ∷ commands) (Done ∷ replies) → ¬ Contains replies NoMemory
-pushes_after_reserve_exact s k commands replies within legal =
-    pushes_within_credit (state_after_step s (ReserveExact k) Done) k commands replies within
-    (omega arith) legal.1
+pushes_after_reserve_exact s k commands replies within legal = search (rules, pushes_within_credit)
 
 pub pushes_anywhere : (s : TextState) (k : ℕ) (before added behind : List Command)
     (first replies last : List Reply) → PushesWithin k added

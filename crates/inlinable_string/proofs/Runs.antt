@@ -1,5 +1,6 @@
+use Rattle.std.proofs.lemmas.Grind.{common_steps}
 -- A run grows by one command at its end.
-use Rattle.std.proofs.Common.{◌≡◌, ℕ, ◌+◌, ◌<◌, ◌≤◌, List, [], ◌∷◌, ◌++◌, length, take, refl, sym, ap, ◌∙◌, arith, subst, get_or, set}
+use Rattle.std.proofs.Common.{◌≡◌, ℕ, ◌+◌, ◌<◌, ◌≤◌, List, [], ◌∷◌, ◌++◌, length, take, refl, sym, ap, ◌∙◌, arith, subst, get_or, set, rules}
 use Rattle.std.proofs.lemmas.List.{take_more, take_more_set, length-take-le, take_all}
 use Rattle.inlinable_string.specs.Text.{size}
 use Rattle.inlinable_string.specs.State.{TextState, IsLawful}
@@ -55,15 +56,6 @@ fits_in s (x ∷ cs) (y ∷ rs) h = fits_in (state_after_step s x y) cs rs (omeg
 covered : (s value : TextState) → Covers s value → record value { capacity = s.capacity } ≡ s
 covered s value h = rw (h.text, h.storage, h.policy) refl
 
--- the start of a run
-pub so_far_none : (s : TextState) → IsRunSoFar s [] [] s
-so_far_none s =
-    record {
-      legal = tt;
-      next =
-          record { text = refl; storage = refl; room = omega arith; policy = refl };
-    }
-
 -- the step of a loop over the commands
 pub so_far_more : (old mid new : TextState) (cs : List Command) (rs : List Reply) (i : ℕ)
     (d : Command) (r : Reply)
@@ -95,15 +87,4 @@ so_far_more old mid new cs rs i d r long lt laws ran step =
 pub run_whole : (old new : TextState) (cs : List Command) (rs : List Reply) (i : ℕ)
     → length rs ≡ length cs → length cs ≤ i → IsLawful old
     → IsRunSoFar old (take i cs) (take i rs) new → IsRun old cs rs new
-run_whole old new cs rs i long past laws ran =
-    let a : take i cs ≡ cs = take_all i cs past in
-    let b : take i rs ≡ rs = take_all i rs (omega (arith, long, past)) in
-    let whole : IsRunSoFar old cs rs new = rw (a, b) at ran in
-    record {
-      text = whole.next.text ∙ text_of old cs rs;
-      storage = whole.next.storage;
-      legal = whole.legal;
-      credit =
-          omega (arith, ap size whole.next.text, whole.next.room, fits_in old cs rs laws.within);
-      policy = whole.next.policy ∙ policy_of old cs rs;
-    }
+run_whole old new cs rs i long past laws ran = search (rules, take_all, text_of, fits_in, policy_of)

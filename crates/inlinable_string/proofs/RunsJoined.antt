@@ -1,5 +1,5 @@
 -- Two runs, the second from the state that the first left.
-use Rattle.std.proofs.Common.{◌≡◌, ℕ, List, [], ◌∷◌, ◌++◌, length, refl, ap, arith}
+use Rattle.std.proofs.Common.{◌≡◌, ℕ, List, [], ◌∷◌, ◌++◌, length, refl, ap, arith, rules}
 use Rattle.inlinable_string.specs.State.{TextState}
 use Rattle.inlinable_string.specs.Edit.{text_after, text_after_step}
 use Rattle.inlinable_string.specs.Run.{LegalReplies, state_after, state_after_step, storage_after, credit, credit_after}
@@ -33,15 +33,13 @@ pub storage_joined : (s : TextState) (first second : List Command) (replies othe
     → length first ≡ length replies
     → storage_after s (first ++ second) (replies ++ others)
     ≡ storage_after (state_after s first replies) second others
-storage_joined s first second replies others h =
-    ap (λ (x : TextState). x.storage) (state_joined s first second replies others h)
+storage_joined s first second replies others h = search (rules, state_joined)
 
 pub credit_joined : (s : TextState) (first second : List Command) (replies others : List Reply)
     → length first ≡ length replies
     → credit_after s (first ++ second) (replies ++ others)
     ≡ credit_after (state_after s first replies) second others
-credit_joined s first second replies others h =
-    ap credit (state_joined s first second replies others h)
+credit_joined s first second replies others h = search (rules, state_joined)
 
 -- the replies of both are legal where those of each are
 pub legal_joined : (s : TextState) (first second : List Command) (replies others : List Reply)

@@ -1,5 +1,6 @@
+use Rattle.std.proofs.lemmas.Grind.{common_steps}
 -- One run after another of one value. The value may have more credit than is certain.
-use Rattle.std.proofs.Common.{◌≡◌, ℕ, ◌≤◌, inl, inr, List, [], ◌∷◌, ◌++◌, length, sym, ap, ◌∙◌, arith}
+use Rattle.std.proofs.Common.{◌≡◌, ℕ, ◌≤◌, inl, inr, List, [], ◌∷◌, ◌++◌, length, sym, ap, ◌∙◌, arith, rules}
 use Rattle.inlinable_string.specs.State.{TextState}
 use Rattle.inlinable_string.specs.Edit.{edit, reply_of, text_after, text_after_step}
 use Rattle.inlinable_string.specs.Run.{Need, at_end, anywhere, reserved, tight, no_room, need_of, credit, credit_when_met, credit_after_step, credit_after, IsCounted, state_after, state_after_step, IsMet, IsLegal, LegalReplies, IsRun}
@@ -20,10 +21,7 @@ record IsRicher (s v : TextState) : Type 0 where
 
 -- more credit meets the more needs
 met_richer : (s v : TextState) (need : Need) → IsRicher s v → IsMet s need → IsMet v need
-met_richer s v (at_end n) h met = elim met [
-  | inl inside ↦ inl (sym h.storage ∙ inside.0, rw (h.text, h.policy) at inside.1)
-  | inr enough ↦ inr (omega (arith, h.credit, enough))
-]
+met_richer s v (at_end n) h met = grind (arith, common_steps)
 met_richer s v (anywhere n) h met = (sym h.storage ∙ met.0, rw (h.text, h.policy) at met.1)
 met_richer s v (reserved n) h met = (sym h.storage ∙ met.0, rw (h.text, h.policy) at met.1)
 met_richer s v tight h met = (rw h.policy at met.0, rw (h.text, h.policy) at met.1)
@@ -43,12 +41,7 @@ credit_step k l command reply h = omega arith
 
 richer_step : (s v : TextState) (command : Command) (reply : Reply) → IsRicher s v
     → IsRicher (state_after_step s command reply) (state_after_step v command reply)
-richer_step s v command reply h = record {
-  text = ap (λ t. text_after_step t command reply) h.text;
-  storage = same_storage_step s v command reply h.text h.storage h.policy;
-  policy = h.policy;
-  credit = omega (arith, credit_step (credit s) (credit v) command reply h.credit);
-}
+richer_step s v command reply h = grind (arith, common_steps)
 
 credit_richer : (s v : TextState) (commands : List Command) (replies : List Reply) → IsRicher s v
     → credit_after s commands replies ≤ credit_after v commands replies
@@ -66,22 +59,7 @@ counted_same s v need reply e h = tt
 -- what is legal with more credit is legal with less
 legal_poorer : (s v : TextState) (command : Command) (reply : Reply) → IsRicher s v
     → IsLegal v command reply → IsLegal s command reply
-legal_poorer s v command reply h legal =
-    let again : s.text ≡ v.text = h.text in
-    record {
-      answer = elim legal.answer [
-        | inl same ↦ inl (same ∙ ap (λ t. reply_of (edit t command)) (sym again))
-        | inr refused ↦ inr (
-          refused.0,
-          λ free. refused.1 (elim free [
-            | inl none ↦ inl
-                (λ asks. none (asks.0, ap (λ t. reply_of (edit t command)) again ∙ asks.1))
-            | inr met ↦ inr (met_richer s v (need_of command) h met)
-          ]),
-        )
-      ];
-      counted = counted_same s v (need_of command) reply again legal.counted;
-    }
+legal_poorer s v command reply h legal = grind (arith, common_steps)
 
 all_legal_poorer : (s v : TextState) (commands : List Command) (replies : List Reply) → IsRicher s v
     → LegalReplies v commands replies → LegalReplies s commands replies

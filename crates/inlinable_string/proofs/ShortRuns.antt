@@ -1,5 +1,6 @@
+use Rattle.std.proofs.lemmas.Grind.{common_steps}
 -- Runs that stay within the inline room: no memory can be refused to them.
-use Rattle.std.proofs.Common.{◌≡◌, ◌≢◌, ℕ, ◌+◌, ◌≤◌, inl, inr, ◌⊎◌, true, List, [], ◌∷◌, refl, sym, ap, ◌∙◌, arith, subst, nat_le, Contains}
+use Rattle.std.proofs.Common.{◌≡◌, ◌≢◌, ℕ, ◌+◌, ◌≤◌, inl, inr, ◌⊎◌, true, List, [], ◌∷◌, refl, sym, ap, ◌∙◌, arith, subst, nat_le, Contains, rules}
 use Rattle.std.proofs.lemmas.Bool.Decides.{nat_tests}
 use Rattle.inlinable_string.specs.Text.{size}
 use Rattle.inlinable_string.specs.State.{TextState, IsLawful, storage_with_room, storage_when_shrunk}
@@ -39,32 +40,15 @@ grows t (Reserve n) done = tt
 grows t (ReserveExact n) done = tt
 grows t ShrinkToFit done = refl
 
--- with room inline a text stays there
-stays_with_room : (s : TextState) (n : ℕ) → s.storage ≡ Inline → size s.text + n ≤ s.policy.limit
-    → storage_with_room s n ≡ Inline
-stays_with_room s n inline room =
-    let few : nat_le (size s.text + n) s.policy.limit ≡ true = grind (arith, nat_tests, room) in
-    rw (inline, few)
-
--- and when it is shrunk
-stays_shrunk : (s : TextState) → s.storage ≡ Inline → storage_when_shrunk s ≡ Inline
-stays_shrunk s inline = rw inline
-
 -- a need within the limit is met inline
 met_inline : (s : TextState) (need : Need) (v : List ℕ) → Grows s.text need v
     → s.policy.demotes ≡ true → s.storage ≡ Inline
     → ReservesWithin s.policy.limit s.text need → size v ≤ s.policy.limit
     → IsMet s need × (storage_when_met s need ≡ Inline)
-met_inline s (at_end n) v grown demotes inline held short =
-    let room : size s.text + n ≤ s.policy.limit = omega (arith, grown, short) in
-    (inl (inline, room), stays_with_room s n inline room)
-met_inline s (anywhere n) v grown demotes inline held short =
-    let room : size s.text + n ≤ s.policy.limit = omega (arith, grown, short) in
-    ((inline, room), stays_with_room s n inline room)
-met_inline s (reserved n) v grown demotes inline held short =
-    ((inline, held), stays_with_room s n inline held)
-met_inline s tight v grown demotes inline held short =
-    ((demotes, omega (arith, ap size grown, short)), stays_shrunk s inline)
+met_inline s (at_end n) v grown demotes inline held short = grind (arith, common_steps)
+met_inline s (anywhere n) v grown demotes inline held short = grind (arith, common_steps)
+met_inline s (reserved n) v grown demotes inline held short = grind (arith, common_steps)
+met_inline s tight v grown demotes inline held short = grind (arith, common_steps)
 met_inline s no_room v grown demotes inline held short = (tt, inline)
 
 -- carried out or not
@@ -115,12 +99,10 @@ pub short_run_never_asks : (s : TextState) (commands : List Command) (replies : 
     → IsLawful s → s.storage ≡ Inline
     → StaysWithin s.policy.limit s.text commands → LegalReplies s commands replies
     → ¬ Contains replies NoMemory
-short_run_never_asks s commands replies laws inline within legal =
-    (short_run s commands replies (laws.inline_demotes inline) inline within legal).0
+short_run_never_asks s commands replies laws inline within legal = search (rules, short_run)
 
 pub short_run_stays_inline : (s : TextState) (commands : List Command) (replies : List Reply)
     → IsLawful s → s.storage ≡ Inline
     → StaysWithin s.policy.limit s.text commands → LegalReplies s commands replies
     → storage_after s commands replies ≡ Inline
-short_run_stays_inline s commands replies laws inline within legal =
-    (short_run s commands replies (laws.inline_demotes inline) inline within legal).1
+short_run_stays_inline s commands replies laws inline within legal = search (rules, short_run)

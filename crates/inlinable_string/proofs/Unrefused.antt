@@ -1,5 +1,6 @@
+use Rattle.std.proofs.lemmas.Grind.{common_steps}
 -- Runs in which no memory is refused: their replies and their text are those of plain edits.
-use Rattle.std.proofs.Common.{◌≡◌, ◌≢◌, ◌↔◌, ℕ, zero, suc, ◌<◌, ◌^◌, inl, inr, true, List, [], ◌∷◌, take, refl, sym, ap, ◌∙◌, arith, subst, Contains, Some, slice_get}
+use Rattle.std.proofs.Common.{◌≡◌, ◌≢◌, ◌↔◌, ℕ, zero, suc, ◌<◌, ◌^◌, inl, inr, true, List, [], ◌∷◌, take, refl, sym, ap, ◌∙◌, arith, subst, Contains, Some, slice_get, rules}
 use Rattle.inlinable_string.specs.State.{TextState, IsLawful}
 use Rattle.inlinable_string.specs.Edit.{edit, reply_of, text_left, text_after_step, text_after}
 use Rattle.inlinable_string.specs.Run.{Need, reserved, need_of, state_after_step, IsCounted, IsLegal, LegalReplies}
@@ -23,8 +24,7 @@ refused_later reply replies has = (suc has.0, omega (arith, has.1), has.2)
 -- a legal reply that refuses nothing is that of `edit`
 answered : (s : TextState) (command : Command) (reply : Reply) → IsLegal s command reply
     → reply ≢ NoMemory → reply ≡ reply_of (edit s.text command)
-answered s command reply legal given =
-    elim legal.answer [ inl same ↦ same | inr refused ↦ absurd (given refused.0) ]
+answered s command reply legal given = grind (arith, common_steps)
 
 -- so are all of them
 pub unrefused_replies : (s : TextState) (commands : List Command) (replies : List Reply)
@@ -88,29 +88,22 @@ short_replies_are_legal s (c ∷ commands) demotes inline small within =
 pub short_replies : (s : TextState) (commands : List Command) (replies : List Reply) → IsLawful s
     → s.storage ≡ Inline → StaysWithin s.policy.limit s.text commands
     → LegalReplies s commands replies ↔ (replies ≡ replies_of s.text commands)
-short_replies s commands replies laws inline within = (
-  λ legal. unrefused_replies s commands replies legal
-      (short_run_never_asks s commands replies laws inline within legal),
-  λ same. subst (LegalReplies s commands) (sym same)
-      (short_replies_are_legal s commands (laws.inline_demotes inline) inline
-      (omega (arith, laws.bounded, laws.inline_room inline)) within),
-)
+short_replies s commands replies laws inline within =
+    search (rules, unrefused_replies, short_run_never_asks, short_replies_are_legal)
 
 pub short_text : (s : TextState) (commands : List Command) (replies : List Reply) → IsLawful s
     → s.storage ≡ Inline → StaysWithin s.policy.limit s.text commands
     → LegalReplies s commands replies
     → text_after s.text commands replies ≡ text_after_edits s.text commands
 short_text s commands replies laws inline within legal =
-    unrefused_text s commands replies legal
-    (short_run_never_asks s commands replies laws inline within legal)
+    search (rules, unrefused_text, short_run_never_asks)
 
 -- each command in its turn
 pub stays_at : (n : ℕ) (t : List ℕ) (commands : List Command) (i : ℕ) (command : Command)
     → StaysWithin n t commands → slice_get commands i ≡ Some command
     → LeavesWithin n (text_after_edits t (take i commands)) command
 stays_at n t [] i command within is = cc
-stays_at n t (c ∷ commands) zero command within is =
-    let same : c ≡ command = cc in subst (LeavesWithin n t) same within.0
+stays_at n t (c ∷ commands) zero command within is = grind (arith, common_steps)
 stays_at n t (c ∷ commands) (suc i) command within is =
     stays_at n (text_left t (edit t c)) commands i command within.1 is
 
