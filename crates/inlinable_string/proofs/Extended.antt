@@ -1,21 +1,12 @@
-use Rattle.std.proofs.lemmas.Grind.{common_steps}
+use Rattle.inlinable_string.proofs.Common.{common_steps, ◌≡◌, ℕ, ◌+◌, ◌≤◌, ◌<◌, Bool, true, false, ◌&&◌, List, [], ◌∷◌, ◌++◌, refl, sym, ap, ◌∙◌, arith, subst, append-nil, append_assoc, add_assoc, if◌then◌else◌, nat_le, Option, Some, None, Result, Ok, Err, OnErr, rules, nat_tests, flat_map_more, map-append, chars, Inline, Heap, size, TextState, IsLawful, IsSameText, HasRoom, is_inline, storage_with_room, storage_when_made, inlinable_policy, inlinable_state, text_of_strs, text_of_char_refs, IsExtended, IsRefusedLast}
 -- Texts to which the items of an iterator are added one by one.
-use Rattle.std.proofs.Common.{◌≡◌, ℕ, ◌+◌, ◌≤◌, ◌<◌, Bool, true, false, ◌&&◌, List, [], ◌∷◌, ◌++◌, refl, sym, ap, ◌∙◌, arith, subst, append-nil, append_assoc, add_assoc, if◌then◌else◌, nat_le, Option, Some, None, Result, Ok, Err, OnErr, rules}
-use Rattle.std.proofs.lemmas.Bool.Decides.{nat_tests}
-use Rattle.std.proofs.lemmas.List.{flat_map_more, map-append}
 use Rattle.std.proofs.iter.runs.Made.{run_of_turn, run_of_exit}
 use Rattle.std.specs.Borrow.{Bor}
 use Rattle.std.specs.Iterator.{Yields}
 use Rattle.std.specs.Iterator.Runs.{SomeRun, WholeRun, EachRunFrom}
-use Rattle.std.specs.Str.{chars}
 use Rattle.inlinable_string.specs.declared.string_ext.Storage.{Storage}
-use Rattle.inlinable_string.specs.declared.string_ext.Storage.TheVariants.{Inline, Heap}
 use Rattle.inlinable_string.specs.declared.inlinable_string.InlinableStringN.{InlinableStringN}
 use Rattle.inlinable_string.specs.declared.inlinable_string.InlinableStringN.TheVariants as variant
-use Rattle.inlinable_string.specs.Text.{size}
-use Rattle.inlinable_string.specs.State.{TextState, IsLawful, IsSameText, HasRoom, is_inline, storage_with_room, storage_when_made}
-use Rattle.inlinable_string.specs.Values.{inlinable_policy, inlinable_state}
-use Rattle.inlinable_string.specs.Joins.{text_of_strs, text_of_char_refs, IsExtended, IsRefusedLast}
 use Rattle.inlinable_string.proofs.Text.{size-append}
 
 clash : false ≡ true → ⊥

@@ -1,11 +1,6 @@
 -- Texts that are made of bytes, and bytes of texts.
-use Rattle.std.proofs.Common.{◌≡◌, ℕ, List, Result, Ok, Err, IfOk, IsOk, MatchResult, ap, ◌∙◌, subst, rules, arith}
-use Rattle.std.specs.Str.{chars, IsUtf8}
-use Rattle.std.specs.String.{string_bytes, string_vec}
-use Rattle.std.specs.declared.string.String.{String}
+use Rattle.inlinable_string.proofs.Common.{◌≡◌, ℕ, List, Result, Ok, Err, IfOk, IsOk, MatchResult, ap, ◌∙◌, subst, rules, arith, chars, IsUtf8, string_bytes, string_vec, String, encodes-chars, chars_from_encodes, IsUtf8-string_bytes, bytes_of}
 use Rattle.std.specs.declared.vec.Vec.{Vec}
-use Rattle.std.proofs.lemmas.Str.{encodes-chars, chars_from_encodes, IsUtf8-string_bytes}
-use Rattle.inlinable_string.specs.Text.{bytes_of}
 
 pub bytes-string : {Z : Type 0} (s : String Z) → bytes_of (chars (string_bytes s)) ≡ string_bytes s
 bytes-string s = encodes-chars _ (IsUtf8-string_bytes s)

@@ -1,10 +1,5 @@
 -- Places and commands.
-use Rattle.std.proofs.Common.{◌≡◌, ◌↔◌, ℕ, List, refl, ap, ◌∙◌, Option, Some, None, rules, arith}
-use Rattle.inlinable_string.specs.Text.{cut, IsCut, IsPlace}
-use Rattle.inlinable_string.specs.Edit.{becomes, reply_of, text_left, edit, insertion, truncation}
-use Rattle.inlinable_string.specs.declared.run.Command.TheVariants.{Truncate}
-use Rattle.inlinable_string.specs.declared.run.Reply.{Reply}
-use Rattle.inlinable_string.specs.declared.run.Reply.TheVariants.{Done, BadPlace}
+use Rattle.inlinable_string.proofs.Common.{◌≡◌, ◌↔◌, ℕ, List, refl, ap, ◌∙◌, Option, Some, None, rules, arith, cut, IsCut, IsPlace, becomes, reply_of, text_left, edit, insertion, truncation, Truncate, Reply, Done, BadPlace}
 use Rattle.inlinable_string.proofs.Cut.{cut_is, is_cut, no_cut}
 
 -- `Truncate` keeps what stands before a place

@@ -1,13 +1,5 @@
-use Rattle.std.proofs.lemmas.Grind.{common_steps}
+use Rattle.inlinable_string.proofs.Common.{common_steps, ◌≡◌, ◌≢◌, ℕ, inl, inr, true, List, [], ◌∷◌, map, refl, sym, ap, ◌∙◌, rules, arith, TextState, edit, reply_of, text_after_step, Need, at_end, anywhere, reserved, tight, no_room, need_of, storage_when_met, storage_after_step, state_after_step, storage_after, IsLegal, LegalReplies, is_refusal, Command, Reply, Done, Char, NoMemory}
 -- What the refusals of a run decide, and what they leave.
-use Rattle.std.proofs.Common.{◌≡◌, ◌≢◌, ℕ, inl, inr, true, List, [], ◌∷◌, map, refl, sym, ap, ◌∙◌, rules, arith}
-use Rattle.inlinable_string.specs.State.{TextState}
-use Rattle.inlinable_string.specs.Edit.{edit, reply_of, text_after_step}
-use Rattle.inlinable_string.specs.Run.{Need, at_end, anywhere, reserved, tight, no_room, need_of, storage_when_met, storage_after_step, state_after_step, storage_after, IsLegal, LegalReplies}
-use Rattle.inlinable_string.specs.Laws.{is_refusal}
-use Rattle.inlinable_string.specs.declared.run.Command.{Command}
-use Rattle.inlinable_string.specs.declared.run.Reply.{Reply}
-use Rattle.inlinable_string.specs.declared.run.Reply.TheVariants.{Done, Char, NoMemory}
 use Rattle.inlinable_string.proofs.Edits.{never_refused}
 
 -- a reply is known from its text and its mark

@@ -1,11 +1,6 @@
-use Rattle.std.proofs.lemmas.Grind.{common_steps}
+use Rattle.inlinable_string.proofs.Common.{common_steps, ◌≡◌, ℕ, zero, suc, ◌+◌, ◌*◌, ◌<◌, List, [], ◌∷◌, length, take, drop, refl, sym, ap, ◌∙◌, arith, subst, Some, slice_get, rules, drop-drop, TextState, IsLegal, LegalReplies, IsRun, EachRun, state_after, state_after_step, Command, Reply}
+
 -- A run, read one reply at a time, and many runs, read one text at a time.
-use Rattle.std.proofs.Common.{◌≡◌, ℕ, zero, suc, ◌+◌, ◌*◌, ◌<◌, List, [], ◌∷◌, length, take, drop, refl, sym, ap, ◌∙◌, arith, subst, Some, slice_get, rules}
-use Rattle.std.proofs.lemmas.List.{drop-drop}
-use Rattle.inlinable_string.specs.State.{TextState}
-use Rattle.inlinable_string.specs.Run.{IsLegal, LegalReplies, IsRun, EachRun, state_after, state_after_step}
-use Rattle.inlinable_string.specs.declared.run.Command.{Command}
-use Rattle.inlinable_string.specs.declared.run.Reply.{Reply}
 
 -- there are as many legal replies as commands
 pub as_many_replies : (s : TextState) (commands : List Command) (replies : List Reply)

@@ -1,14 +1,5 @@
 -- Pushes within room that was reserved: no memory can be refused to them.
-use Rattle.std.proofs.Common.{◌≡◌, ℕ, ◌+◌, ◌-◌, ◌≤◌, inr, List, [], ◌∷◌, length, refl, sym, ap, ◌∙◌, arith, subst, Contains, ◌++◌, rules}
-use Rattle.inlinable_string.specs.Text.{size}
-use Rattle.inlinable_string.specs.State.{TextState}
-use Rattle.inlinable_string.specs.Edit.{edit, reply_of}
-use Rattle.inlinable_string.specs.Run.{at_end, need_of, credit, credit_when_met, credit_after_step, state_after_step, IsMet, LegalReplies, state_after}
-use Rattle.inlinable_string.specs.Laws.{PushesWithin}
-use Rattle.inlinable_string.specs.declared.run.Command.{Command}
-use Rattle.inlinable_string.specs.declared.run.Command.TheVariants.{Push, PushStr, Reserve, ReserveExact}
-use Rattle.inlinable_string.specs.declared.run.Reply.{Reply}
-use Rattle.inlinable_string.specs.declared.run.Reply.TheVariants.{Done, NoMemory}
+use Rattle.inlinable_string.proofs.Common.{◌≡◌, ℕ, ◌+◌, ◌-◌, ◌≤◌, inr, List, [], ◌∷◌, length, refl, sym, ap, ◌∙◌, arith, subst, Contains, ◌++◌, rules, size, TextState, edit, reply_of, at_end, need_of, credit, credit_when_met, credit_after_step, state_after_step, IsMet, LegalReplies, state_after, PushesWithin, Command, Push, PushStr, Reserve, ReserveExact, Reply, Done, NoMemory}
 use Rattle.inlinable_string.proofs.RunsJoined.{legal_parted}
 use Rattle.inlinable_string.proofs.FreeCommands.{granted, not_refused, absent, absent_nil}
 

@@ -1,14 +1,6 @@
-use Rattle.std.proofs.lemmas.Grind.{common_steps}
+use Rattle.inlinable_string.proofs.Common.{common_steps, ◌≡◌, ℕ, ◌+◌, ◌<◌, ◌≤◌, List, [], ◌∷◌, ◌++◌, length, take, refl, sym, ap, ◌∙◌, arith, subst, get_or, set, rules, take_more, take_more_set, length-take-le, take_all, size, TextState, IsLawful, text_after, state_after, state_after_step, IsLegal, LegalReplies, IsRun, Covers, IsStep, Command, Reply}
+
 -- A run grows by one command at its end.
-use Rattle.std.proofs.Common.{◌≡◌, ℕ, ◌+◌, ◌<◌, ◌≤◌, List, [], ◌∷◌, ◌++◌, length, take, refl, sym, ap, ◌∙◌, arith, subst, get_or, set, rules}
-use Rattle.std.proofs.lemmas.List.{take_more, take_more_set, length-take-le, take_all}
-use Rattle.inlinable_string.specs.Text.{size}
-use Rattle.inlinable_string.specs.State.{TextState, IsLawful}
-use Rattle.inlinable_string.specs.Edit.{text_after}
-use Rattle.inlinable_string.specs.Run.{state_after, state_after_step, IsLegal, LegalReplies, IsRun}
-use Rattle.inlinable_string.specs.Step.{Covers, IsStep}
-use Rattle.inlinable_string.specs.declared.run.Command.{Command}
-use Rattle.inlinable_string.specs.declared.run.Reply.{Reply}
 
 -- the commands so far
 pub record IsRunSoFar (old : TextState) (commands : List Command) (replies : List Reply)

@@ -1,10 +1,5 @@
 -- Two runs, the second from the state that the first left.
-use Rattle.std.proofs.Common.{◌≡◌, ℕ, List, [], ◌∷◌, ◌++◌, length, refl, ap, arith, rules}
-use Rattle.inlinable_string.specs.State.{TextState}
-use Rattle.inlinable_string.specs.Edit.{text_after, text_after_step}
-use Rattle.inlinable_string.specs.Run.{LegalReplies, state_after, state_after_step, storage_after, credit, credit_after}
-use Rattle.inlinable_string.specs.declared.run.Command.{Command}
-use Rattle.inlinable_string.specs.declared.run.Reply.{Reply}
+use Rattle.inlinable_string.proofs.Common.{◌≡◌, ℕ, List, [], ◌∷◌, ◌++◌, length, refl, ap, arith, rules, TextState, text_after, text_after_step, LegalReplies, state_after, state_after_step, storage_after, credit, credit_after, Command, Reply}
 
 -- the text after both
 pub text_joined : (t : List ℕ) (first second : List Command) (replies others : List Reply)

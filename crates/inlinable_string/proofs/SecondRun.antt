@@ -1,12 +1,5 @@
-use Rattle.std.proofs.lemmas.Grind.{common_steps}
+use Rattle.inlinable_string.proofs.Common.{common_steps, ◌≡◌, ℕ, ◌≤◌, inl, inr, List, [], ◌∷◌, ◌++◌, length, sym, ap, ◌∙◌, arith, rules, TextState, edit, reply_of, text_after, text_after_step, Need, at_end, anywhere, reserved, tight, no_room, need_of, credit, credit_when_met, credit_after_step, credit_after, IsCounted, state_after, state_after_step, IsMet, IsLegal, LegalReplies, IsRun, Command, Reply, Done, BadPlace}
 -- One run after another of one value. The value may have more credit than is certain.
-use Rattle.std.proofs.Common.{◌≡◌, ℕ, ◌≤◌, inl, inr, List, [], ◌∷◌, ◌++◌, length, sym, ap, ◌∙◌, arith, rules}
-use Rattle.inlinable_string.specs.State.{TextState}
-use Rattle.inlinable_string.specs.Edit.{edit, reply_of, text_after, text_after_step}
-use Rattle.inlinable_string.specs.Run.{Need, at_end, anywhere, reserved, tight, no_room, need_of, credit, credit_when_met, credit_after_step, credit_after, IsCounted, state_after, state_after_step, IsMet, IsLegal, LegalReplies, IsRun}
-use Rattle.inlinable_string.specs.declared.run.Command.{Command}
-use Rattle.inlinable_string.specs.declared.run.Reply.{Reply}
-use Rattle.inlinable_string.specs.declared.run.Reply.TheVariants.{Done, BadPlace}
 use Rattle.inlinable_string.proofs.Runs.{text_of, policy_of}
 use Rattle.inlinable_string.proofs.RepliesInTurn.{as_many_replies}
 use Rattle.inlinable_string.proofs.RunsJoined.{text_joined, storage_joined, credit_joined, legal_joined}

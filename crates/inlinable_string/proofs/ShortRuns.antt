@@ -1,17 +1,5 @@
-use Rattle.std.proofs.lemmas.Grind.{common_steps}
+use Rattle.inlinable_string.proofs.Common.{common_steps, ◌≡◌, ◌≢◌, ℕ, ◌+◌, ◌≤◌, inl, inr, ◌⊎◌, true, List, [], ◌∷◌, refl, sym, ap, ◌∙◌, arith, subst, nat_le, Contains, rules, nat_tests, size, TextState, IsLawful, storage_with_room, storage_when_shrunk, edit, reply_of, text_left, text_after_step, Need, at_end, anywhere, reserved, tight, no_room, need_of, storage_when_met, storage_after_step, state_after_step, storage_after, IsMet, IsLegal, LegalReplies, ReservesWithin, StaysWithin, Inline, Command, Push, PushStr, Insert, InsertStr, Truncate, Pop, Remove, Clear, ReplaceBytes, Reserve, ReserveExact, ShrinkToFit, Reply, Done, NoMemory}
 -- Runs that stay within the inline room: no memory can be refused to them.
-use Rattle.std.proofs.Common.{◌≡◌, ◌≢◌, ℕ, ◌+◌, ◌≤◌, inl, inr, ◌⊎◌, true, List, [], ◌∷◌, refl, sym, ap, ◌∙◌, arith, subst, nat_le, Contains, rules}
-use Rattle.std.proofs.lemmas.Bool.Decides.{nat_tests}
-use Rattle.inlinable_string.specs.Text.{size}
-use Rattle.inlinable_string.specs.State.{TextState, IsLawful, storage_with_room, storage_when_shrunk}
-use Rattle.inlinable_string.specs.Edit.{edit, reply_of, text_left, text_after_step}
-use Rattle.inlinable_string.specs.Run.{Need, at_end, anywhere, reserved, tight, no_room, need_of, storage_when_met, storage_after_step, state_after_step, storage_after, IsMet, IsLegal, LegalReplies}
-use Rattle.inlinable_string.specs.Laws.{ReservesWithin, StaysWithin}
-use Rattle.inlinable_string.specs.declared.string_ext.Storage.TheVariants.{Inline}
-use Rattle.inlinable_string.specs.declared.run.Command.{Command}
-use Rattle.inlinable_string.specs.declared.run.Command.TheVariants.{Push, PushStr, Insert, InsertStr, Truncate, Pop, Remove, Clear, ReplaceBytes, Reserve, ReserveExact, ShrinkToFit}
-use Rattle.inlinable_string.specs.declared.run.Reply.{Reply}
-use Rattle.inlinable_string.specs.declared.run.Reply.TheVariants.{Done, NoMemory}
 use Rattle.inlinable_string.proofs.Edits.{push_grows, push_str_grows, insert_grows, insert_str_grows, text_granted}
 use Rattle.inlinable_string.proofs.RefusalsDecide.{storage_kept}
 use Rattle.inlinable_string.proofs.FreeCommands.{granted, not_refused, absent, absent_nil}

@@ -1,17 +1,7 @@
-use Rattle.std.proofs.lemmas.Grind.{common_steps}
+use Rattle.inlinable_string.proofs.Common.{common_steps, ◌≡◌, ◌⊎◌, inl, inr, ℕ, zero, suc, ◌+◌, ◌-◌, ◌*◌, ◌/◌, ◌%◌, ◌<◌, ◌≤◌, List, [], ◌∷◌, ◌++◌, length, take, drop, refl, ap, sym, ◌∙◌, arith, subst, ⊎_elim, append-nil, append_assoc, length-append, length-take-le, rules, slice_index, ◌==◌, if◌then◌else◌, take_at, encode_utf8, IsScalar, scalar_cases, cases_lt, cases_Bool, cond-true, cond-false, le-leb, lt-ltb, le-ltb, and_from, and_parts, leb-true, nat_tests, length-encode, len_utf8, following, count_in, subpart_len}
 -- The table of well-formed UTF-8 against the codes of the characters.
-use Rattle.std.proofs.Common.{◌≡◌, ◌⊎◌, inl, inr, ℕ, zero, suc, ◌+◌, ◌-◌, ◌*◌, ◌/◌, ◌%◌, ◌<◌, ◌≤◌, List, [], ◌∷◌, ◌++◌, length, take, drop, refl, ap, sym, ◌∙◌, arith, subst, ⊎_elim, append-nil, append_assoc, length-append, length-take-le, rules}
-use Rattle.std.specs.Prelude.{slice_index, ◌==◌, if◌then◌else◌}
-use Rattle.std.proofs.lemmas.List.{take_at}
-use Rattle.std.specs.Char.{encode_utf8, IsScalar}
 use Rattle.std.specs.Int.{is_in_range}
-use lib.Utf8.{scalar_cases}
 use Rattle.std.proofs.str.Laws.{Shape, of1, of2, of3, of4, shape, Follows, two, three, four}
-use Rattle.std.proofs.lemmas.Bool.{cases_lt, cases_Bool, cond-true, cond-false, le-leb, lt-ltb, le-ltb, and_from, and_parts, leb-true}
-use Rattle.std.proofs.lemmas.Bool.Decides.{nat_tests}
-use Rattle.std.proofs.lemmas.Str.{length-encode}
-use Rattle.std.specs.Char.{len_utf8}
-use Rattle.inlinable_string.specs.Lossy.{following, count_in, subpart_len}
 
 -- from where to where the table lets the byte behind a go
 abbrev least : ℕ → ℕ

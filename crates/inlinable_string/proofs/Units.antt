@@ -1,17 +1,8 @@
-use Rattle.std.proofs.lemmas.Grind.{common_steps}
+use Rattle.inlinable_string.proofs.Common.{common_steps, ◌≡◌, ℕ, zero, suc, ◌+◌, ◌-◌, ◌/◌, ◌%◌, ◌<◌, ◌≤◌, true, false, not, Bool, ◌&&◌, ◌||◌, List, [], ◌∷◌, ◌++◌, length, take, refl, ap, sym, ◌∙◌, subst, arith, add-one, ⊎_elim, append-nil, append_assoc, rules, slice_index, if◌then◌else◌, IsScalar, all_scalars, IsAscii, scalar_cases, cases_lt, cases_Bool, and_parts, leb-true, ltb-true, cond-true, cond-false, le-leb, lt-ltb, lt-leb, le-ltb, and_left, and_right, and_from, get_or_past, take_more, take_all, size, units_of, is_high_at, is_low_at, is_high_before, is_unpaired, HasUnpaired, lossy_unit, lossy_utf16_before, lossy_utf16}
 -- UTF-16: units with their neighbours, and the text that they give.
-use Rattle.std.proofs.Common.{◌≡◌, ℕ, zero, suc, ◌+◌, ◌-◌, ◌/◌, ◌%◌, ◌<◌, ◌≤◌, true, false, not, Bool, ◌&&◌, ◌||◌, List, [], ◌∷◌, ◌++◌, length, take, refl, ap, sym, ◌∙◌, subst, arith, add-one, ⊎_elim, append-nil, append_assoc, rules}
-use Rattle.std.specs.Prelude.{slice_index, if◌then◌else◌}
-use Rattle.std.specs.Char.{IsScalar}
 use Rattle.std.specs.Char.Escape.{encode_utf16}
 use Rattle.std.specs.Char.Utf16.{is_high_surrogate, is_low_surrogate, surrogate_pair_char}
-use Rattle.std.specs.Str.{all_scalars, IsAscii}
-use lib.Utf8.{scalar_cases}
-use Rattle.std.proofs.lemmas.Bool.{cases_lt, cases_Bool, and_parts, leb-true, ltb-true, cond-true, cond-false, le-leb, lt-ltb, lt-leb, le-ltb, and_left, and_right, and_from}
-use Rattle.std.proofs.lemmas.List.{get_or_past, take_more, take_all}
-use Rattle.inlinable_string.specs.Text.{size}
 use Rattle.inlinable_string.proofs.Text.{size-append}
-use Rattle.inlinable_string.specs.Utf16.{units_of, is_high_at, is_low_at, is_high_before, is_unpaired, HasUnpaired, lossy_unit, lossy_utf16_before, lossy_utf16}
 
 clash : {b : Bool} → b ≡ true → b ≡ false → ⊥
 clash t f = cc

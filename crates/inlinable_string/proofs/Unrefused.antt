@@ -1,14 +1,5 @@
-use Rattle.std.proofs.lemmas.Grind.{common_steps}
+use Rattle.inlinable_string.proofs.Common.{common_steps, ◌≡◌, ◌≢◌, ◌↔◌, ℕ, zero, suc, ◌<◌, ◌^◌, inl, inr, true, List, [], ◌∷◌, take, refl, sym, ap, ◌∙◌, arith, subst, Contains, Some, slice_get, rules, TextState, IsLawful, edit, reply_of, text_left, text_after_step, text_after, Need, reserved, need_of, state_after_step, IsCounted, IsLegal, LegalReplies, replies_of, text_after_edits, ReservesWithin, LeavesWithin, StaysWithin, Inline, Command, Reply, Done, NoMemory}
 -- Runs in which no memory is refused: their replies and their text are those of plain edits.
-use Rattle.std.proofs.Common.{◌≡◌, ◌≢◌, ◌↔◌, ℕ, zero, suc, ◌<◌, ◌^◌, inl, inr, true, List, [], ◌∷◌, take, refl, sym, ap, ◌∙◌, arith, subst, Contains, Some, slice_get, rules}
-use Rattle.inlinable_string.specs.State.{TextState, IsLawful}
-use Rattle.inlinable_string.specs.Edit.{edit, reply_of, text_left, text_after_step, text_after}
-use Rattle.inlinable_string.specs.Run.{Need, reserved, need_of, state_after_step, IsCounted, IsLegal, LegalReplies}
-use Rattle.inlinable_string.specs.Laws.{replies_of, text_after_edits, ReservesWithin, LeavesWithin, StaysWithin}
-use Rattle.inlinable_string.specs.declared.string_ext.Storage.TheVariants.{Inline}
-use Rattle.inlinable_string.specs.declared.run.Command.{Command}
-use Rattle.inlinable_string.specs.declared.run.Reply.{Reply}
-use Rattle.inlinable_string.specs.declared.run.Reply.TheVariants.{Done, NoMemory}
 use Rattle.inlinable_string.proofs.Edits.{never_refused, text_granted}
 use Rattle.inlinable_string.proofs.ShortRuns.{short_step, short_run_never_asks}
 

@@ -1,4 +1,4 @@
-use Rattle.std.proofs.lemmas.Str.{encodes-append, encodes-chars}
+use Rattle.inlinable_string.proofs.Common.{encodes-append, encodes-chars}
 use Rattle.inlinable_string.proofs.laws.bytes_of_parts.Goals as goal
 
 pub returns : goal.returns

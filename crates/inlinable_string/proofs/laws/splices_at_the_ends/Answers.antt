@@ -1,5 +1,4 @@
-use Rattle.std.proofs.Common.{refl}
-use Rattle.inlinable_string.specs.Text.{size}
+use Rattle.inlinable_string.proofs.Common.{refl, size}
 use Rattle.inlinable_string.proofs.Text.{splice_at_start, splice_at_end}
 use Rattle.inlinable_string.proofs.laws.splices_at_the_ends.Goals as goal
 

@@ -1,12 +1,7 @@
-use Rattle.std.proofs.Common.{◌≡◌, sym, ap, ◌∙◌, rules}
-use Rattle.std.specs.String.{string_bytes}
-use Rattle.std.proofs.lemmas.Str.{encodes-chars}
+use Rattle.inlinable_string.proofs.Common.{◌≡◌, sym, ap, ◌∙◌, rules, string_bytes, encodes-chars, bytes_of, size, storage_when_made, inlinable_policy}
 use Rattle.serde_json.specs.Data.{string}
 use Rattle.serde_json.specs.View.{view}
 use Rattle.serde_json.specs.declared.value.Value.{the_lemmas}
-use Rattle.inlinable_string.specs.Text.{bytes_of, size}
-use Rattle.inlinable_string.specs.State.{storage_when_made}
-use Rattle.inlinable_string.specs.Values.{inlinable_policy}
 use Rattle.inlinable_string.proofs.Text.{size-chars}
 use Rattle.inlinable_string.proofs.inlinable_string.InlinableStringN.from_json.Goals as goal
 

@@ -1,4 +1,4 @@
-use Rattle.inlinable_string.specs.Joins.{text_of_strs}
+use Rattle.inlinable_string.proofs.Common.{text_of_strs}
 use Rattle.inlinable_string.proofs.Extended.{joined_text, refused_above, refused}
 use Rattle.inlinable_string.proofs.inlinable_string.InlinableStringN.from_strs.Goals as goal
 

@@ -1,4 +1,4 @@
-use Rattle.std.proofs.lemmas.Result.{on_err_weaker}
+use Rattle.inlinable_string.proofs.Common.{on_err_weaker}
 use Rattle.inlinable_string.proofs.Text.{kept}
 use Rattle.inlinable_string.proofs.inlinable_string.InlinableStringNStringExt.reserve_exact.Goals as goal
 

@@ -1,5 +1,4 @@
-use Rattle.std.proofs.Common.{length, ap, arith, rules}
-use Rattle.std.proofs.lemmas.Str.{IsUtf8-string_bytes}
+use Rattle.inlinable_string.proofs.Common.{length, ap, arith, rules, IsUtf8-string_bytes}
 use Rattle.inlinable_string.proofs.Text.{size-chars}
 use Rattle.inlinable_string.proofs.inlinable_string.InlinableStringNStringExt.shrink_to_fit.Goals as goal
 

@@ -1,5 +1,4 @@
-use Rattle.std.proofs.Common.{◌≡◌, [], length, sym, ap, ◌∙◌, Some, arith}
-use Rattle.inlinable_string.specs.Text.{size}
+use Rattle.inlinable_string.proofs.Common.{◌≡◌, [], length, sym, ap, ◌∙◌, Some, arith, size}
 use Rattle.inlinable_string.proofs.Window.{window_popped}
 use Rattle.inlinable_string.proofs.Text.{nil_from_size, size-popped, size_bound}
 use Rattle.inlinable_string.proofs.inline_string.InlineStringN.pop.Goals as goal

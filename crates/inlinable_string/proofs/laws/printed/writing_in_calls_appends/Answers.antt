@@ -1,6 +1,5 @@
 use Rattle.std.proofs.lemmas.Fmt.{contents_after_writes}
-use Rattle.inlinable_string.specs.Text.{bytes_of}
-use Rattle.inlinable_string.specs.Values.{inlinable_state}
+use Rattle.inlinable_string.proofs.Common.{bytes_of, inlinable_state}
 use Rattle.inlinable_string.proofs.laws.printed.writing_in_calls_appends.Goals as goal
 
 pub returns : goal.returns

@@ -1,5 +1,4 @@
-use Rattle.std.proofs.Common.{[], ◌∷◌}
-use Rattle.std.specs.Str.{chars}
+use Rattle.std.proofs.Common.{[], ◌∷◌, chars}
 use Rattle.inlinable_string.proofs.Places.{misplaced_insertion, misplaced_truncation}
 use Rattle.inlinable_string.proofs.run.laws.bad_places_are_no_places.Goals as goal
 

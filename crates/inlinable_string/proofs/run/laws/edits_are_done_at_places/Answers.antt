@@ -1,5 +1,4 @@
-use Rattle.std.proofs.Common.{[], ◌∷◌}
-use Rattle.std.specs.Str.{chars}
+use Rattle.std.proofs.Common.{[], ◌∷◌, chars}
 use Rattle.inlinable_string.proofs.Places.{placed_insertion, placed_truncation}
 use Rattle.inlinable_string.proofs.run.laws.edits_are_done_at_places.Goals as goal
 

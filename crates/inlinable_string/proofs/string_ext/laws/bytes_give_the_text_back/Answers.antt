@@ -1,6 +1,4 @@
-use Rattle.std.proofs.Common.{refl, sym}
-use Rattle.std.proofs.lemmas.Str.{chars_from_encodes}
-use Rattle.inlinable_string.specs.Text.{bytes_of}
+use Rattle.inlinable_string.proofs.Common.{refl, sym, chars_from_encodes, bytes_of}
 use Rattle.inlinable_string.proofs.string_ext.laws.bytes_give_the_text_back.Goals as goal
 
 pub returns-clause-text : goal.returns-clause-text

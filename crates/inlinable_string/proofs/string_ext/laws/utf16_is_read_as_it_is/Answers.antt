@@ -1,5 +1,4 @@
-use Rattle.std.proofs.Common.{sym, ap, ◌∙◌}
-use Rattle.inlinable_string.specs.Utf16.{lossy_utf16}
+use Rattle.inlinable_string.proofs.Common.{sym, ap, ◌∙◌, lossy_utf16}
 use Rattle.inlinable_string.proofs.Units.{text_is_read}
 use Rattle.inlinable_string.proofs.string_ext.laws.utf16_is_read_as_it_is.Goals as goal
 

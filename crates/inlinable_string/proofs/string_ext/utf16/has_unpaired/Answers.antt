@@ -1,6 +1,4 @@
-use Rattle.std.proofs.Common.{◌≡◌, ◌≤◌, false, arith, sym, ◌∙◌, ⊎_elim, subst}
-use Rattle.std.proofs.lemmas.Bool.{cases_lt}
-use Rattle.inlinable_string.specs.Utf16.{is_unpaired}
+use Rattle.inlinable_string.proofs.Common.{◌≡◌, ◌≤◌, false, arith, sym, ◌∙◌, ⊎_elim, subst, cases_lt, is_unpaired}
 use Rattle.inlinable_string.proofs.string_ext.utf16.has_unpaired.Goals as goal
 
 pub loop-i-preserved : goal.loop-i-preserved

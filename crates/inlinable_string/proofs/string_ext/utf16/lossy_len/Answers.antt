@@ -1,6 +1,4 @@
-use Rattle.std.proofs.Common.{◌≡◌, ◌≤◌, ◌^◌, ap, sym, ◌∙◌, arith}
-use Rattle.inlinable_string.specs.Text.{size}
-use Rattle.inlinable_string.specs.Utf16.{lossy_utf16, lossy_unit}
+use Rattle.inlinable_string.proofs.Common.{◌≡◌, ◌≤◌, ◌^◌, ap, sym, ◌∙◌, arith, size, lossy_utf16, lossy_unit}
 use Rattle.inlinable_string.proofs.Units.{lossy_counted, lossy_counted_within}
 use Rattle.inlinable_string.proofs.Window.{size_one}
 use Rattle.inlinable_string.proofs.string_ext.utf16.lossy_len.Goals as goal

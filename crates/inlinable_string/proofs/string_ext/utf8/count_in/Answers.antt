@@ -1,6 +1,4 @@
-use Rattle.std.proofs.Common.{◌≡◌, ◌∙◌, ℕ, List, [], ◌∷◌, drop, refl, ap, arith}
-use Rattle.std.proofs.lemmas.List.{drop_all}
-use Rattle.inlinable_string.specs.Lossy.{count_in}
+use Rattle.inlinable_string.proofs.Common.{◌≡◌, ◌∙◌, ℕ, List, [], ◌∷◌, drop, refl, ap, arith, drop_all, count_in}
 use Rattle.inlinable_string.proofs.string_ext.utf8.count_in.Goals as goal
 
 none_left : (ranges : List (ℕ × ℕ)) → count_in ranges [] ≡ 0

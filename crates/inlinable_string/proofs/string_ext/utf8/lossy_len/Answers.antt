@@ -1,7 +1,4 @@
-use Rattle.std.proofs.Common.{◌≤◌, ◌^◌, ap, arith}
-use Rattle.std.specs.Str.{chars}
-use Rattle.inlinable_string.specs.Text.{size}
-use Rattle.inlinable_string.specs.Lossy.{lossy_utf8}
+use Rattle.inlinable_string.proofs.Common.{◌≤◌, ◌^◌, ap, arith, chars, size, lossy_utf8}
 use Rattle.inlinable_string.proofs.Text.{size-chars}
 use Rattle.inlinable_string.proofs.Subparts.{read_whole, size_on, size_within}
 use Rattle.inlinable_string.proofs.string_ext.utf8.lossy_len.Goals as goal

@@ -1,7 +1,4 @@
-use Rattle.std.proofs.Common.{◌++◌, ◌∷◌, drop, sym, ap, ◌∙◌, subst}
-use Rattle.std.specs.Str.{chars, IsValidUpTo}
-use Rattle.std.proofs.lemmas.List.{take_rest}
-use Rattle.inlinable_string.specs.Lossy.{lossy_utf8}
+use Rattle.inlinable_string.proofs.Common.{◌++◌, ◌∷◌, drop, sym, ap, ◌∙◌, subst, chars, IsValidUpTo, take_rest, lossy_utf8}
 use Rattle.inlinable_string.proofs.Subparts.{lossy_all, past_fault}
 use Rattle.inlinable_string.proofs.string_ext.utf8.split_fault.Goals as goal
 

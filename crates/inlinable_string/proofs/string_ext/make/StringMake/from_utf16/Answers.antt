@@ -1,5 +1,4 @@
-use Rattle.std.proofs.Common.{sym, ap, ◌∙◌, arith}
-use Rattle.inlinable_string.specs.Utf16.{units_of}
+use Rattle.inlinable_string.proofs.Common.{sym, ap, ◌∙◌, arith, units_of}
 use Rattle.inlinable_string.proofs.Units.{all_paired, units-lossy}
 use Rattle.inlinable_string.proofs.Makers.{utf8_made, text_made}
 use Rattle.inlinable_string.proofs.string_ext.make.StringMake.from_utf16.Goals as goal

@@ -1,6 +1,4 @@
-use Rattle.std.proofs.Common.{sym, ap, ◌∙◌}
-use Rattle.std.proofs.lemmas.Str.{encodes-chars}
-use Rattle.inlinable_string.specs.Text.{bytes_of}
+use Rattle.inlinable_string.proofs.Common.{sym, ap, ◌∙◌, encodes-chars, bytes_of}
 use Rattle.inlinable_string.proofs.Subparts.{lossy_all}
 use Rattle.inlinable_string.proofs.Makers.{bytes-string}
 use Rattle.inlinable_string.proofs.string_ext.make.StringMake.from_utf8_lossy.Goals as goal

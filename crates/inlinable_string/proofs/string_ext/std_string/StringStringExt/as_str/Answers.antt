@@ -1,5 +1,4 @@
-use Rattle.std.proofs.Common.{◌∙◌}
-use Rattle.std.proofs.lemmas.Str.{IsUtf8-string_bytes}
+use Rattle.inlinable_string.proofs.Common.{◌∙◌, IsUtf8-string_bytes}
 use Rattle.inlinable_string.proofs.Cut.{places_are}
 use Rattle.inlinable_string.proofs.Text.{bytes_are, holds_chars}
 use Rattle.inlinable_string.proofs.string_ext.std_string.StringStringExt.as_str.Goals as goal

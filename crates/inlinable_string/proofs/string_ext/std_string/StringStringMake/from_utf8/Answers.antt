@@ -1,4 +1,4 @@
-use Rattle.std.proofs.lemmas.Result.{IfOk-weaker}
+use Rattle.inlinable_string.proofs.Common.{IfOk-weaker}
 use Rattle.inlinable_string.proofs.Makers as makers
 use Rattle.inlinable_string.proofs.string_ext.std_string.StringStringMake.from_utf8.Goals as goal
 
