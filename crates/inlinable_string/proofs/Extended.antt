@@ -1,5 +1,5 @@
-use Rattle.inlinable_string.proofs.Common.{common_steps, ◌≡◌, ℕ, ◌+◌, ◌≤◌, ◌<◌, Bool, true, false, ◌&&◌, List, [], ◌∷◌, ◌++◌, refl, sym, ap, ◌∙◌, arith, subst, append-nil, append_assoc, add_assoc, if◌then◌else◌, nat_le, Option, Some, None, Result, Ok, Err, OnErr, rules, nat_tests, flat_map_more, map-append, chars, Inline, Heap, size, TextState, IsLawful, IsSameText, HasRoom, is_inline, storage_with_room, storage_when_made, inlinable_policy, inlinable_state, text_of_strs, text_of_char_refs, IsExtended, IsRefusedLast}
 -- Texts to which the items of an iterator are added one by one.
+use Rattle.inlinable_string.proofs.Common.{common_steps, ◌≡◌, ℕ, ◌+◌, ◌≤◌, ◌<◌, Bool, true, false, ◌&&◌, List, [], ◌∷◌, ◌++◌, refl, sym, ap, ◌∙◌, arith, subst, append-nil, append_assoc, add_assoc, if◌then◌else◌, nat_le, Option, Some, None, Result, Ok, Err, OnErr, rules, nat_tests, flat_map_more, map-append, chars, Inline, Heap, size, TextState, IsLawful, IsSameText, HasRoom, is_inline, storage_with_room, storage_when_made, inlinable_policy, inlinable_state, text_of_strs, text_of_char_refs, IsExtended, IsRefusedLast}
 use Rattle.std.proofs.iter.runs.Made.{run_of_turn, run_of_exit}
 use Rattle.std.specs.Borrow.{Bor}
 use Rattle.std.specs.Iterator.{Yields}

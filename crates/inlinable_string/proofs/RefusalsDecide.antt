@@ -1,5 +1,5 @@
-use Rattle.inlinable_string.proofs.Common.{common_steps, ◌≡◌, ◌≢◌, ℕ, inl, inr, true, List, [], ◌∷◌, map, refl, sym, ap, ◌∙◌, rules, arith, TextState, edit, reply_of, text_after_step, Need, at_end, anywhere, reserved, tight, no_room, need_of, storage_when_met, storage_after_step, state_after_step, storage_after, IsLegal, LegalReplies, is_refusal, Command, Reply, Done, Char, NoMemory}
 -- What the refusals of a run decide, and what they leave.
+use Rattle.inlinable_string.proofs.Common.{common_steps, ◌≡◌, ◌≢◌, ℕ, inl, inr, true, List, [], ◌∷◌, map, refl, sym, ap, ◌∙◌, rules, arith, TextState, edit, reply_of, text_after_step, Need, at_end, anywhere, reserved, tight, no_room, need_of, storage_when_met, storage_after_step, state_after_step, storage_after, IsLegal, LegalReplies, is_refusal, Command, Reply, Done, Char, NoMemory}
 use Rattle.inlinable_string.proofs.Edits.{never_refused}
 
 -- a reply is known from its text and its mark
@@ -14,8 +14,6 @@ pub same_replies : (s t : TextState) (commands : List Command) (replies others :
     → map is_refusal replies ≡ map is_refusal others → replies ≡ others
 same_replies s t [] [] [] text a b marks = refl
 same_replies s t [] [] (o ∷ others) text a b marks = absurd b
-same_replies s t [] (r ∷ replies) others text a b marks = absurd a
-same_replies s t (c ∷ commands) [] others text a b marks = absurd a
 same_replies s t (c ∷ commands) (r ∷ replies) [] text a b marks = absurd b
 same_replies s t (c ∷ commands) (r ∷ replies) (o ∷ others) text a b marks =
     let mark : is_refusal r ≡ is_refusal o = cc in
@@ -27,8 +25,9 @@ same_replies s t (c ∷ commands) (r ∷ replies) (o ∷ others) text a b marks 
     same_replies (state_after_step s c r)
     (state_after_step t c o) commands replies others next a.1 b.1 rest in
     ap (λ x. x ∷ replies) here ∙ ap (λ l. o ∷ l) there
+same_replies s t commands replies others text a b marks = absurd a
 
--- nor has it after a step
+-- where a text lies after a step has nothing to do with its capacity
 pub same_storage_step : (s t : TextState) (command : Command) (reply : Reply) → s.text ≡ t.text
     → s.storage ≡ t.storage → s.policy ≡ t.policy
     → storage_after_step s command reply ≡ storage_after_step t command reply
@@ -39,13 +38,12 @@ same_storage_step s t command reply text storage policy = storage
 pub same_storage : (s t : TextState) (commands : List Command) (replies : List Reply)
     → s.text ≡ t.text → s.storage ≡ t.storage → s.policy ≡ t.policy
     → storage_after s commands replies ≡ storage_after t commands replies
-same_storage s t [] replies text storage policy = storage
-same_storage s t (c ∷ commands) [] text storage policy = storage
 same_storage s t (c ∷ commands) (r ∷ replies) text storage policy =
     same_storage (state_after_step s c r) (state_after_step t c r) commands replies
     (ap (λ u. text_after_step u c r) text) (same_storage_step s t c r text storage policy) policy
+same_storage s t commands replies text storage policy = storage
 
--- and all but `Done` leave the storage
+-- all replies but `Done` leave the storage
 pub storage_kept : (s : TextState) (command : Command) (reply : Reply) → reply ≢ Done
     → (state_after_step s command reply).storage ≡ s.storage
 storage_kept s command Done other = absurd (other refl)

@@ -6,10 +6,9 @@ use Rattle.inlinable_string.proofs.Common.{common_steps, ◌≡◌, ℕ, zero, s
 pub as_many_replies : (s : TextState) (commands : List Command) (replies : List Reply)
     → LegalReplies s commands replies → length replies ≡ length commands
 as_many_replies s [] [] h = refl
-as_many_replies s [] (r ∷ replies) h = absurd h
-as_many_replies s (c ∷ commands) [] h = absurd h
 as_many_replies s (c ∷ commands) (r ∷ replies) h =
     omega (arith, as_many_replies (state_after_step s c r) commands replies h.1)
+as_many_replies s commands replies h = absurd h
 
 -- each reply is legal in the state before it
 pub legal_at : (s : TextState) (commands : List Command) (replies : List Reply) (i : ℕ)
@@ -61,7 +60,6 @@ own_reply_at commands replies i j h = search (rules, taken_at, dropped_at)
 pub as_many_texts : (olds news : List TextState) (commands : List Command) (replies : List Reply)
     → EachRun olds commands replies news → length news ≡ length olds
 as_many_texts [] [] commands replies h = refl
-as_many_texts [] (y ∷ news) commands replies h = absurd h
-as_many_texts (x ∷ olds) [] commands replies h = absurd h
 as_many_texts (x ∷ olds) (y ∷ news) commands replies h =
     omega (arith, as_many_texts olds news commands (drop (length commands) replies) h.1)
+as_many_texts olds news commands replies h = absurd h

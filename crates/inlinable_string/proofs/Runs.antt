@@ -12,37 +12,32 @@ state_more : (s : TextState) (cs : List Command) (rs : List Reply) (c : Command)
     → length cs ≡ length rs
     → state_after s (cs ++ c ∷ []) (rs ++ r ∷ []) ≡ state_after_step (state_after s cs rs) c r
 state_more s [] [] c r h = refl
-state_more s [] (y ∷ rs) c r h = absurd (omega (arith, h))
-state_more s (x ∷ cs) [] c r h = absurd (omega (arith, h))
 state_more s (x ∷ cs) (y ∷ rs) c r h =
     state_more (state_after_step s x y) cs rs c r (omega (arith, h))
+state_more s cs rs c r h = absurd (omega (arith, h))
 
 legal_more : (s : TextState) (cs : List Command) (rs : List Reply) (c : Command) (r : Reply)
     → LegalReplies s cs rs
     → IsLegal (state_after s cs rs) c r → LegalReplies s (cs ++ c ∷ []) (rs ++ r ∷ [])
 legal_more s [] [] c r h a = (a, tt)
-legal_more s [] (y ∷ rs) c r h a = absurd h
-legal_more s (x ∷ cs) [] c r h a = absurd h
 legal_more s (x ∷ cs) (y ∷ rs) c r h a = (h.0, legal_more (state_after_step s x y) cs rs c r h.1 a)
+legal_more s cs rs c r h a = absurd h
 
 -- the state follows the text and keeps the policy
 pub text_of : (s : TextState) (cs : List Command) (rs : List Reply)
     → (state_after s cs rs).text ≡ text_after s.text cs rs
-text_of s [] rs = refl
-text_of s (x ∷ cs) [] = refl
 text_of s (x ∷ cs) (y ∷ rs) = text_of (state_after_step s x y) cs rs
+text_of s cs rs = refl
 
 pub policy_of : (s : TextState) (cs : List Command) (rs : List Reply)
     → (state_after s cs rs).policy ≡ s.policy
-policy_of s [] rs = refl
-policy_of s (x ∷ cs) [] = refl
 policy_of s (x ∷ cs) (y ∷ rs) = policy_of (state_after_step s x y) cs rs
+policy_of s cs rs = refl
 
 fits_in : (s : TextState) (cs : List Command) (rs : List Reply) → size s.text ≤ s.capacity
     → size (state_after s cs rs).text ≤ (state_after s cs rs).capacity
-fits_in s [] rs h = h
-fits_in s (x ∷ cs) [] h = h
 fits_in s (x ∷ cs) (y ∷ rs) h = fits_in (state_after_step s x y) cs rs (omega arith)
+fits_in s cs rs h = h
 
 -- a value is in the state that it covers, but for its capacity
 covered : (s value : TextState) → Covers s value → record value { capacity = s.capacity } ≡ s

@@ -7,10 +7,9 @@ pub text_joined : (t : List ℕ) (first second : List Command) (replies others :
     → text_after t (first ++ second) (replies ++ others)
     ≡ text_after (text_after t first replies) second others
 text_joined t [] second [] others h = refl
-text_joined t [] second (r ∷ replies) others h = absurd (omega (arith, h))
-text_joined t (c ∷ first) second [] others h = absurd (omega (arith, h))
 text_joined t (c ∷ first) second (r ∷ replies) others h =
     text_joined (text_after_step t c r) first second replies others (omega (arith, h))
+text_joined t first second replies others h = absurd (omega (arith, h))
 
 -- the state after both
 state_joined : (s : TextState) (first second : List Command) (replies others : List Reply)
@@ -18,10 +17,9 @@ state_joined : (s : TextState) (first second : List Command) (replies others : L
     → state_after s (first ++ second) (replies ++ others)
     ≡ state_after (state_after s first replies) second others
 state_joined s [] second [] others h = refl
-state_joined s [] second (r ∷ replies) others h = absurd (omega (arith, h))
-state_joined s (c ∷ first) second [] others h = absurd (omega (arith, h))
 state_joined s (c ∷ first) second (r ∷ replies) others h =
     state_joined (state_after_step s c r) first second replies others (omega (arith, h))
+state_joined s first second replies others h = absurd (omega (arith, h))
 
 -- and so its storage and its credit
 pub storage_joined : (s : TextState) (first second : List Command) (replies others : List Reply)
@@ -41,10 +39,9 @@ pub legal_joined : (s : TextState) (first second : List Command) (replies others
     → LegalReplies s first replies → LegalReplies (state_after s first replies) second others
     → LegalReplies s (first ++ second) (replies ++ others)
 legal_joined s [] second [] others h k = k
-legal_joined s [] second (r ∷ replies) others h k = absurd h
-legal_joined s (c ∷ first) second [] others h k = absurd h
 legal_joined s (c ∷ first) second (r ∷ replies) others h k =
     (h.0, legal_joined (state_after_step s c r) first second replies others h.1 k)
+legal_joined s first second replies others h k = absurd h
 
 -- and only there
 pub legal_parted : (s : TextState) (first second : List Command) (replies others : List Reply)
@@ -52,9 +49,8 @@ pub legal_parted : (s : TextState) (first second : List Command) (replies others
     → LegalReplies s (first ++ second) (replies ++ others)
     → LegalReplies s first replies × LegalReplies (state_after s first replies) second others
 legal_parted s [] second [] others h k = (tt, k)
-legal_parted s [] second (r ∷ replies) others h k = absurd (omega (arith, h))
-legal_parted s (c ∷ first) second [] others h k = absurd (omega (arith, h))
 legal_parted s (c ∷ first) second (r ∷ replies) others h k =
     let rest =
     legal_parted (state_after_step s c r) first second replies others (omega (arith, h)) k.1 in
     ((k.0, rest.0), rest.1)
+legal_parted s first second replies others h k = absurd (omega (arith, h))

@@ -1,5 +1,5 @@
-use Rattle.inlinable_string.proofs.Common.{common_steps, ◌≡◌, ℕ, ◌≤◌, inl, inr, List, [], ◌∷◌, ◌++◌, length, sym, ap, ◌∙◌, arith, rules, TextState, edit, reply_of, text_after, text_after_step, Need, at_end, anywhere, reserved, tight, no_room, need_of, credit, credit_when_met, credit_after_step, credit_after, IsCounted, state_after, state_after_step, IsMet, IsLegal, LegalReplies, IsRun, Command, Reply, Done, BadPlace}
 -- One run after another of one value. The value may have more credit than is certain.
+use Rattle.inlinable_string.proofs.Common.{common_steps, ◌≡◌, ℕ, ◌≤◌, inl, inr, List, [], ◌∷◌, ◌++◌, length, sym, ap, ◌∙◌, arith, rules, TextState, edit, reply_of, text_after, text_after_step, Need, at_end, anywhere, reserved, tight, no_room, need_of, credit, credit_when_met, credit_after_step, credit_after, IsCounted, state_after, state_after_step, IsMet, IsLegal, LegalReplies, IsRun, Command, Reply, Done, BadPlace}
 use Rattle.inlinable_string.proofs.Runs.{text_of, policy_of}
 use Rattle.inlinable_string.proofs.RepliesInTurn.{as_many_replies}
 use Rattle.inlinable_string.proofs.RunsJoined.{text_joined, storage_joined, credit_joined, legal_joined}
@@ -38,11 +38,10 @@ richer_step s v command reply h = grind (arith, common_steps)
 
 credit_richer : (s v : TextState) (commands : List Command) (replies : List Reply) → IsRicher s v
     → credit_after s commands replies ≤ credit_after v commands replies
-credit_richer s v [] replies h = h.credit
-credit_richer s v (c ∷ commands) [] h = h.credit
 credit_richer s v (c ∷ commands) (r ∷ replies) h =
     credit_richer (state_after_step s c r) (state_after_step v c r) commands replies
     (richer_step s v c r h)
+credit_richer s v commands replies h = h.credit
 
 counted_same : (s v : TextState) (need : Need) (reply : Reply) → s.text ≡ v.text
     → IsCounted v need reply → IsCounted s need reply
@@ -57,13 +56,12 @@ legal_poorer s v command reply h legal = grind (arith, common_steps)
 all_legal_poorer : (s v : TextState) (commands : List Command) (replies : List Reply) → IsRicher s v
     → LegalReplies v commands replies → LegalReplies s commands replies
 all_legal_poorer s v [] [] h legal = tt
-all_legal_poorer s v [] (r ∷ replies) h legal = absurd legal
-all_legal_poorer s v (c ∷ commands) [] h legal = absurd legal
 all_legal_poorer s v (c ∷ commands) (r ∷ replies) h legal = (
   legal_poorer s v c r h legal.0,
   all_legal_poorer (state_after_step s c r) (state_after_step v c r) commands replies
       (richer_step s v c r h) legal.1,
 )
+all_legal_poorer s v commands replies h legal = absurd legal
 
 -- one run after another of one value is a run of both
 pub runs_follow : (old mid new : TextState) (first second : List Command)

@@ -1,5 +1,5 @@
-use Rattle.inlinable_string.proofs.Common.{common_steps, ◌≡◌, ◌≢◌, ◌↔◌, ℕ, zero, suc, ◌<◌, ◌^◌, inl, inr, true, List, [], ◌∷◌, take, refl, sym, ap, ◌∙◌, arith, subst, Contains, Some, slice_get, rules, TextState, IsLawful, edit, reply_of, text_left, text_after_step, text_after, Need, reserved, need_of, state_after_step, IsCounted, IsLegal, LegalReplies, replies_of, text_after_edits, ReservesWithin, LeavesWithin, StaysWithin, Inline, Command, Reply, Done, NoMemory}
 -- Runs in which no memory is refused: their replies and their text are those of plain edits.
+use Rattle.inlinable_string.proofs.Common.{common_steps, ◌≡◌, ◌≢◌, ◌↔◌, ℕ, zero, suc, ◌<◌, ◌^◌, inl, inr, true, List, [], ◌∷◌, take, refl, sym, ap, ◌∙◌, arith, subst, Contains, Some, slice_get, rules, TextState, IsLawful, edit, reply_of, text_left, text_after_step, text_after, Need, reserved, need_of, state_after_step, IsCounted, IsLegal, LegalReplies, replies_of, text_after_edits, ReservesWithin, LeavesWithin, StaysWithin, Inline, Command, Reply, Done, NoMemory}
 use Rattle.inlinable_string.proofs.Edits.{never_refused, text_granted}
 use Rattle.inlinable_string.proofs.ShortRuns.{short_step, short_run_never_asks}
 
@@ -22,8 +22,6 @@ pub unrefused_replies : (s : TextState) (commands : List Command) (replies : Lis
     → LegalReplies s commands replies → ¬ Contains replies NoMemory
     → replies ≡ replies_of s.text commands
 unrefused_replies s [] [] legal given = refl
-unrefused_replies s [] (r ∷ replies) legal given = absurd legal
-unrefused_replies s (c ∷ commands) [] legal given = absurd legal
 unrefused_replies s (c ∷ commands) (r ∷ replies) legal given =
     let here : r ≢ NoMemory = λ is. given (refused_first r replies is) in
     let same : r ≡ reply_of (edit s.text c) = answered s c r legal.0 here in
@@ -33,19 +31,19 @@ unrefused_replies s (c ∷ commands) (r ∷ replies) legal given =
     text_granted s.text c r here in
     ap (λ x. x ∷ replies) same
     ∙ ap (λ l. reply_of (edit s.text c) ∷ l) (rest ∙ ap (λ t. replies_of t commands) text)
+unrefused_replies s commands replies legal given = absurd legal
 
 -- and the text is that of the edits
 pub unrefused_text : (s : TextState) (commands : List Command) (replies : List Reply)
     → LegalReplies s commands replies → ¬ Contains replies NoMemory
     → text_after s.text commands replies ≡ text_after_edits s.text commands
 unrefused_text s [] [] legal given = refl
-unrefused_text s [] (r ∷ replies) legal given = absurd legal
-unrefused_text s (c ∷ commands) [] legal given = absurd legal
 unrefused_text s (c ∷ commands) (r ∷ replies) legal given =
     let text : text_after_step s.text c r ≡ text_left s.text (edit s.text c) =
     text_granted s.text c r (λ is. given (refused_first r replies is)) in
     unrefused_text (state_after_step s c r) commands replies legal.1
     (λ has. given (refused_later r replies has)) ∙ ap (λ t. text_after_edits t commands) text
+unrefused_text s commands replies legal given = absurd legal
 
 -- a reservation within a limit that a `usize` counts is counted
 counted_within : (s : TextState) (need : Need) (reply : Reply) → s.policy.limit < 2 ^ 64

@@ -1,4 +1,4 @@
-use Rattle.inlinable_string.proofs.Common.{◌≡◌, sym, ap, ◌∙◌, rules, string_bytes, encodes-chars, bytes_of, size, storage_when_made, inlinable_policy}
+use Rattle.inlinable_string.proofs.Common.{rules, arith, ◌≡◌, sym, ap, ◌∙◌, string_bytes, encodes-chars, bytes_of, size, storage_when_made, inlinable_policy}
 use Rattle.serde_json.specs.Data.{string}
 use Rattle.serde_json.specs.View.{view}
 use Rattle.serde_json.specs.declared.value.Value.{the_lemmas}
@@ -13,6 +13,4 @@ returns-clause-text g c =
     is_string ∙ ap string (sym (bytes ∙ c.as_str.ensures.value))
 
 pub returns-clause-storage : goal.returns-clause-storage
-returns-clause-storage g c =
-    let long = ap size c.in_ok-made.ensures.text ∙ size-chars _ c.as_str.utf8 in
-    c.in_ok-made.ensures.storage ∙ ap (storage_when_made (inlinable_policy g.row.N)) (sym long)
+returns-clause-storage g c = search (rules, size-chars)

@@ -1,11 +1,12 @@
-use Rattle.inlinable_string.proofs.ReservedPushes.{pushes_after_reserve, pushes_after_reserve_exact, pushes_from_start, pushes_anywhere, pushes_exact_anywhere}
+use Rattle.inlinable_string.proofs.Common.{arith, Reserve, ReserveExact}
+use Rattle.inlinable_string.proofs.ReservedPushes.{pushes_from_start, pushes_behind, pushes_between}
 use Rattle.inlinable_string.proofs.run.laws.reserved_pushes_never_fail.Goals as goal
 
 pub returns : goal.returns
 returns c = record {
-  reserve = pushes_after_reserve;
-  reserve_exact = pushes_after_reserve_exact;
+  reserve = λ s k. pushes_behind k (Reserve k) (λ t. omega arith) s;
+  reserve_exact = λ s k. pushes_behind k (ReserveExact k) (λ t. omega arith) s;
   start = pushes_from_start;
-  anywhere = pushes_anywhere;
-  exact_anywhere = pushes_exact_anywhere;
+  anywhere = λ s k. pushes_between k (Reserve k) (λ t. omega arith) s;
+  exact_anywhere = λ s k. pushes_between k (ReserveExact k) (λ t. omega arith) s;
 }
