@@ -31,18 +31,13 @@ row_four a l h = grind (arith, nat_tests)
 scalar_below : (c : ℕ) → IsScalar c → c < 0x11_0000
 scalar_below c s = ⊎_elim (λ h. omega (arith, h)) (λ h. h.1) (scalar_cases c s)
 
--- one more byte in its range
-more : (low high b : ℕ) (ranges : List (ℕ × ℕ)) (bs : List ℕ) → low ≤ b → b ≤ high
-    → count_in ((low, high) ∷ ranges) (b ∷ bs) ≡ 1 + count_in ranges bs
-more low high b ranges bs l h = cond-true _ _ _ (and_from _ _ (le-leb low b l) (le-leb b high h))
-
 -- bytes that are in a row in full
 at_row : (a b k : ℕ) (bs : List ℕ) → IsRow a k → (least a ≤ b) × (b ≤ most a)
     → count_in (later k) bs ≡ k → subpart_len (a ∷ b ∷ bs) ≡ 1 + (1 + k)
 at_row a b k bs row p e = grind (arith, common_steps)
 
 one_later : (d : ℕ) (rest : List ℕ) → Follows d → count_in (later 1) (d ∷ rest) ≡ 1
-one_later d rest f = more 0x80 0xBF d [] rest f.0 (omega (arith, f.1))
+one_later d rest f = grind (arith, common_steps)
 
 two_later : (d e : ℕ) (rest : List ℕ) → Follows d → Follows e
     → count_in (later 2) (d ∷ e ∷ rest) ≡ 2
@@ -128,13 +123,7 @@ abbrev pub BeginsCode : List ℕ → Type 0
 BeginsCode bs = (c : ℕ) × (rest : List ℕ) × IsScalar c × (encode_utf8 c ≡ bs ++ rest)
 
 is_scalar : (c : ℕ) → (c < 55296) ⊎ ((57344 ≤ c) × (c < 1114112)) → IsScalar c
-is_scalar c h = ⊎_elim (λ l. low_scalar' c l) (λ r. high_scalar' c r.0 r.1) h
-  where
-    low_scalar' : (c : ℕ) → c < 55296 → IsScalar c
-    low_scalar' c l = cond-true _ _ _ (lt-ltb c 55296 l)
-
-    high_scalar' : (c : ℕ) → 57344 ≤ c → c < 1114112 → IsScalar c
-    high_scalar' c l h = grind (arith, common_steps)
+is_scalar c h = grind (arith, common_steps)
 
 -- the k bytes that a row wants behind the second
 abbrev IsLater : ℕ → List ℕ → Type 0
@@ -264,10 +253,6 @@ in_row a b k bs row codes h =
 no_row : (a : ℕ) (bs : List ℕ) → following a ≡ [] → Begins (a ∷ bs)
 no_row a bs row h = grind (arith, common_steps)
 
-none_left : (ranges : List (ℕ × ℕ)) → count_in ranges [] ≡ 0
-none_left [] = refl
-none_left (r ∷ ranges) = refl
-
 by_row : (a b : ℕ) (bs : List ℕ) → Begins (a ∷ b ∷ bs)
 by_row a b bs =
     ⊎_elim (λ below. no_row a (b ∷ bs) (none_in a below))
@@ -280,5 +265,5 @@ by_row a b bs =
 -- the maximal subpart, where it has more than one byte, begins the code of some character
 pub table_begins : (bs : List ℕ) → 1 < subpart_len bs → BeginsCode (take (subpart_len bs) bs)
 table_begins [] h = absurd (omega (arith, h))
-table_begins (a ∷ []) h = absurd (omega (arith, h, none_left (following a)))
+table_begins (a ∷ []) h = grind (arith, common_steps)
 table_begins (a ∷ b ∷ bs) h = by_row a b bs h

@@ -7,11 +7,7 @@ use Rattle.inlinable_string.proofs.Text.{size-append}
 clash : {b : Bool} → b ≡ true → b ≡ false → ⊥
 clash t f = cc
 
--- past the end no unit is unpaired
-none_past : (v : List ℕ) (i : ℕ) → length v ≤ i → is_unpaired v i ≡ false
-none_past v i h = rw (get_or_past v i 0 h)
-
--- so those before it decide
+-- past the end no unit is unpaired, so those before it decide
 pub none_unpaired : (v : List ℕ) → ((j : ℕ) → j < length v → is_unpaired v j ≡ false)
     → HasUnpaired v → ⊥
 none_unpaired v none some = grind (arith, common_steps)
@@ -63,13 +59,7 @@ low_range u h = let p = and_parts _ _ h in (leb-true _ _ p.0, ltb-true _ _ p.1)
 high_is_not_low : (u : ℕ) → is_high_surrogate u ≡ true → is_low_surrogate u ≡ false
 high_is_not_low u h = and_left _ _ (lt-leb 0xDC00 u (high_range u h).1)
 
--- a high unit that is paired has a low one behind it
-paired_high : (h l x : Bool) → h ≡ true → ((h && not l) || x) ≡ false → l ≡ true
-paired_high true true x e f = refl
-paired_high true false x e f = absurd (clash refl f)
-paired_high false l x e f = absurd (clash e refl)
-
--- and a low one that is paired has a high one before it
+-- a low unit that is paired has a high one before it
 paired_low : (x y l b : Bool) → x ≡ false → l ≡ true → ((x && y) || (l && not b)) ≡ false → b ≡ true
 paired_low false y true true e g f = refl
 paired_low false y true false e g f = absurd (clash refl f)
@@ -102,7 +92,7 @@ pair_units h l p q = grind (arith, common_steps)
 
 module _ (v : List ℕ) (paired : (i : ℕ) → is_unpaired v i ≡ false) where
   low_after : (i : ℕ) → is_high_at v i ≡ true → is_low_at v (i + 1) ≡ true
-  low_after i h = paired_high _ _ _ h (paired i)
+  low_after i h = grind (arith, common_steps)
 
   -- behind a high unit stands a low one
   low_here : (i : ℕ) → is_high_before v i ≡ true → is_low_at v i ≡ true
@@ -224,7 +214,7 @@ one_is_paired u v p q rest (suc i) = past_first u v i p ∙ rest i
 
 pub text_is_paired : (t : List ℕ) → all_scalars t ≡ true → (i : ℕ)
     → is_unpaired (units_of t) i ≡ false
-text_is_paired [] s i = none_past [] i (omega arith)
+text_is_paired [] s i = grind (arith, common_steps)
 text_is_paired (c ∷ t) s i =
     let p = and_parts _ _ s in
     let rest = text_is_paired t p.1 in
