@@ -1,10 +1,9 @@
 -- Texts to which the items of an iterator are added one by one.
-use Rattle.inlinable_string.proofs.Common.{common_steps, ◌≡◌, ℕ, ◌+◌, ◌≤◌, ◌<◌, Bool, true, false, ◌&&◌, List, [], ◌∷◌, ◌++◌, refl, sym, ap, ◌∙◌, arith, subst, append-nil, append_assoc, add_assoc, if◌then◌else◌, nat_le, Option, Some, None, Result, Ok, Err, OnErr, rules, nat_tests, flat_map_more, map-append, chars, Inline, Heap, size, TextState, IsLawful, IsSameText, HasRoom, is_inline, storage_with_room, storage_when_made, inlinable_policy, inlinable_state, text_of_strs, text_of_char_refs, IsExtended, IsRefusedLast}
+use Rattle.inlinable_string.proofs.Common.{common_steps, ◌≡◌, ℕ, ◌+◌, ◌≤◌, ◌<◌, true, false, List, [], ◌∷◌, ◌++◌, sym, ap, ◌∙◌, arith, subst, append_assoc, Option, Some, None, Result, Ok, Err, OnErr, rules, flat_map_more, map-append, chars, Inline, Heap, size, TextState, IsSameText, HasRoom, storage_with_room, storage_when_made, inlinable_policy, inlinable_state, text_of_strs, text_of_char_refs, IsExtended, IsRefusedLast}
 use Rattle.std.proofs.iter.runs.Made.{run_of_turn, run_of_exit}
 use Rattle.std.specs.Borrow.{Bor}
 use Rattle.std.specs.Iterator.{Yields}
 use Rattle.std.specs.Iterator.Runs.{SomeRun, WholeRun, EachRunFrom}
-use Rattle.inlinable_string.specs.declared.string_ext.Storage.{Storage}
 use Rattle.inlinable_string.specs.declared.inlinable_string.InlinableStringN.{InlinableStringN}
 use Rattle.inlinable_string.specs.declared.inlinable_string.InlinableStringN.TheVariants as variant
 use Rattle.inlinable_string.proofs.Text.{size-append}

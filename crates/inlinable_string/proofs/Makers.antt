@@ -1,5 +1,5 @@
 -- Texts that are made of bytes, and bytes of texts.
-use Rattle.inlinable_string.proofs.Common.{◌≡◌, ℕ, List, Result, Ok, Err, IfOk, IsOk, MatchResult, ap, ◌∙◌, subst, rules, arith, chars, IsUtf8, string_bytes, string_vec, String, encodes-chars, chars_from_encodes, IsUtf8-string_bytes, bytes_of}
+use Rattle.inlinable_string.proofs.Common.{◌≡◌, ℕ, List, Result, Ok, Err, IfOk, IsOk, MatchResult, ap, ◌∙◌, subst, rules, chars, IsUtf8, string_bytes, string_vec, String, encodes-chars, chars_from_encodes, IsUtf8-string_bytes, bytes_of}
 use Rattle.std.specs.declared.vec.Vec.{Vec}
 
 pub bytes-string : {Z : Type 0} (s : String Z) → bytes_of (chars (string_bytes s)) ≡ string_bytes s

@@ -1,5 +1,5 @@
 -- Places and commands.
-use Rattle.inlinable_string.proofs.Common.{◌≡◌, ◌↔◌, ℕ, List, refl, ap, ◌∙◌, Option, Some, None, rules, arith, cut, IsCut, IsPlace, becomes, reply_of, text_left, edit, insertion, truncation, Truncate, Reply, Done, BadPlace}
+use Rattle.inlinable_string.proofs.Common.{◌≡◌, ◌↔◌, ℕ, List, refl, ap, ◌∙◌, Option, Some, None, rules, cut, IsCut, IsPlace, becomes, reply_of, text_left, edit, insertion, truncation, Truncate, Reply, Done, BadPlace}
 use Rattle.inlinable_string.proofs.Cut.{cut_is, is_cut, no_cut}
 
 -- `Truncate` keeps what stands before a place

@@ -1,6 +1,5 @@
 -- What the refusals of a run decide, and what they leave.
-use Rattle.inlinable_string.proofs.Common.{common_steps, ◌≡◌, ◌≢◌, ℕ, inl, inr, true, List, [], ◌∷◌, map, refl, sym, ap, ◌∙◌, rules, arith, TextState, edit, reply_of, text_after_step, Need, at_end, anywhere, reserved, tight, no_room, need_of, storage_when_met, storage_after_step, state_after_step, storage_after, IsLegal, LegalReplies, is_refusal, Command, Reply, Done, Char, NoMemory}
-use Rattle.inlinable_string.proofs.Edits.{never_refused}
+use Rattle.inlinable_string.proofs.Common.{common_steps, ◌≡◌, ◌≢◌, List, [], ◌∷◌, map, refl, ap, ◌∙◌, arith, TextState, text_after_step, storage_after_step, state_after_step, storage_after, IsLegal, LegalReplies, is_refusal, Command, Reply, Done}
 
 -- a reply is known from its text and its mark
 same_reply : (s t : TextState) (command : Command) (r o : Reply) → s.text ≡ t.text

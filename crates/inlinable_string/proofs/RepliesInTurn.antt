@@ -1,4 +1,4 @@
-use Rattle.inlinable_string.proofs.Common.{common_steps, ◌≡◌, ℕ, zero, suc, ◌+◌, ◌*◌, ◌<◌, List, [], ◌∷◌, length, take, drop, refl, sym, ap, ◌∙◌, arith, subst, Some, slice_get, rules, drop-drop, TextState, IsLegal, LegalReplies, IsRun, EachRun, state_after, state_after_step, Command, Reply}
+use Rattle.inlinable_string.proofs.Common.{common_steps, ◌≡◌, ℕ, zero, suc, ◌+◌, ◌*◌, ◌<◌, List, [], ◌∷◌, length, take, drop, refl, ap, ◌∙◌, arith, subst, Some, slice_get, rules, drop-drop, TextState, IsLegal, LegalReplies, IsRun, EachRun, state_after, state_after_step, Command, Reply}
 
 -- A run, read one reply at a time, and many runs, read one text at a time.
 

@@ -1,5 +1,5 @@
 -- Pushes within room that was reserved: no memory can be refused to them.
-use Rattle.inlinable_string.proofs.Common.{◌≡◌, ℕ, ◌+◌, ◌-◌, ◌≤◌, inr, List, [], ◌∷◌, length, refl, sym, ap, ◌∙◌, arith, subst, Contains, ◌++◌, rules, size, TextState, edit, reply_of, at_end, need_of, credit, credit_when_met, credit_after_step, state_after_step, IsMet, LegalReplies, state_after, PushesWithin, Command, Push, PushStr, Reserve, ReserveExact, Reply, Done, NoMemory}
+use Rattle.inlinable_string.proofs.Common.{◌≡◌, ℕ, ◌+◌, ◌-◌, ◌≤◌, inr, List, [], ◌∷◌, length, refl, sym, ap, ◌∙◌, arith, subst, Contains, ◌++◌, rules, size, TextState, edit, reply_of, at_end, need_of, credit, credit_when_met, credit_after_step, state_after_step, IsMet, LegalReplies, state_after, PushesWithin, Command, Push, PushStr, Reply, Done, NoMemory}
 use Rattle.inlinable_string.proofs.RunsJoined.{legal_parted}
 use Rattle.inlinable_string.proofs.FreeCommands.{granted, not_refused, absent, absent_nil}
 
@@ -52,5 +52,6 @@ module _ (k : ℕ) (reserve : Command)
   pushes_between s before added behind first replies last within a b legal =
       let at = state_after s before first in
       let later = (legal_parted s before _ first _ a legal).1 in
-      let now = legal_parted (state_after_step at reserve Done) added behind replies last b later.1 in
+      let now =
+      legal_parted (state_after_step at reserve Done) added behind replies last b later.1 in
       pushes_behind at added replies within (later.0, now.0)

@@ -1,5 +1,5 @@
 -- Two runs, the second from the state that the first left.
-use Rattle.inlinable_string.proofs.Common.{◌≡◌, ℕ, List, [], ◌∷◌, ◌++◌, length, refl, ap, arith, rules, TextState, text_after, text_after_step, LegalReplies, state_after, state_after_step, storage_after, credit, credit_after, Command, Reply}
+use Rattle.inlinable_string.proofs.Common.{◌≡◌, ℕ, List, [], ◌∷◌, ◌++◌, length, refl, arith, rules, TextState, text_after, text_after_step, LegalReplies, state_after, state_after_step, storage_after, credit_after, Command, Reply}
 
 -- the text after both
 pub text_joined : (t : List ℕ) (first second : List Command) (replies others : List Reply)

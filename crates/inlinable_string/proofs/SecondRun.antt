@@ -1,9 +1,9 @@
 -- One run after another of one value. The value may have more credit than is certain.
-use Rattle.inlinable_string.proofs.Common.{common_steps, ◌≡◌, ℕ, ◌≤◌, inl, inr, List, [], ◌∷◌, ◌++◌, length, sym, ap, ◌∙◌, arith, rules, TextState, edit, reply_of, text_after, text_after_step, Need, at_end, anywhere, reserved, tight, no_room, need_of, credit, credit_when_met, credit_after_step, credit_after, IsCounted, state_after, state_after_step, IsMet, IsLegal, LegalReplies, IsRun, Command, Reply, Done, BadPlace}
+use Rattle.inlinable_string.proofs.Common.{common_steps, ◌≡◌, ℕ, ◌≤◌, List, [], ◌∷◌, ◌++◌, length, sym, ap, ◌∙◌, arith, TextState, text_after, Need, at_end, anywhere, reserved, tight, no_room, need_of, credit, credit_when_met, credit_after_step, credit_after, IsCounted, state_after, state_after_step, IsMet, IsLegal, LegalReplies, IsRun, Command, Reply, Done, BadPlace}
 use Rattle.inlinable_string.proofs.Runs.{text_of, policy_of}
 use Rattle.inlinable_string.proofs.RepliesInTurn.{as_many_replies}
 use Rattle.inlinable_string.proofs.RunsJoined.{text_joined, storage_joined, credit_joined, legal_joined}
-use Rattle.inlinable_string.proofs.RefusalsDecide.{same_storage, same_storage_step}
+use Rattle.inlinable_string.proofs.RefusalsDecide.{same_storage}
 
 -- the same text in the same place, with at least the credit
 record IsRicher (s v : TextState) : Type 0 where

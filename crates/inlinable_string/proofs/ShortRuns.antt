@@ -1,5 +1,5 @@
 -- Runs that stay within the inline room: no memory can be refused to them.
-use Rattle.inlinable_string.proofs.Common.{common_steps, ◌≡◌, ◌≢◌, ℕ, ◌+◌, ◌≤◌, inl, inr, ◌⊎◌, true, List, [], ◌∷◌, refl, sym, ap, ◌∙◌, arith, subst, nat_le, Contains, rules, nat_tests, size, TextState, IsLawful, storage_with_room, storage_when_shrunk, edit, reply_of, text_left, text_after_step, Need, at_end, anywhere, reserved, tight, no_room, need_of, storage_when_met, storage_after_step, state_after_step, storage_after, IsMet, IsLegal, LegalReplies, ReservesWithin, StaysWithin, Inline, Command, Push, PushStr, Insert, InsertStr, Truncate, Pop, Remove, Clear, ReplaceBytes, Reserve, ReserveExact, ShrinkToFit, Reply, Done, NoMemory}
+use Rattle.inlinable_string.proofs.Common.{common_steps, ◌≡◌, ◌≢◌, ℕ, ◌+◌, ◌≤◌, inl, inr, ◌⊎◌, true, List, [], ◌∷◌, refl, sym, ap, ◌∙◌, arith, subst, Contains, rules, size, TextState, IsLawful, edit, reply_of, text_left, text_after_step, Need, at_end, anywhere, reserved, tight, no_room, need_of, storage_when_met, storage_after_step, state_after_step, storage_after, IsMet, IsLegal, LegalReplies, ReservesWithin, StaysWithin, Inline, Command, Push, PushStr, Insert, InsertStr, Truncate, Pop, Remove, Clear, ReplaceBytes, Reserve, ReserveExact, ShrinkToFit, Reply, Done, NoMemory}
 use Rattle.inlinable_string.proofs.Edits.{push_grows, push_str_grows, insert_grows, insert_str_grows, text_granted}
 use Rattle.inlinable_string.proofs.RefusalsDecide.{storage_kept}
 use Rattle.inlinable_string.proofs.FreeCommands.{granted, not_refused, absent, absent_nil}

@@ -1,5 +1,5 @@
 -- Bytes read as text: characters, and the maximal subparts between them.
-use Rattle.inlinable_string.proofs.Common.{common_steps, ◌≡◌, ℕ, zero, suc, ◌+◌, ◌-◌, ◌<◌, ◌≤◌, true, false, Bool, cond, nat_eq, List, [], ◌∷◌, ◌++◌, length, take, drop, refl, ap, sym, ◌∙◌, arith, subst, ⊎_elim, Option, Some, None, MatchOption, append-nil, append_assoc, length-append, take-append-drop, length-take, length-drop, rules, encode_utf8, IsScalar, chars, IsUtf8, is_utf8, all_scalars, encode_utf8_all, IsValidUpTo, cases_Bool, and_parts, cond-true, cond-false, nat_tests, take_at, drop_at, IsUtf8-from_is_utf8, is_utf8-from_IsUtf8, IsUtf8-encode, IsUtf8-append, length-encode, len_utf8_bounds, encode_same, scalars-chars, encodes-chars, bytes_of, size, char_len, subpart_len, lossy_utf8_past, lossy_utf8}
+use Rattle.inlinable_string.proofs.Common.{common_steps, ◌≡◌, ℕ, zero, suc, ◌+◌, ◌-◌, ◌<◌, ◌≤◌, true, false, Bool, cond, nat_eq, List, [], ◌∷◌, ◌++◌, length, take, drop, refl, ap, sym, ◌∙◌, arith, subst, ⊎_elim, Option, Some, None, MatchOption, append-nil, append_assoc, length-append, take-append-drop, length-take, length-drop, rules, encode_utf8, IsScalar, chars, IsUtf8, is_utf8, all_scalars, encode_utf8_all, IsValidUpTo, cases_Bool, and_parts, cond-true, cond-false, nat_tests, take_at, drop_at, IsUtf8-from_is_utf8, is_utf8-from_IsUtf8, IsUtf8-encode, IsUtf8-append, length-encode, len_utf8_bounds, encode_same, scalars-chars, encodes-chars, size, char_len, subpart_len, lossy_utf8_past, lossy_utf8}
 use Rattle.inlinable_string.proofs.Text.{size-append}
 use Rattle.inlinable_string.proofs.Window.{chars_one}
 

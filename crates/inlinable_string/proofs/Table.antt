@@ -1,5 +1,5 @@
 -- The table of well-formed UTF-8 against the codes of the characters.
-use Rattle.inlinable_string.proofs.Common.{common_steps, ◌≡◌, ◌⊎◌, inl, inr, ℕ, zero, suc, ◌+◌, ◌-◌, ◌*◌, ◌/◌, ◌%◌, ◌<◌, ◌≤◌, List, [], ◌∷◌, ◌++◌, length, take, drop, refl, ap, sym, ◌∙◌, arith, subst, ⊎_elim, append-nil, append_assoc, length-append, length-take-le, rules, slice_index, ◌==◌, if◌then◌else◌, take_at, encode_utf8, IsScalar, scalar_cases, cases_lt, cases_Bool, cond-true, cond-false, le-leb, lt-ltb, le-ltb, and_from, and_parts, leb-true, nat_tests, length-encode, len_utf8, following, count_in, subpart_len}
+use Rattle.inlinable_string.proofs.Common.{common_steps, ◌≡◌, ◌⊎◌, inl, inr, ℕ, zero, suc, ◌+◌, ◌-◌, ◌*◌, ◌/◌, ◌%◌, ◌<◌, ◌≤◌, List, [], ◌∷◌, ◌++◌, length, take, drop, refl, ap, sym, ◌∙◌, arith, subst, ⊎_elim, append-nil, append_assoc, length-append, length-take-le, rules, slice_index, ◌==◌, if◌then◌else◌, take_at, encode_utf8, IsScalar, scalar_cases, cases_lt, cases_Bool, cond-true, cond-false, and_parts, leb-true, nat_tests, length-encode, len_utf8, following, count_in, subpart_len}
 use Rattle.std.specs.Int.{is_in_range}
 use Rattle.std.proofs.str.Laws.{Shape, of1, of2, of3, of4, shape, Follows, two, three, four}
 

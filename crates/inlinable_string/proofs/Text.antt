@@ -1,5 +1,5 @@
 -- Texts and their bytes.
-use Rattle.inlinable_string.proofs.Common.{common_steps, ◌≡◌, ℕ, ◌+◌, ◌≤◌, true, List, [], ◌∷◌, ◌++◌, length, take, drop, refl, sym, ap, ◌∙◌, arith, subst, length-append, take-append-drop, length-take-le, append-nil, Result, Ok, Err, is_ok, if◌then◌else◌, OnOk, OnErr, IsOk, Option, Some, None, MatchOption, IfSome, IfNone, IsTrue, ◌↔◌, nat_eq, rules, append_assoc, nil_from_length, and_parts, eqb-true, eq-eqb, String, string_bytes, string_len, IsUtf8-string_bytes, length-le-encodes, length-encode, len_utf8_bounds, encode_utf8, chars, all_scalars, IsUtf8, IsCharBoundary, chars-nil, encodes-chars, scalars-chars, chars-append, chars_from_encodes, encodes-append, encodes_same, IsUtf8-take, IsCharBoundary-at_seam, bytes_of, size, IsCut, IsPlace, IsSplice, IsRemoval}
+use Rattle.inlinable_string.proofs.Common.{common_steps, ◌≡◌, ℕ, ◌+◌, ◌≤◌, true, List, [], ◌∷◌, ◌++◌, length, take, drop, refl, sym, ap, ◌∙◌, arith, subst, length-append, take-append-drop, length-take-le, append-nil, Result, Ok, Err, is_ok, if◌then◌else◌, OnOk, OnErr, IsOk, Option, Some, None, MatchOption, IfSome, IfNone, IsTrue, ◌↔◌, nat_eq, rules, nil_from_length, and_parts, eqb-true, String, string_bytes, string_len, IsUtf8-string_bytes, length-le-encodes, length-encode, len_utf8_bounds, encode_utf8, chars, all_scalars, IsUtf8, IsCharBoundary, chars-nil, encodes-chars, scalars-chars, chars-append, chars_from_encodes, encodes-append, encodes_same, IsUtf8-take, IsCharBoundary-at_seam, bytes_of, size, IsCut, IsPlace, IsSplice, IsRemoval}
 use Rattle.std.specs.String.Boundary.{IsSplitPoint}
 
 pub size-chars : (bs : List ℕ) → IsUtf8 bs → size (chars bs) ≡ length bs

@@ -1,4 +1,4 @@
-use Rattle.std.proofs.Common.{refl, rules, arith}
+use Rattle.std.proofs.Common.{rules}
 use Rattle.inlinable_string.proofs.Cut.{not_from_test}
 use Rattle.inlinable_string.proofs.Steps.{insert_done, insert_refused, insert_misplaced, truncate_done, truncate_misplaced, pop_char, remove_char, remove_misplaced, remove_at_end, replace_done, replace_not_utf8}
 use Rattle.inlinable_string.proofs.run.obey.Goals as goal

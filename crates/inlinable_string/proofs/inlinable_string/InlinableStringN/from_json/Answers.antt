@@ -1,4 +1,4 @@
-use Rattle.inlinable_string.proofs.Common.{rules, arith, ◌≡◌, sym, ap, ◌∙◌, string_bytes, encodes-chars, bytes_of, size, storage_when_made, inlinable_policy}
+use Rattle.inlinable_string.proofs.Common.{rules, ◌≡◌, sym, ap, ◌∙◌, string_bytes, encodes-chars, bytes_of}
 use Rattle.serde_json.specs.Data.{string}
 use Rattle.serde_json.specs.View.{view}
 use Rattle.serde_json.specs.declared.value.Value.{the_lemmas}

@@ -1,4 +1,4 @@
-use Rattle.std.proofs.Common.{rules, arith}
+use Rattle.std.proofs.Common.{rules}
 use Rattle.inlinable_string.proofs.Window.{chars_one}
 use Rattle.inlinable_string.proofs.inlinable_string.InlinableStringN.promote_pushing.Goals as goal
 

@@ -1,4 +1,4 @@
-use Rattle.inlinable_string.proofs.Common.{rules, arith, on_ok_weaker}
+use Rattle.inlinable_string.proofs.Common.{rules, on_ok_weaker}
 use Rattle.inlinable_string.proofs.Text.{place_behind}
 use Rattle.inlinable_string.proofs.Window.{chars_one}
 use Rattle.inlinable_string.proofs.inlinable_string.InlinableStringNStringExt.insert.Goals as goal

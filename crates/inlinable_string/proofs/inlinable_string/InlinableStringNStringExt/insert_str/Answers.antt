@@ -1,4 +1,4 @@
-use Rattle.inlinable_string.proofs.Common.{rules, arith, on_ok_weaker}
+use Rattle.inlinable_string.proofs.Common.{rules}
 use Rattle.inlinable_string.proofs.Text.{place_behind_str}
 use Rattle.inlinable_string.proofs.inlinable_string.InlinableStringNStringExt.insert_str.Goals as goal
 

@@ -1,4 +1,4 @@
-use Rattle.inlinable_string.proofs.Common.{rules, arith, on_err_weaker}
+use Rattle.inlinable_string.proofs.Common.{rules}
 use Rattle.inlinable_string.proofs.Text.{kept}
 use Rattle.inlinable_string.proofs.inlinable_string.InlinableStringNStringExt.reserve.Goals as goal
 

@@ -1,4 +1,4 @@
-use Rattle.inlinable_string.proofs.Common.{rules, arith, length, ap, IsUtf8-string_bytes}
+use Rattle.inlinable_string.proofs.Common.{rules}
 use Rattle.inlinable_string.proofs.Text.{size-chars}
 use Rattle.inlinable_string.proofs.inlinable_string.InlinableStringNStringExt.shrink_to_fit.Goals as goal
 

@@ -1,4 +1,4 @@
-use Rattle.inlinable_string.proofs.Common.{rules, arith, ◌≡◌, [], length, sym, ap, ◌∙◌, Some, size}
+use Rattle.inlinable_string.proofs.Common.{rules, ◌∙◌, Some}
 use Rattle.inlinable_string.proofs.Window.{window_popped}
 use Rattle.inlinable_string.proofs.Text.{nil_from_size, size-popped, size_bound}
 use Rattle.inlinable_string.proofs.inline_string.InlineStringN.pop.Goals as goal

@@ -1,4 +1,4 @@
-use Rattle.inlinable_string.proofs.Common.{rules, arith, on_ok_weaker}
+use Rattle.inlinable_string.proofs.Common.{rules}
 use Rattle.inlinable_string.proofs.Text.{size-pushed, char_size}
 use Rattle.inlinable_string.proofs.Window.{size_one, chars_one}
 use Rattle.inlinable_string.proofs.inline_string.InlineStringN.push_slowly.Goals as goal

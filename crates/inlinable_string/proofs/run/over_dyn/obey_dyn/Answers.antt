@@ -1,4 +1,4 @@
-use Rattle.inlinable_string.proofs.Common.{common_steps, refl, rules, arith}
+use Rattle.inlinable_string.proofs.Common.{common_steps, rules, arith}
 use Rattle.inlinable_string.proofs.Cut.{not_from_test}
 use Rattle.inlinable_string.proofs.Steps.{insert_done, insert_refused, insert_misplaced, truncate_done, truncate_misplaced, pop_char, remove_char, remove_misplaced, remove_at_end, replace_done, replace_not_utf8}
 use Rattle.inlinable_string.proofs.run.over_dyn.obey_dyn.Goals as goal

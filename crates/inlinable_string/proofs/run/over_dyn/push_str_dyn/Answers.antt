@@ -1,4 +1,4 @@
-use Rattle.std.proofs.Common.{rules, arith}
+use Rattle.std.proofs.Common.{rules}
 use Rattle.inlinable_string.proofs.Steps.{push_str_done, push_str_refused}
 use Rattle.inlinable_string.proofs.run.over_dyn.push_str_dyn.Goals as goal
 

@@ -1,4 +1,4 @@
-use Rattle.inlinable_string.proofs.Common.{rules, arith, ◌≡◌, ◌≤◌, ◌^◌, ap, sym, ◌∙◌, size, lossy_utf16, lossy_unit}
+use Rattle.inlinable_string.proofs.Common.{rules}
 use Rattle.inlinable_string.proofs.Units.{lossy_counted, lossy_counted_within}
 use Rattle.inlinable_string.proofs.Window.{size_one}
 use Rattle.inlinable_string.proofs.string_ext.utf16.lossy_len.Goals as goal

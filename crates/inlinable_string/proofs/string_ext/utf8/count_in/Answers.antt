@@ -1,4 +1,4 @@
-use Rattle.inlinable_string.proofs.Common.{common_steps, rules, arith, ◌≡◌, ◌∙◌, ℕ, List, [], ◌∷◌, drop, refl, ap, drop_all, count_in}
+use Rattle.inlinable_string.proofs.Common.{common_steps, arith, ◌≡◌, ℕ, List, [], ◌∷◌, refl, count_in}
 use Rattle.inlinable_string.proofs.string_ext.utf8.count_in.Goals as goal
 
 none_left : (ranges : List (ℕ × ℕ)) → count_in ranges [] ≡ 0

@@ -1,4 +1,4 @@
-use Rattle.inlinable_string.proofs.Common.{rules, arith, ◌≤◌, ◌^◌, ap, chars, size, lossy_utf8}
+use Rattle.inlinable_string.proofs.Common.{rules, arith, ◌≤◌, ◌^◌, chars, size, lossy_utf8}
 use Rattle.inlinable_string.proofs.Text.{size-chars}
 use Rattle.inlinable_string.proofs.Subparts.{read_whole, size_on, size_within}
 use Rattle.inlinable_string.proofs.string_ext.utf8.lossy_len.Goals as goal

@@ -1,4 +1,4 @@
-use Rattle.inlinable_string.proofs.Common.{common_steps, rules, arith, ◌++◌, ◌∷◌, drop, sym, ap, ◌∙◌, subst, chars, IsValidUpTo, take_rest, lossy_utf8}
+use Rattle.inlinable_string.proofs.Common.{common_steps, rules, arith}
 use Rattle.inlinable_string.proofs.Subparts.{lossy_all, past_fault}
 use Rattle.inlinable_string.proofs.string_ext.utf8.split_fault.Goals as goal
 

@@ -1,4 +1,4 @@
-use Rattle.std.proofs.Common.{sym, rules, arith}
+use Rattle.std.proofs.Common.{rules}
 use Rattle.inlinable_string.proofs.Makers.{bytes_made}
 use Rattle.inlinable_string.proofs.inlinable_string.makers.InlinableStringNStringMake.into_bytes.Goals as goal
 

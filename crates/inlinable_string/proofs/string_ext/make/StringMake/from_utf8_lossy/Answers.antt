@@ -1,4 +1,4 @@
-use Rattle.inlinable_string.proofs.Common.{rules, arith, sym, ap, ◌∙◌, encodes-chars, bytes_of}
+use Rattle.inlinable_string.proofs.Common.{rules, sym, ap, ◌∙◌, encodes-chars, bytes_of}
 use Rattle.inlinable_string.proofs.Subparts.{lossy_all}
 use Rattle.inlinable_string.proofs.Makers.{bytes-string}
 use Rattle.inlinable_string.proofs.string_ext.make.StringMake.from_utf8_lossy.Goals as goal

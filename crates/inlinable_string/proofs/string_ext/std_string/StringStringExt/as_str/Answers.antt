@@ -1,4 +1,4 @@
-use Rattle.inlinable_string.proofs.Common.{rules, arith, ◌∙◌, IsUtf8-string_bytes}
+use Rattle.inlinable_string.proofs.Common.{rules}
 use Rattle.inlinable_string.proofs.Cut.{places_are}
 use Rattle.inlinable_string.proofs.Text.{bytes_are, holds_chars}
 use Rattle.inlinable_string.proofs.string_ext.std_string.StringStringExt.as_str.Goals as goal

@@ -1,4 +1,4 @@
-use Rattle.std.proofs.Common.{◌≤◌, ◌+◌, ◌∙◌, length, sym, arith, ap, IsUtf8, string_len, string_capacity, rules}
+use Rattle.std.proofs.Common.{rules}
 use Rattle.inlinable_string.proofs.Text.{replaced, size-string}
 use Rattle.inlinable_string.proofs.string_ext.std_string.StringStringExt.replace_bytes.Goals as goal
 

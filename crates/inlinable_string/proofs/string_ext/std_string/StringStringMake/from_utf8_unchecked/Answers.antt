@@ -1,4 +1,4 @@
-use Rattle.std.proofs.Common.{rules, arith}
+use Rattle.std.proofs.Common.{rules}
 use Rattle.inlinable_string.proofs.Makers.{bytes_made}
 use Rattle.inlinable_string.proofs.string_ext.std_string.StringStringMake.from_utf8_unchecked.Goals as goal
 
