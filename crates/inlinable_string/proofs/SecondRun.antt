@@ -1,5 +1,5 @@
 -- One run after another of one value. The value may have more credit than is certain.
-use Rattle.inlinable_string.proofs.Common.{common_steps, ◌≡◌, ℕ, ◌≤◌, List, [], ◌∷◌, ◌++◌, length, sym, ap, ◌∙◌, arith, TextState, text_after, Need, at_end, anywhere, reserved, tight, no_room, need_of, credit, credit_when_met, credit_after_step, credit_after, IsCounted, state_after, state_after_step, IsMet, IsLegal, LegalReplies, IsRun, Command, Reply, Done, BadPlace}
+use Rattle.inlinable_string.proofs.Common.{common_steps, ◌≡◌, ◌≤◌, List, [], ◌∷◌, ◌++◌, length, sym, ap, ◌∙◌, arith, TextState, text_after, credit, credit_after, state_after, state_after_step, IsLegal, LegalReplies, IsRun, Command, Reply}
 use Rattle.inlinable_string.proofs.Runs.{text_of, policy_of}
 use Rattle.inlinable_string.proofs.RepliesInTurn.{as_many_replies}
 use Rattle.inlinable_string.proofs.RunsJoined.{text_joined, storage_joined, credit_joined, legal_joined}
@@ -12,26 +12,7 @@ record IsRicher (s v : TextState) : Type 0 where
   policy : s.policy ≡ v.policy
   credit : credit s ≤ credit v
 
--- more credit meets the more needs
-met_richer : (s v : TextState) (need : Need) → IsRicher s v → IsMet s need → IsMet v need
-met_richer s v (at_end n) h met = grind (arith, common_steps)
-met_richer s v (anywhere n) h met = (sym h.storage ∙ met.0, rw (h.text, h.policy) at met.1)
-met_richer s v (reserved n) h met = (sym h.storage ∙ met.0, rw (h.text, h.policy) at met.1)
-met_richer s v tight h met = (rw h.policy at met.0, rw (h.text, h.policy) at met.1)
-met_richer s v no_room h met = tt
-
--- and leaves no less
-credit_met : (k l : ℕ) (need : Need) → k ≤ l → credit_when_met k need ≤ credit_when_met l need
-credit_met k l (at_end n) h = omega (arith, h)
-credit_met k l (reserved n) h = omega arith
-credit_met k l need h = omega arith
-
-credit_step : (k l : ℕ) (command : Command) (reply : Reply) → k ≤ l
-    → credit_after_step k command reply ≤ credit_after_step l command reply
-credit_step k l command Done h = credit_met k l (need_of command) h
-credit_step k l command BadPlace h = h
-credit_step k l command reply h = omega arith
-
+-- a step keeps that
 richer_step : (s v : TextState) (command : Command) (reply : Reply) → IsRicher s v
     → IsRicher (state_after_step s command reply) (state_after_step v command reply)
 richer_step s v command reply h = grind (arith, common_steps)
@@ -42,11 +23,6 @@ credit_richer s v (c ∷ commands) (r ∷ replies) h =
     credit_richer (state_after_step s c r) (state_after_step v c r) commands replies
     (richer_step s v c r h)
 credit_richer s v commands replies h = h.credit
-
-counted_same : (s v : TextState) (need : Need) (reply : Reply) → s.text ≡ v.text
-    → IsCounted v need reply → IsCounted s need reply
-counted_same s v (reserved n) Done e h = rw e h
-counted_same s v need reply e h = tt
 
 -- what is legal with more credit is legal with less
 legal_poorer : (s v : TextState) (command : Command) (reply : Reply) → IsRicher s v
