@@ -1,11 +1,8 @@
 -- Equality and order, which go by the bytes.
-use Rattle.std.proofs.Common.{◌≡◌, ◌↔◌, ℕ, List, true, IsTrue, refl, sym, ap, ◌∙◌, nat_eq}
-use Rattle.std.specs.Str.{all_scalars}
+use Rattle.inlinable_string.proofs.Common.{◌≡◌, ◌↔◌, ℕ, List, true, IsTrue, refl, sym, ap, ◌∙◌, nat_eq, all_scalars, pointwise, slice_cmp, texts_ties, bytes_decides, bytes_of}
 use Rattle.std.specs.Ordering.{is_eq, nat_cmp}
-use Rattle.std.specs.Cmp.Lexicographic.{pointwise, slice_cmp, texts_ties, bytes_decides}
 use Rattle.std.specs.declared.cmp.Ordering.{Ordering}
 use Rattle.std.specs.declared.cmp.Ordering.TheVariants.{Less, Equal, Greater}
-use Rattle.inlinable_string.specs.Text.{bytes_of}
 use Rattle.inlinable_string.proofs.Text.{same_bytes}
 
 -- texts whose bytes are equal have the same characters

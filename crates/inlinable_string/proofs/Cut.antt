@@ -1,55 +1,35 @@
 -- The cut of a text, and its last character.
-use Rattle.std.proofs.Common.{◌≡◌, ℕ, ◌+◌, ◌-◌, ◌<◌, ◌≤◌, true, false, nat_eq, nat_lt, List, [], ◌∷◌, ◌++◌, length, refl, sym, ap, ◌∙◌, arith, length-append, take, drop, take_at, take-append-drop, Option, Some, None, IsSome, Bool, IsTrue, ◌↔◌}
-use Rattle.std.proofs.lemmas.Bool.{cond_both, eqb-true}
-use Rattle.std.proofs.lemmas.Bool.Decides.{nat_tests}
-use Rattle.std.proofs.lemmas.List.{append_assoc, append-nil}
-use Rattle.std.specs.Char.{encode_utf8}
-use Rattle.std.specs.Str.{chars, IsUtf8, IsCharBoundary}
-use Rattle.std.proofs.lemmas.Str.{IsCharBoundary-from_take, length-encode, len_utf8_bounds}
-use Rattle.inlinable_string.specs.Text.{bytes_of, size, IsCut, IsPlace, cut, with_first}
-use Rattle.inlinable_string.specs.Edit.{split_last}
+use Rattle.inlinable_string.proofs.Common.{common_steps, ◌≡◌, ℕ, ◌+◌, ◌-◌, ◌≤◌, true, false, nat_eq, nat_lt, List, [], ◌∷◌, ◌++◌, length, refl, sym, ap, ◌∙◌, arith, length-append, take, drop, take_at, take-append-drop, Option, Some, None, IsSome, Bool, IsTrue, ◌↔◌, cond_both, nat_tests, append_assoc, append-nil, encode_utf8, chars, IsUtf8, IsCharBoundary, IsCharBoundary-from_take, length-encode, len_utf8_bounds, bytes_of, size, IsCut, IsPlace, cut, with_first, split_last}
 use Rattle.inlinable_string.proofs.Text.{holds, boundary, cut_at}
 
 pub cut_joined : (a b : List ℕ) → cut (a ++ b) (size a) ≡ Some (a, b)
 cut_joined [] [] = refl
 cut_joined [] (c ∷ t) = refl
 cut_joined (c ∷ a) b =
-    let first = encode_utf8 c in
-    let n : size (c ∷ a) ≡ length first + size a = length-append first (bytes_of a) in
-    let positive : 0 < length first = omega (arith, length-encode c, len_utf8_bounds c) in
-    let some : nat_eq (size (c ∷ a)) 0 ≡ false = grind (arith, nat_tests, n, positive) in
-    let long : nat_lt (size (c ∷ a)) (length first) ≡ false = grind (arith, nat_tests, n) in
-    let rest : size (c ∷ a) - length first ≡ size a = omega (arith, n) in
-    rw (some, long, rest, cut_joined a b)
+    grind (arith, common_steps, cut_joined a b, length-encode, len_utf8_bounds, nat_tests)
 
 -- what `cut` answers is the one cut
 pub cut_is : (t : List ℕ) (p : ℕ) (a b : List ℕ) → IsCut t p a b → cut t p ≡ Some (a, b)
 cut_is t p a b h = rw (h.joined, ← h.before) (cut_joined a b)
 
 parts_are : {v w : List ℕ × List ℕ} → Some v ≡ Some w → (v.0 ≡ w.0) × (v.1 ≡ w.1)
-parts_are {v} {w} h =
-    let e : v ≡ w = cc in
-    (ap (λ (x : List ℕ × List ℕ). x.0) e, ap (λ (x : List ℕ × List ℕ). x.1) e)
+parts_are {v} {w} h = grind (arith, common_steps)
 
 from_first : (c : ℕ) (o : Option (List ℕ × List ℕ)) (a b : List ℕ)
     → with_first c o ≡ Some (a, b) → (d : List ℕ) × (a ≡ c ∷ d) × (o ≡ Some (d, b))
 from_first c None a b h = cc
-from_first c (Some parts) a b h =
-    let e = parts_are h in (parts.0, sym e.0, ap (λ y. Some (parts.0, y)) e.1)
+from_first c (Some parts) a b h = grind (arith, common_steps)
 
 -- the answer o is a cut if it is any
 abbrev Tells : List ℕ → ℕ → List ℕ → List ℕ → Option (List ℕ × List ℕ) → Type 0
 Tells t p a b o = o ≡ Some (a, b) → IsCut t p a b
 
 at_start : (t : List ℕ) (p : ℕ) (a b : List ℕ) → nat_eq p 0 ≡ true → Tells t p a b (Some ([], t))
-at_start t p a b z h =
-    let e = parts_are h in
-    record { joined = e.1 ∙ ap (λ l. l ++ b) e.0; before = rw (← e.0) (sym (eqb-true p 0 z)) }
+at_start t p a b z h = grind (arith, common_steps)
 
 -- and the other way round
 pub is_cut : (t : List ℕ) (p : ℕ) (a b : List ℕ) → cut t p ≡ Some (a, b) → IsCut t p a b
-is_cut [] p a b =
-    cond_both (nat_eq p 0) _ _ (Tells [] p a b) (at_start [] p a b) (λ z h. cc)
+is_cut [] p a b = grind (arith, common_steps)
 is_cut (c ∷ t) p a b =
     let n = length (encode_utf8 c) in
     cond_both (nat_eq p 0) _ _ (Tells (c ∷ t) p a b) (at_start (c ∷ t) p a b)

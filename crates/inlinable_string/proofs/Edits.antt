@@ -1,14 +1,5 @@
 -- What `edit` answers, against the relations of texts.
-use Rattle.std.proofs.Common.{◌≡◌, ◌≢◌, ◌↔◌, ℕ, ◌+◌, true, false, Bool, inl, inr, ◌⊎◌, List, [], ◌∷◌, ◌++◌, length, refl, sym, ap, ◌∙◌, arith, Bor, Option, Some, None, nat_eq, append_assoc}
-use Rattle.std.proofs.lemmas.Bool.Decides.{nat_tests}
-use Rattle.std.proofs.lemmas.Str.{encodes-chars, chars_from_encodes, is_utf8-from_IsUtf8, IsUtf8-from_is_utf8}
-use Rattle.std.specs.Str.{chars, IsUtf8, is_utf8}
-use Rattle.inlinable_string.specs.Text.{bytes_of, size, cut, IsCut, IsPlace, IsSplice, IsRemoval}
-use Rattle.inlinable_string.specs.Edit.{Outcome, becomes, yields, is_not_utf8, has_wrong_length, reply_of, text_left, edit, insertion, split_last, with_char_in_front, pop_result, removal_behind, removal, replacement, text_after_step}
-use Rattle.inlinable_string.specs.declared.run.Command.{Command}
-use Rattle.inlinable_string.specs.declared.run.Command.TheVariants.{Push, PushStr, Insert, InsertStr, Pop, Remove, ReplaceBytes}
-use Rattle.inlinable_string.specs.declared.run.Reply.{Reply}
-use Rattle.inlinable_string.specs.declared.run.Reply.TheVariants.{Done, Char, NoChar, NotUtf8, WrongLength, NoMemory}
+use Rattle.inlinable_string.proofs.Common.{common_steps, ◌≡◌, ◌≢◌, ◌↔◌, ℕ, ◌+◌, true, false, Bool, inl, inr, ◌⊎◌, List, [], ◌∷◌, ◌++◌, length, refl, sym, ap, ◌∙◌, arith, Bor, Option, Some, None, nat_eq, rules, nat_tests, encodes-chars, chars_from_encodes, is_utf8-from_IsUtf8, IsUtf8-from_is_utf8, chars, IsUtf8, is_utf8, bytes_of, size, cut, IsCut, IsPlace, IsSplice, IsRemoval, Outcome, becomes, yields, is_not_utf8, has_wrong_length, reply_of, text_left, edit, insertion, split_last, with_char_in_front, pop_result, removal_behind, removal, replacement, text_after_step, Command, Push, PushStr, Insert, InsertStr, Pop, Remove, ReplaceBytes, Reply, Done, NoChar, NotUtf8, WrongLength, NoMemory}
 use Rattle.inlinable_string.proofs.Text.{size-append}
 use Rattle.inlinable_string.proofs.Cut.{cut_is, is_cut, no_cut, split_last-append}
 
@@ -30,33 +21,6 @@ pub never_refused : (o : Outcome) → reply_of o ≢ NoMemory
 never_refused (becomes v) h = cc
 never_refused o h = cc
 
--- all but those that carry out or remove leave the text
-pub kept_by_refusal : (t : List ℕ) (o : Outcome) → reply_of o ≢ Done
-    → ((c : ℕ) → reply_of o ≢ Char c) → text_left t o ≡ t
-kept_by_refusal t (becomes v) other none = absurd (other refl)
-kept_by_refusal t (yields c v) other none = absurd (none c refl)
-kept_by_refusal t o other none = refl
-
--- an outcome is known from its reply and the text that it leaves
-done_from : (t v : List ℕ) (o : Outcome) → reply_of o ≡ Done → text_left t o ≡ v → o ≡ becomes v
-done_from t v (becomes w) done text = ap becomes text
-done_from t v o done text = cc
-
-char_from : (t v : List ℕ) (c : ℕ) (o : Outcome) → reply_of o ≡ Char c → text_left t o ≡ v
-    → o ≡ yields c v
-char_from t v c (yields d w) char text =
-    let same : d ≡ c = cc in ap (yields d) text ∙ ap (λ x. yields x v) same
-char_from t v c o char text = cc
-
--- the laws on outcomes
-pub becomes_is : (t v : List ℕ) (o : Outcome)
-    → (o ≡ becomes v) ↔ ((reply_of o ≡ Done) × (text_left t o ≡ v))
-becomes_is t v o = (λ h. (ap reply_of h, ap (text_left t) h), λ h. done_from t v o h.0 h.1)
-
-pub yields_is : (t v : List ℕ) (c : ℕ) (o : Outcome)
-    → (o ≡ yields c v) ↔ ((reply_of o ≡ Char c) × (text_left t o ≡ v))
-yields_is t v c o = (λ h. (ap reply_of h, ap (text_left t) h), λ h. char_from t v c o h.0 h.1)
-
 -- the text after a reply other than want of memory
 pub text_granted : (t : List ℕ) (command : Command) (reply : Reply) → reply ≢ NoMemory
     → text_after_step t command reply ≡ text_left t (edit t command)
@@ -68,8 +32,7 @@ text_granted t command reply h = refl
 -- a splice is what `edit` answers
 pub insertion_is : (t u v : List ℕ) (p : ℕ) → IsSplice t p u v
     → insertion u (cut t p) ≡ becomes v
-insertion_is t u v p s =
-    ap (insertion u) (cut_is t p s.front s.back s.cut) ∙ ap becomes (sym s.joined)
+insertion_is t u v p s = search (rules, cut_is)
 
 -- and what it answers is a splice
 splice_from : (t u v : List ℕ) (p : ℕ) (o : Option (List ℕ × List ℕ)) → cut t p ≡ o
@@ -89,8 +52,7 @@ insert_splices t v p c = (splice_from t (c ∷ []) v p (cut t p) refl, insertion
 
 pub insert_str_splices : (t v : List ℕ) (p : ℕ) (u : Bor (List ℕ))
     → (edit t (InsertStr p u) ≡ becomes v) ↔ IsSplice t p (chars u.now) v
-insert_str_splices t v p u =
-    (splice_from t (chars u.now) v p (cut t p) refl, insertion_is t (chars u.now) v p)
+insert_str_splices t v p u = search (rules, splice_from, insertion_is)
 
 -- the last character
 
@@ -125,8 +87,7 @@ pop_finds_none t = (none_from t, λ e. ap (λ x. reply_of (pop_result (split_las
 
 -- a removal is what `edit` answers
 pub removal_is : (t v : List ℕ) (p c : ℕ) → IsRemoval t p c v → removal (cut t p) ≡ yields c v
-removal_is t v p c r =
-    ap removal (cut_is t p r.front (c ∷ r.back) r.cut) ∙ ap (yields c) (sym r.joined)
+removal_is t v p c r = search (rules, cut_is)
 
 -- and what it answers is a removal
 removal_between : (t v a b : List ℕ) (p c : ℕ) → cut t p ≡ Some (a, b)
@@ -154,25 +115,13 @@ remove_removes t v p c = (removal_from t v p c (cut t p) refl, removal_is t v p 
 -- a character that was put in is taken out again
 pub put_in_and_out : (t : List ℕ) (p c : ℕ) → IsPlace t p
     → edit (text_left t (edit t (Insert p c))) (Remove p) ≡ yields c t
-put_in_and_out t p c at =
-    let a = at.0 in
-    let b = at.1 in
-    let put : edit t (Insert p c) ≡ becomes (a ++ (c ∷ []) ++ b) =
-    ap (insertion (c ∷ [])) (cut_is t p a b at.2) in
-    let there : IsRemoval (a ++ (c ∷ []) ++ b) p c t = record {
-      front = a;
-      back = b;
-      cut = record { joined = append_assoc a (c ∷ []) b; before = at.2.before };
-      joined = at.2.joined;
-    } in
-    ap (λ o. edit (text_left t o) (Remove p)) put ∙ removal_is (a ++ (c ∷ []) ++ b) t p c there
+put_in_and_out t p c at = grind (arith, common_steps, cut_is, removal_is)
 
 -- replacements
 
 -- another number of bytes is tested first
 wrong_length : (t bs : List ℕ) → length bs ≢ size t → replacement t bs ≡ has_wrong_length
-wrong_length t bs other =
-    let long : nat_eq (length bs) (size t) ≡ false = grind (arith, nat_tests, other) in rw long
+wrong_length t bs other = grind (arith, common_steps)
 
 -- a test passed or failed
 decided : (b : Bool) → (b ≡ true) ⊎ (b ≡ false)
@@ -182,20 +131,12 @@ decided false = inr refl
 -- then whether they are a text's
 pub not_utf8 : (t bs : List ℕ) → length bs ≡ size t → ¬ (IsUtf8 bs)
     → replacement t bs ≡ is_not_utf8
-not_utf8 t bs same ill =
-    let long : nat_eq (length bs) (size t) ≡ true = grind (arith, nat_tests, same) in
-    let test : is_utf8 bs ≡ false = elim (decided (is_utf8 bs)) [
-      | inl passed ↦ absurd (ill (IsUtf8-from_is_utf8 bs passed))
-      | inr failed ↦ failed
-    ] in
-    rw (long, test)
+not_utf8 t bs same ill = search (rules, nat_tests, decided, IsUtf8-from_is_utf8)
 
 -- the text of the bytes takes the place of the other
 pub replacement_is : (t bs : List ℕ) → length bs ≡ size t → IsUtf8 bs
     → replacement t bs ≡ becomes (chars bs)
-replacement_is t bs same well =
-    let long : nat_eq (length bs) (size t) ≡ true = grind (arith, nat_tests, same) in
-    rw (long, is_utf8-from_IsUtf8 bs well)
+replacement_is t bs same well = search (rules, nat_tests, is_utf8-from_IsUtf8)
 
 -- the three ways of a replacement
 ways : (t bs : List ℕ) → (length bs ≢ size t) ⊎ ((length bs ≡ size t) × ¬ (IsUtf8 bs))
@@ -230,27 +171,14 @@ replaced_with t v b = (
       ∙ ap becomes (sym (chars_from_encodes v b.now h.1 h.2)),
 )
 
--- a length that is answered as wrong is wrong
-wrong_from : (t bs : List ℕ) → reply_of (replacement t bs) ≡ WrongLength → length bs ≢ size t
-wrong_from t bs h = elim (ways t bs) [
-  | inl other ↦ other
-  | inr (inl ill) ↦ cc (not_utf8 t bs ill.0 ill.1)
-  | inr (inr well) ↦ cc (replacement_is t bs well.0 well.1)
-]
-
 pub replaced_wrong_length : (t : List ℕ) (b : Bor (List ℕ))
     → (reply_of (edit t (ReplaceBytes b)) ≡ WrongLength) ↔ (length b.now ≢ size t)
-replaced_wrong_length t b =
-    (wrong_from t b.now, λ other. ap reply_of (wrong_length t b.now other))
+replaced_wrong_length t b = grind (arith, common_steps)
 
 -- bytes that are answered as ill are ill
 ill_from : (t bs : List ℕ) → reply_of (replacement t bs) ≡ NotUtf8
     → (length bs ≡ size t) × ¬ (IsUtf8 bs)
-ill_from t bs h = elim (ways t bs) [
-  | inl other ↦ cc (wrong_length t bs other)
-  | inr (inl ill) ↦ ill
-  | inr (inr well) ↦ cc (replacement_is t bs well.0 well.1)
-]
+ill_from t bs h = search (rules, ways, wrong_length, replacement_is)
 
 pub replaced_not_utf8 : (t : List ℕ) (b : Bor (List ℕ))
     → (reply_of (edit t (ReplaceBytes b)) ≡ NotUtf8)

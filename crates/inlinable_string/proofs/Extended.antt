@@ -1,50 +1,20 @@
 -- Texts to which the items of an iterator are added one by one.
-use Rattle.std.proofs.Common.{◌≡◌, ℕ, ◌+◌, ◌≤◌, ◌<◌, Bool, true, false, ◌&&◌, List, [], ◌∷◌, ◌++◌, refl, sym, ap, ◌∙◌, arith, subst, append-nil, append_assoc, add_assoc, if◌then◌else◌, nat_le, Option, Some, None, Result, Ok, Err, OnErr}
-use Rattle.std.proofs.lemmas.Bool.Decides.{nat_tests}
-use Rattle.std.proofs.lemmas.List.{flat_map_more, map-append}
+use Rattle.inlinable_string.proofs.Common.{common_steps, ◌≡◌, ℕ, ◌+◌, ◌≤◌, ◌<◌, true, false, List, [], ◌∷◌, ◌++◌, sym, ap, ◌∙◌, arith, subst, append_assoc, Option, Some, None, Result, Ok, Err, OnErr, rules, flat_map_more, map-append, chars, Inline, Heap, size, TextState, IsSameText, HasRoom, storage_with_room, storage_when_made, inlinable_policy, inlinable_state, text_of_strs, text_of_char_refs, IsExtended, IsRefusedLast}
 use Rattle.std.proofs.iter.runs.Made.{run_of_turn, run_of_exit}
 use Rattle.std.specs.Borrow.{Bor}
 use Rattle.std.specs.Iterator.{Yields}
 use Rattle.std.specs.Iterator.Runs.{SomeRun, WholeRun, EachRunFrom}
-use Rattle.std.specs.Str.{chars}
-use Rattle.inlinable_string.specs.declared.string_ext.Storage.{Storage}
-use Rattle.inlinable_string.specs.declared.string_ext.Storage.TheVariants.{Inline, Heap}
 use Rattle.inlinable_string.specs.declared.inlinable_string.InlinableStringN.{InlinableStringN}
 use Rattle.inlinable_string.specs.declared.inlinable_string.InlinableStringN.TheVariants as variant
-use Rattle.inlinable_string.specs.Text.{size}
-use Rattle.inlinable_string.specs.State.{TextState, IsLawful, IsSameText, HasRoom, is_inline, storage_with_room, storage_when_made}
-use Rattle.inlinable_string.specs.Values.{inlinable_policy, inlinable_state}
-use Rattle.inlinable_string.specs.Joins.{text_of_strs, text_of_char_refs, IsExtended, IsRefusedLast}
 use Rattle.inlinable_string.proofs.Text.{size-append}
 
 clash : false ≡ true → ⊥
 clash e = cc
 
-within_at_most : (a b n : ℕ) → a ≤ b → nat_le b n ≡ true → nat_le a n ≡ true
-within_at_most a b n le h = grind (arith, nat_tests, le, h)
-
--- where a text lies that is at most within its limit, by two growths or by one
-two_growths : (inline : Bool) (a b limit : ℕ) → a ≤ b
-    → (if is_inline (if inline && nat_le a limit then Inline else Heap) && nat_le b limit
-    then Inline else Heap)
-    ≡ (if inline && nat_le b limit then Inline else Heap)
-two_growths false a b limit le = refl
-two_growths true a b limit le = by (nat_le a limit) (nat_le b limit) (within_at_most a b limit le)
-  where
-    by : (x y : Bool) → (y ≡ true → x ≡ true)
-        → (if is_inline (if x then Inline else Heap) && y then Inline else Heap)
-        ≡ (if y then Inline else Heap)
-    by true y h = refl
-    by false true h = cc (h refl)
-    by false false h = refl
-
 storage_of_two : (old mid : TextState) (n k : ℕ) → mid.policy ≡ old.policy
     → size mid.text ≡ size old.text + n → mid.storage ≡ storage_with_room old n
     → storage_with_room mid k ≡ storage_with_room old (n + k)
-storage_of_two old mid n k p e s =
-    rw (s, p, e, add_assoc (size old.text) n k)
-    (two_growths (is_inline old.storage) (size old.text + n) (size old.text + (n + k))
-    old.policy.limit (omega arith))
+storage_of_two old mid n k p e s = grind (arith, common_steps)
 
 -- a string more
 pub text_of_strs-more : (items : List (Bor (List ℕ))) (s : Bor (List ℕ))
@@ -61,24 +31,6 @@ pub record Grown (old : TextState) (u : List ℕ) (new : TextState) : Type 0 whe
   pub extended : IsExtended old u new
   pub room : old.capacity ≤ new.capacity
   pub policy : new.policy ≡ old.policy
-
--- nothing is added yet
-pub grown_none : (old : TextState) → IsLawful old → Grown old [] old
-grown_none old law = record {
-  extended = record { text = sym (append-nil old.text); storage = sym stays };
-  room = omega arith;
-  policy = refl;
-}
-  where
-    at : (s : Storage) (n limit : ℕ) → (s ≡ Inline → n ≤ limit)
-        → (if is_inline s && nat_le n limit then Inline else Heap) ≡ s
-    at Heap n limit h = refl
-    at Inline n limit h =
-        let t : nat_le n limit ≡ true = grind (arith, nat_tests, h refl) in rw t refl
-
-    stays : storage_with_room old 0 ≡ old.storage
-    stays = at old.storage (size old.text + 0) old.policy.limit
-        (λ e. omega (arith, law.within, law.inline_room e))
 
 size_extended : (old new : TextState) (u : List ℕ) → IsExtended old u new
     → size new.text ≡ size old.text + size u
@@ -108,18 +60,7 @@ grown_more old mid new u v w k g whole counted text storage room policy = record
 -- what was refused had no room
 above_room : (old mid : TextState) (u v w : List ℕ) (k : ℕ) → Grown old u mid → w ≡ u ++ v
     → k ≡ size v → (HasRoom mid k → false ≡ true) → old.capacity < size old.text + size w
-above_room old mid u v w k g whole counted none =
-    let no : ¬ HasRoom mid k = λ room. clash (none room) in
-    let lacks : mid.capacity < size mid.text + k = grind (arith, no) in
-    omega (
-      arith,
-      size_extended old mid u g.extended,
-      lacks,
-      g.room,
-      size-append u v,
-      ap size whole,
-      counted,
-    )
+above_room old mid u v w k g whole counted none = search (rules, clash, size_extended, size-append)
 
 module _ {A S : Type 0} (text_of : List A → List ℕ) (gives : S → Option A → S → Type 0)
     (it here rest : S) where
@@ -170,8 +111,7 @@ pub all_fit : {A S : Type 0} (text_of : List A → List ℕ) (gives : S → Opti
     (it : S) (old new : TextState)
     → SomeRun gives it (λ run. IsRefusedLast text_of old run.items new)
     → EachRunFrom gives it (λ run. HasRoom old (size (text_of run.items))) → ⊥
-all_fit text_of gives it old new run fits =
-    omega (arith, run.2.above, fits run.0 run.0.seen run.1)
+all_fit text_of gives it old new run fits = grind (arith, common_steps)
 
 -- the empty text, as it is made
 abbrev empty_state : ℕ → TextState
@@ -180,12 +120,8 @@ empty_state N = record { text = []; storage = Inline; capacity = N; policy = inl
 new_is_empty : (N : ℕ) (made : InlinableStringN N) → (inlinable_state N made).text ≡ []
     → (inlinable_state N made).storage ≡ storage_when_made (inlinable_policy N) 0
     → inlinable_state N made ≡ empty_state N
-new_is_empty N (variant.Inline t a) text storage =
-    ap (λ t. record (empty_state N) { text = t }) text
-new_is_empty N (variant.Heap s a) text storage =
-    let fits : nat_le 0 N ≡ true = grind (arith, nat_tests) in
-    let inline : storage_when_made (inlinable_policy N) 0 ≡ Inline = rw fits refl in
-    let no : Heap ≡ Inline = storage ∙ inline in cc
+new_is_empty N (variant.Inline t a) text storage = grind (arith, common_steps)
+new_is_empty N (variant.Heap s a) text storage = grind (arith, common_steps)
 
 -- the same of a text that was new
 module _ {A S : Type 0} (text_of : List A → List ℕ) (N : ℕ)
@@ -201,15 +137,6 @@ module _ {A S : Type 0} (text_of : List A → List ℕ) (N : ℕ)
       → WholeRun gives it (λ run. new.text ≡ text_of run.items)
   joined_text new run = (run.0, run.1, run.2, (from_new _ new run.3).text)
 
-  pub joined_storage : (new : TextState)
-      → WholeRun gives it (λ run. IsExtended (inlinable_state N made) (text_of run.items) new)
-      → new.storage ≡ storage_when_made (inlinable_policy N) (size new.text)
-  joined_storage new run =
-      let e = from_new _ new run.3 in
-      let counted : size [] + size (text_of run.0.items) ≡ size new.text =
-      omega (arith, ap size e.text) in
-      e.storage ∙ ap (storage_when_made (inlinable_policy N)) counted
-
   pub refused_above : (new : TextState)
       → SomeRun gives it (λ run. IsRefusedLast text_of (inlinable_state N made) run.items new)
       → SomeRun gives it (λ run. N < size (text_of run.items))
@@ -218,11 +145,3 @@ module _ {A S : Type 0} (text_of : List A → List ℕ) (N : ℕ)
       subst (λ old. old.capacity < size old.text + size (text_of run.0.items))
       (new_is_empty N made text storage) run.2.above in
       (run.0, run.1, omega (arith, above))
-
--- where all is within the limit, nothing is refused
-pub all_within : {A S : Type 0} (text_of : List A → List ℕ) (N : ℕ)
-    (gives : S → Option A → S → Type 0) (it : S)
-    → SomeRun gives it (λ run. N < size (text_of run.items))
-    → EachRunFrom gives it (λ run. size (text_of run.items) ≤ N) → ⊥
-all_within text_of N gives it run within =
-    omega (arith, run.2, within run.0 run.0.seen run.1)

@@ -1,11 +1,5 @@
 -- Commands to which no memory can be refused.
-use Rattle.std.proofs.Common.{◌≡◌, ◌≢◌, ℕ, zero, suc, ◌<◌, inl, inr, List, [], ◌∷◌, length, sym, ◌∙◌, arith, Contains, slice_index_or}
-use Rattle.inlinable_string.specs.State.{TextState}
-use Rattle.inlinable_string.specs.Edit.{edit, reply_of}
-use Rattle.inlinable_string.specs.Run.{IsFree, IsLegal}
-use Rattle.inlinable_string.specs.declared.run.Command.{Command}
-use Rattle.inlinable_string.specs.declared.run.Reply.{Reply}
-use Rattle.inlinable_string.specs.declared.run.Reply.TheVariants.{NoMemory}
+use Rattle.inlinable_string.proofs.Common.{◌≡◌, ◌≢◌, ℕ, zero, suc, ◌<◌, inl, inr, List, [], ◌∷◌, length, sym, ◌∙◌, arith, Contains, slice_index_or, TextState, edit, reply_of, IsFree, IsLegal, Command, Reply, NoMemory}
 use Rattle.inlinable_string.proofs.Edits.{never_refused}
 
 -- a free command has the reply of `edit`

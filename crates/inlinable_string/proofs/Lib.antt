@@ -1,3 +1,4 @@
+pub mod Common
 pub mod Text
 pub mod Units
 pub mod Subparts

@@ -1,10 +1,5 @@
 -- Places and commands.
-use Rattle.std.proofs.Common.{◌≡◌, ◌↔◌, ℕ, List, refl, ap, ◌∙◌, Option, Some, None}
-use Rattle.inlinable_string.specs.Text.{cut, IsCut, IsPlace}
-use Rattle.inlinable_string.specs.Edit.{becomes, reply_of, text_left, edit, insertion, truncation}
-use Rattle.inlinable_string.specs.declared.run.Command.TheVariants.{Truncate}
-use Rattle.inlinable_string.specs.declared.run.Reply.{Reply}
-use Rattle.inlinable_string.specs.declared.run.Reply.TheVariants.{Done, BadPlace}
+use Rattle.inlinable_string.proofs.Common.{◌≡◌, ◌↔◌, ℕ, List, refl, ap, ◌∙◌, Option, Some, None, rules, cut, IsCut, IsPlace, becomes, reply_of, text_left, edit, insertion, truncation, Truncate, Reply, Done, BadPlace}
 use Rattle.inlinable_string.proofs.Cut.{cut_is, is_cut, no_cut}
 
 -- `Truncate` keeps what stands before a place
@@ -16,8 +11,7 @@ truncation_from t v p (Some parts) e h =
 
 pub truncations_cut : (t v : List ℕ) (p : ℕ)
     → (edit t (Truncate p) ≡ becomes v) ↔ ((rest : List ℕ) × IsCut t p v rest)
-truncations_cut t v p =
-    (truncation_from t v p (cut t p) refl, λ h. ap truncation (cut_is t p v h.0 h.1))
+truncations_cut t v p = search (rules, truncation_from, cut_is)
 
 -- a command that goes by the parts of the text is carried out exactly where there are any, and
 -- answered as a bad place elsewhere

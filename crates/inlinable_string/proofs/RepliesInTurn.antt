@@ -1,19 +1,14 @@
+use Rattle.inlinable_string.proofs.Common.{common_steps, ◌≡◌, ℕ, zero, suc, ◌+◌, ◌*◌, ◌<◌, List, [], ◌∷◌, length, take, drop, refl, ap, ◌∙◌, arith, subst, Some, slice_get, rules, drop-drop, TextState, IsLegal, LegalReplies, IsRun, EachRun, state_after, state_after_step, Command, Reply}
+
 -- A run, read one reply at a time, and many runs, read one text at a time.
-use Rattle.std.proofs.Common.{◌≡◌, ℕ, zero, suc, ◌+◌, ◌*◌, ◌<◌, List, [], ◌∷◌, length, take, drop, refl, sym, ap, ◌∙◌, arith, subst, Some, slice_get}
-use Rattle.std.proofs.lemmas.List.{drop-drop}
-use Rattle.inlinable_string.specs.State.{TextState}
-use Rattle.inlinable_string.specs.Run.{IsLegal, LegalReplies, IsRun, EachRun, state_after, state_after_step}
-use Rattle.inlinable_string.specs.declared.run.Command.{Command}
-use Rattle.inlinable_string.specs.declared.run.Reply.{Reply}
 
 -- there are as many legal replies as commands
 pub as_many_replies : (s : TextState) (commands : List Command) (replies : List Reply)
     → LegalReplies s commands replies → length replies ≡ length commands
 as_many_replies s [] [] h = refl
-as_many_replies s [] (r ∷ replies) h = absurd h
-as_many_replies s (c ∷ commands) [] h = absurd h
 as_many_replies s (c ∷ commands) (r ∷ replies) h =
     omega (arith, as_many_replies (state_after_step s c r) commands replies h.1)
+as_many_replies s commands replies h = absurd h
 
 -- each reply is legal in the state before it
 pub legal_at : (s : TextState) (commands : List Command) (replies : List Reply) (i : ℕ)
@@ -22,10 +17,7 @@ pub legal_at : (s : TextState) (commands : List Command) (replies : List Reply) 
     → IsLegal (state_after s (take i commands) (take i replies)) command reply
 legal_at s [] replies i command reply h a b = cc
 legal_at s (x ∷ commands) [] i command reply h a b = absurd h
-legal_at s (x ∷ commands) (y ∷ replies) zero command reply h a b =
-    let same : x ≡ command = cc in
-    let as_well : y ≡ reply = cc in
-    subst (λ r. IsLegal s command r) as_well (subst (λ c. IsLegal s c y) same h.0)
+legal_at s (x ∷ commands) (y ∷ replies) zero command reply h a b = grind (arith, common_steps)
 legal_at s (x ∷ commands) (y ∷ replies) (suc i) command reply h a b =
     legal_at (state_after_step s x y) commands replies i command reply h.1 a b
 
@@ -36,14 +28,7 @@ pub run_at : (olds news : List TextState) (commands : List Command) (replies : L
     → IsRun old commands (take (length commands) (drop (i * length commands) replies)) new
 run_at [] news commands replies i old new h a b = cc
 run_at (x ∷ olds) [] commands replies i old new h a b = absurd h
-run_at (x ∷ olds) (y ∷ news) commands replies zero old new h a b =
-    let n = length commands in
-    let none : 0 * n ≡ 0 = omega arith in
-    let same : x ≡ old = cc in
-    let as_well : y ≡ new = cc in
-    subst (λ k. IsRun old commands (take n (drop k replies)) new) (sym none)
-    (subst (λ z. IsRun old commands (take n replies) z) as_well
-    (subst (λ z. IsRun z commands (take n replies) y) same h.0))
+run_at (x ∷ olds) (y ∷ news) commands replies zero old new h a b = grind (arith, common_steps)
 run_at (x ∷ olds) (y ∷ news) commands replies (suc i) old new h a b =
     let n = length commands in
     let further : drop (i * n) (drop n replies) ≡ drop (suc i * n) replies =
@@ -63,23 +48,18 @@ dropped_at : (replies : List Reply) (m j : ℕ)
     → slice_get (drop m replies) j ≡ slice_get replies (m + j)
 dropped_at replies zero j = let none : j ≡ 0 + j = omega arith in ap (slice_get replies) none
 dropped_at [] (suc m) j = refl
-dropped_at (r ∷ replies) (suc m) j =
-    let further : suc (m + j) ≡ suc m + j = omega arith in
-    dropped_at replies m j ∙ ap (slice_get (r ∷ replies)) further
+dropped_at (r ∷ replies) (suc m) j = grind (arith, common_steps, dropped_at replies m j)
 
 -- a text's own replies, among all
 pub own_reply_at : (commands : List Command) (replies : List Reply) (i j : ℕ) → j < length commands
     → slice_get (take (length commands) (drop (i * length commands) replies)) j
     ≡ slice_get replies (i * length commands + j)
-own_reply_at commands replies i j h =
-    let from = i * length commands in
-    taken_at (drop from replies) (length commands) j h ∙ dropped_at replies from j
+own_reply_at commands replies i j h = search (rules, taken_at, dropped_at)
 
 -- no text is lost
 pub as_many_texts : (olds news : List TextState) (commands : List Command) (replies : List Reply)
     → EachRun olds commands replies news → length news ≡ length olds
 as_many_texts [] [] commands replies h = refl
-as_many_texts [] (y ∷ news) commands replies h = absurd h
-as_many_texts (x ∷ olds) [] commands replies h = absurd h
 as_many_texts (x ∷ olds) (y ∷ news) commands replies h =
     omega (arith, as_many_texts olds news commands (drop (length commands) replies) h.1)
+as_many_texts olds news commands replies h = absurd h

@@ -1,14 +1,5 @@
 -- Pushes within room that was reserved: no memory can be refused to them.
-use Rattle.std.proofs.Common.{◌≡◌, ℕ, ◌+◌, ◌-◌, ◌≤◌, inr, List, [], ◌∷◌, length, refl, sym, ap, ◌∙◌, arith, subst, Contains, ◌++◌}
-use Rattle.inlinable_string.specs.Text.{size}
-use Rattle.inlinable_string.specs.State.{TextState}
-use Rattle.inlinable_string.specs.Edit.{edit, reply_of}
-use Rattle.inlinable_string.specs.Run.{at_end, need_of, credit, credit_when_met, credit_after_step, state_after_step, IsMet, LegalReplies, state_after}
-use Rattle.inlinable_string.specs.Laws.{PushesWithin}
-use Rattle.inlinable_string.specs.declared.run.Command.{Command}
-use Rattle.inlinable_string.specs.declared.run.Command.TheVariants.{Push, PushStr, Reserve, ReserveExact}
-use Rattle.inlinable_string.specs.declared.run.Reply.{Reply}
-use Rattle.inlinable_string.specs.declared.run.Reply.TheVariants.{Done, NoMemory}
+use Rattle.inlinable_string.proofs.Common.{◌≡◌, ℕ, ◌+◌, ◌-◌, ◌≤◌, inr, List, [], ◌∷◌, length, refl, sym, ap, ◌∙◌, arith, subst, Contains, ◌++◌, rules, size, TextState, edit, reply_of, at_end, need_of, credit, credit_when_met, credit_after_step, state_after_step, IsMet, LegalReplies, state_after, PushesWithin, Command, Push, PushStr, Reply, Done, NoMemory}
 use Rattle.inlinable_string.proofs.RunsJoined.{legal_parted}
 use Rattle.inlinable_string.proofs.FreeCommands.{granted, not_refused, absent, absent_nil}
 
@@ -24,8 +15,6 @@ pushes_within_credit : (s : TextState) (k : ℕ) (commands : List Command) (repl
     → PushesWithin k commands → k ≤ credit s
     → LegalReplies s commands replies → ¬ Contains replies NoMemory
 pushes_within_credit s k [] [] within enough legal = absent_nil
-pushes_within_credit s k [] (r ∷ replies) within enough legal = absurd legal
-pushes_within_credit s k (c ∷ commands) [] within enough legal = absurd legal
 pushes_within_credit s k (c ∷ commands) (r ∷ replies) within enough legal =
     let n = within.0 in
     let met : IsMet s (need_of c) =
@@ -37,54 +26,32 @@ pushes_within_credit s k (c ∷ commands) (r ∷ replies) within enough legal =
     absent r replies (not_refused s.text c r same)
     (pushes_within_credit (state_after_step s c r) (k - n) commands replies within.3
     (omega (arith, left, enough)) legal.1)
+pushes_within_credit s k commands replies within enough legal = absurd legal
 
 -- the clauses on reserved pushes
 pub pushes_from_start : (s : TextState) (k : ℕ) (commands : List Command) (replies : List Reply)
     → PushesWithin k commands → size s.text + k ≤ s.capacity
     → LegalReplies s commands replies → ¬ Contains replies NoMemory
-pushes_from_start s k commands replies within room legal =
-    pushes_within_credit s k commands replies within (omega (arith, room)) legal
+pushes_from_start s k commands replies within room legal = search (rules, pushes_within_credit)
 
-pub pushes_after_reserve : (s : TextState) (k : ℕ) (commands : List Command) (replies : List Reply)
-    → PushesWithin k commands
-    → LegalReplies s (Reserve k ∷ commands) (Done ∷ replies) → ¬ Contains replies NoMemory
-pushes_after_reserve s k commands replies within legal =
-    pushes_within_credit (state_after_step s (Reserve k) Done) k commands replies within
-    (omega arith) legal.1
+-- behind a command that leaves as much credit
+module _ (k : ℕ) (reserve : Command)
+    (leaves : (s : TextState) → k ≤ credit (state_after_step s reserve Done)) where
+  pub pushes_behind : (s : TextState) (commands : List Command) (replies : List Reply)
+      → PushesWithin k commands
+      → LegalReplies s (reserve ∷ commands) (Done ∷ replies) → ¬ Contains replies NoMemory
+  pushes_behind s commands replies within legal =
+      pushes_within_credit (state_after_step s reserve Done) k commands replies within (leaves s)
+      legal.1
 
-pub pushes_after_reserve_exact : (s : TextState) (k : ℕ) (commands : List Command)
-    (replies : List Reply) → PushesWithin k commands
-    → LegalReplies s (ReserveExact k ∷ commands) (Done ∷ replies) → ¬ Contains replies NoMemory
-pushes_after_reserve_exact s k commands replies within legal =
-    pushes_within_credit (state_after_step s (ReserveExact k) Done) k commands replies within
-    (omega arith) legal.1
-
-pub pushes_anywhere : (s : TextState) (k : ℕ) (before added behind : List Command)
-    (first replies last : List Reply) → PushesWithin k added
-    → length before ≡ length first → length added ≡ length replies
-    → LegalReplies s (before ++ (Reserve k ∷ (added ++ behind)))
-    (first ++ (Done ∷ (replies ++ last))) → ¬ Contains replies NoMemory
-pushes_anywhere s k before added behind first replies last within a b legal =
-    let later =
-    (legal_parted s before (Reserve k ∷ (added ++ behind)) first
-    (Done ∷ (replies ++ last)) a legal).1 in
-    let now =
-    legal_parted
-    (state_after_step (state_after s before first)
-    (Reserve k) Done) added behind replies last b later.1 in
-    pushes_after_reserve (state_after s before first) k added replies within (later.0, now.0)
-
-pub pushes_exact_anywhere : (s : TextState) (k : ℕ) (before added behind : List Command)
-    (first replies last : List Reply) → PushesWithin k added
-    → length before ≡ length first → length added ≡ length replies
-    → LegalReplies s (before ++ (ReserveExact k ∷ (added ++ behind)))
-    (first ++ (Done ∷ (replies ++ last))) → ¬ Contains replies NoMemory
-pushes_exact_anywhere s k before added behind first replies last within a b legal =
-    let later =
-    (legal_parted s before (ReserveExact k ∷ (added ++ behind)) first
-    (Done ∷ (replies ++ last)) a legal).1 in
-    let now =
-    legal_parted
-    (state_after_step (state_after s before first)
-    (ReserveExact k) Done) added behind replies last b later.1 in
-    pushes_after_reserve_exact (state_after s before first) k added replies within (later.0, now.0)
+  pub pushes_between : (s : TextState) (before added behind : List Command)
+      (first replies last : List Reply) → PushesWithin k added
+      → length before ≡ length first → length added ≡ length replies
+      → LegalReplies s (before ++ (reserve ∷ (added ++ behind)))
+      (first ++ (Done ∷ (replies ++ last))) → ¬ Contains replies NoMemory
+  pushes_between s before added behind first replies last within a b legal =
+      let at = state_after s before first in
+      let later = (legal_parted s before _ first _ a legal).1 in
+      let now =
+      legal_parted (state_after_step at reserve Done) added behind replies last b later.1 in
+      pushes_behind at added replies within (later.0, now.0)

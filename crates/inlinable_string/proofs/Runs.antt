@@ -1,13 +1,6 @@
+use Rattle.inlinable_string.proofs.Common.{◌≡◌, ℕ, ◌+◌, ◌<◌, ◌≤◌, List, [], ◌∷◌, ◌++◌, length, take, refl, sym, ◌∙◌, arith, subst, get_or, set, rules, take_more, take_more_set, length-take-le, take_all, size, TextState, IsLawful, text_after, state_after, state_after_step, IsLegal, LegalReplies, IsRun, Covers, IsStep, Command, Reply}
+
 -- A run grows by one command at its end.
-use Rattle.std.proofs.Common.{◌≡◌, ℕ, ◌+◌, ◌<◌, ◌≤◌, List, [], ◌∷◌, ◌++◌, length, take, refl, sym, ap, ◌∙◌, arith, subst, get_or, set}
-use Rattle.std.proofs.lemmas.List.{take_more, take_more_set, length-take-le, take_all}
-use Rattle.inlinable_string.specs.Text.{size}
-use Rattle.inlinable_string.specs.State.{TextState, IsLawful}
-use Rattle.inlinable_string.specs.Edit.{text_after}
-use Rattle.inlinable_string.specs.Run.{state_after, state_after_step, IsLegal, LegalReplies, IsRun}
-use Rattle.inlinable_string.specs.Step.{Covers, IsStep}
-use Rattle.inlinable_string.specs.declared.run.Command.{Command}
-use Rattle.inlinable_string.specs.declared.run.Reply.{Reply}
 
 -- the commands so far
 pub record IsRunSoFar (old : TextState) (commands : List Command) (replies : List Reply)
@@ -19,50 +12,36 @@ state_more : (s : TextState) (cs : List Command) (rs : List Reply) (c : Command)
     → length cs ≡ length rs
     → state_after s (cs ++ c ∷ []) (rs ++ r ∷ []) ≡ state_after_step (state_after s cs rs) c r
 state_more s [] [] c r h = refl
-state_more s [] (y ∷ rs) c r h = absurd (omega (arith, h))
-state_more s (x ∷ cs) [] c r h = absurd (omega (arith, h))
 state_more s (x ∷ cs) (y ∷ rs) c r h =
     state_more (state_after_step s x y) cs rs c r (omega (arith, h))
+state_more s cs rs c r h = absurd (omega (arith, h))
 
 legal_more : (s : TextState) (cs : List Command) (rs : List Reply) (c : Command) (r : Reply)
     → LegalReplies s cs rs
     → IsLegal (state_after s cs rs) c r → LegalReplies s (cs ++ c ∷ []) (rs ++ r ∷ [])
 legal_more s [] [] c r h a = (a, tt)
-legal_more s [] (y ∷ rs) c r h a = absurd h
-legal_more s (x ∷ cs) [] c r h a = absurd h
 legal_more s (x ∷ cs) (y ∷ rs) c r h a = (h.0, legal_more (state_after_step s x y) cs rs c r h.1 a)
+legal_more s cs rs c r h a = absurd h
 
 -- the state follows the text and keeps the policy
 pub text_of : (s : TextState) (cs : List Command) (rs : List Reply)
     → (state_after s cs rs).text ≡ text_after s.text cs rs
-text_of s [] rs = refl
-text_of s (x ∷ cs) [] = refl
 text_of s (x ∷ cs) (y ∷ rs) = text_of (state_after_step s x y) cs rs
+text_of s cs rs = refl
 
 pub policy_of : (s : TextState) (cs : List Command) (rs : List Reply)
     → (state_after s cs rs).policy ≡ s.policy
-policy_of s [] rs = refl
-policy_of s (x ∷ cs) [] = refl
 policy_of s (x ∷ cs) (y ∷ rs) = policy_of (state_after_step s x y) cs rs
+policy_of s cs rs = refl
 
 fits_in : (s : TextState) (cs : List Command) (rs : List Reply) → size s.text ≤ s.capacity
     → size (state_after s cs rs).text ≤ (state_after s cs rs).capacity
-fits_in s [] rs h = h
-fits_in s (x ∷ cs) [] h = h
 fits_in s (x ∷ cs) (y ∷ rs) h = fits_in (state_after_step s x y) cs rs (omega arith)
+fits_in s cs rs h = h
 
 -- a value is in the state that it covers, but for its capacity
 covered : (s value : TextState) → Covers s value → record value { capacity = s.capacity } ≡ s
 covered s value h = rw (h.text, h.storage, h.policy) refl
-
--- the start of a run
-pub so_far_none : (s : TextState) → IsRunSoFar s [] [] s
-so_far_none s =
-    record {
-      legal = tt;
-      next =
-          record { text = refl; storage = refl; room = omega arith; policy = refl };
-    }
 
 -- the step of a loop over the commands
 pub so_far_more : (old mid new : TextState) (cs : List Command) (rs : List Reply) (i : ℕ)
@@ -95,15 +74,4 @@ so_far_more old mid new cs rs i d r long lt laws ran step =
 pub run_whole : (old new : TextState) (cs : List Command) (rs : List Reply) (i : ℕ)
     → length rs ≡ length cs → length cs ≤ i → IsLawful old
     → IsRunSoFar old (take i cs) (take i rs) new → IsRun old cs rs new
-run_whole old new cs rs i long past laws ran =
-    let a : take i cs ≡ cs = take_all i cs past in
-    let b : take i rs ≡ rs = take_all i rs (omega (arith, long, past)) in
-    let whole : IsRunSoFar old cs rs new = rw (a, b) at ran in
-    record {
-      text = whole.next.text ∙ text_of old cs rs;
-      storage = whole.next.storage;
-      legal = whole.legal;
-      credit =
-          omega (arith, ap size whole.next.text, whole.next.room, fits_in old cs rs laws.within);
-      policy = whole.next.policy ∙ policy_of old cs rs;
-    }
+run_whole old new cs rs i long past laws ran = search (rules, take_all, text_of, fits_in, policy_of)

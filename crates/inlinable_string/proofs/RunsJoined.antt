@@ -1,10 +1,5 @@
 -- Two runs, the second from the state that the first left.
-use Rattle.std.proofs.Common.{◌≡◌, ℕ, List, [], ◌∷◌, ◌++◌, length, refl, ap, arith}
-use Rattle.inlinable_string.specs.State.{TextState}
-use Rattle.inlinable_string.specs.Edit.{text_after, text_after_step}
-use Rattle.inlinable_string.specs.Run.{LegalReplies, state_after, state_after_step, storage_after, credit, credit_after}
-use Rattle.inlinable_string.specs.declared.run.Command.{Command}
-use Rattle.inlinable_string.specs.declared.run.Reply.{Reply}
+use Rattle.inlinable_string.proofs.Common.{◌≡◌, ℕ, List, [], ◌∷◌, ◌++◌, length, refl, arith, rules, TextState, text_after, text_after_step, LegalReplies, state_after, state_after_step, storage_after, credit_after, Command, Reply}
 
 -- the text after both
 pub text_joined : (t : List ℕ) (first second : List Command) (replies others : List Reply)
@@ -12,10 +7,9 @@ pub text_joined : (t : List ℕ) (first second : List Command) (replies others :
     → text_after t (first ++ second) (replies ++ others)
     ≡ text_after (text_after t first replies) second others
 text_joined t [] second [] others h = refl
-text_joined t [] second (r ∷ replies) others h = absurd (omega (arith, h))
-text_joined t (c ∷ first) second [] others h = absurd (omega (arith, h))
 text_joined t (c ∷ first) second (r ∷ replies) others h =
     text_joined (text_after_step t c r) first second replies others (omega (arith, h))
+text_joined t first second replies others h = absurd (omega (arith, h))
 
 -- the state after both
 state_joined : (s : TextState) (first second : List Command) (replies others : List Reply)
@@ -23,35 +17,31 @@ state_joined : (s : TextState) (first second : List Command) (replies others : L
     → state_after s (first ++ second) (replies ++ others)
     ≡ state_after (state_after s first replies) second others
 state_joined s [] second [] others h = refl
-state_joined s [] second (r ∷ replies) others h = absurd (omega (arith, h))
-state_joined s (c ∷ first) second [] others h = absurd (omega (arith, h))
 state_joined s (c ∷ first) second (r ∷ replies) others h =
     state_joined (state_after_step s c r) first second replies others (omega (arith, h))
+state_joined s first second replies others h = absurd (omega (arith, h))
 
 -- and so its storage and its credit
 pub storage_joined : (s : TextState) (first second : List Command) (replies others : List Reply)
     → length first ≡ length replies
     → storage_after s (first ++ second) (replies ++ others)
     ≡ storage_after (state_after s first replies) second others
-storage_joined s first second replies others h =
-    ap (λ (x : TextState). x.storage) (state_joined s first second replies others h)
+storage_joined s first second replies others h = search (rules, state_joined)
 
 pub credit_joined : (s : TextState) (first second : List Command) (replies others : List Reply)
     → length first ≡ length replies
     → credit_after s (first ++ second) (replies ++ others)
     ≡ credit_after (state_after s first replies) second others
-credit_joined s first second replies others h =
-    ap credit (state_joined s first second replies others h)
+credit_joined s first second replies others h = search (rules, state_joined)
 
 -- the replies of both are legal where those of each are
 pub legal_joined : (s : TextState) (first second : List Command) (replies others : List Reply)
     → LegalReplies s first replies → LegalReplies (state_after s first replies) second others
     → LegalReplies s (first ++ second) (replies ++ others)
 legal_joined s [] second [] others h k = k
-legal_joined s [] second (r ∷ replies) others h k = absurd h
-legal_joined s (c ∷ first) second [] others h k = absurd h
 legal_joined s (c ∷ first) second (r ∷ replies) others h k =
     (h.0, legal_joined (state_after_step s c r) first second replies others h.1 k)
+legal_joined s first second replies others h k = absurd h
 
 -- and only there
 pub legal_parted : (s : TextState) (first second : List Command) (replies others : List Reply)
@@ -59,9 +49,8 @@ pub legal_parted : (s : TextState) (first second : List Command) (replies others
     → LegalReplies s (first ++ second) (replies ++ others)
     → LegalReplies s first replies × LegalReplies (state_after s first replies) second others
 legal_parted s [] second [] others h k = (tt, k)
-legal_parted s [] second (r ∷ replies) others h k = absurd (omega (arith, h))
-legal_parted s (c ∷ first) second [] others h k = absurd (omega (arith, h))
 legal_parted s (c ∷ first) second (r ∷ replies) others h k =
     let rest =
     legal_parted (state_after_step s c r) first second replies others (omega (arith, h)) k.1 in
     ((k.0, rest.0), rest.1)
+legal_parted s first second replies others h k = absurd (omega (arith, h))

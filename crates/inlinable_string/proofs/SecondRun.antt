@@ -1,15 +1,9 @@
 -- One run after another of one value. The value may have more credit than is certain.
-use Rattle.std.proofs.Common.{◌≡◌, ℕ, ◌≤◌, inl, inr, List, [], ◌∷◌, ◌++◌, length, sym, ap, ◌∙◌, arith}
-use Rattle.inlinable_string.specs.State.{TextState}
-use Rattle.inlinable_string.specs.Edit.{edit, reply_of, text_after, text_after_step}
-use Rattle.inlinable_string.specs.Run.{Need, at_end, anywhere, reserved, tight, no_room, need_of, credit, credit_when_met, credit_after_step, credit_after, IsCounted, state_after, state_after_step, IsMet, IsLegal, LegalReplies, IsRun}
-use Rattle.inlinable_string.specs.declared.run.Command.{Command}
-use Rattle.inlinable_string.specs.declared.run.Reply.{Reply}
-use Rattle.inlinable_string.specs.declared.run.Reply.TheVariants.{Done, BadPlace}
+use Rattle.inlinable_string.proofs.Common.{common_steps, ◌≡◌, ◌≤◌, List, [], ◌∷◌, ◌++◌, length, sym, ap, ◌∙◌, arith, TextState, text_after, credit, credit_after, state_after, state_after_step, IsLegal, LegalReplies, IsRun, Command, Reply}
 use Rattle.inlinable_string.proofs.Runs.{text_of, policy_of}
 use Rattle.inlinable_string.proofs.RepliesInTurn.{as_many_replies}
 use Rattle.inlinable_string.proofs.RunsJoined.{text_joined, storage_joined, credit_joined, legal_joined}
-use Rattle.inlinable_string.proofs.RefusalsDecide.{same_storage, same_storage_step}
+use Rattle.inlinable_string.proofs.RefusalsDecide.{same_storage}
 
 -- the same text in the same place, with at least the credit
 record IsRicher (s v : TextState) : Type 0 where
@@ -18,81 +12,32 @@ record IsRicher (s v : TextState) : Type 0 where
   policy : s.policy ≡ v.policy
   credit : credit s ≤ credit v
 
--- more credit meets the more needs
-met_richer : (s v : TextState) (need : Need) → IsRicher s v → IsMet s need → IsMet v need
-met_richer s v (at_end n) h met = elim met [
-  | inl inside ↦ inl (sym h.storage ∙ inside.0, rw (h.text, h.policy) at inside.1)
-  | inr enough ↦ inr (omega (arith, h.credit, enough))
-]
-met_richer s v (anywhere n) h met = (sym h.storage ∙ met.0, rw (h.text, h.policy) at met.1)
-met_richer s v (reserved n) h met = (sym h.storage ∙ met.0, rw (h.text, h.policy) at met.1)
-met_richer s v tight h met = (rw h.policy at met.0, rw (h.text, h.policy) at met.1)
-met_richer s v no_room h met = tt
-
--- and leaves no less
-credit_met : (k l : ℕ) (need : Need) → k ≤ l → credit_when_met k need ≤ credit_when_met l need
-credit_met k l (at_end n) h = omega (arith, h)
-credit_met k l (reserved n) h = omega arith
-credit_met k l need h = omega arith
-
-credit_step : (k l : ℕ) (command : Command) (reply : Reply) → k ≤ l
-    → credit_after_step k command reply ≤ credit_after_step l command reply
-credit_step k l command Done h = credit_met k l (need_of command) h
-credit_step k l command BadPlace h = h
-credit_step k l command reply h = omega arith
-
+-- a step keeps that
 richer_step : (s v : TextState) (command : Command) (reply : Reply) → IsRicher s v
     → IsRicher (state_after_step s command reply) (state_after_step v command reply)
-richer_step s v command reply h = record {
-  text = ap (λ t. text_after_step t command reply) h.text;
-  storage = same_storage_step s v command reply h.text h.storage h.policy;
-  policy = h.policy;
-  credit = omega (arith, credit_step (credit s) (credit v) command reply h.credit);
-}
+richer_step s v command reply h = grind (arith, common_steps)
 
 credit_richer : (s v : TextState) (commands : List Command) (replies : List Reply) → IsRicher s v
     → credit_after s commands replies ≤ credit_after v commands replies
-credit_richer s v [] replies h = h.credit
-credit_richer s v (c ∷ commands) [] h = h.credit
 credit_richer s v (c ∷ commands) (r ∷ replies) h =
     credit_richer (state_after_step s c r) (state_after_step v c r) commands replies
     (richer_step s v c r h)
-
-counted_same : (s v : TextState) (need : Need) (reply : Reply) → s.text ≡ v.text
-    → IsCounted v need reply → IsCounted s need reply
-counted_same s v (reserved n) Done e h = rw e h
-counted_same s v need reply e h = tt
+credit_richer s v commands replies h = h.credit
 
 -- what is legal with more credit is legal with less
 legal_poorer : (s v : TextState) (command : Command) (reply : Reply) → IsRicher s v
     → IsLegal v command reply → IsLegal s command reply
-legal_poorer s v command reply h legal =
-    let again : s.text ≡ v.text = h.text in
-    record {
-      answer = elim legal.answer [
-        | inl same ↦ inl (same ∙ ap (λ t. reply_of (edit t command)) (sym again))
-        | inr refused ↦ inr (
-          refused.0,
-          λ free. refused.1 (elim free [
-            | inl none ↦ inl
-                (λ asks. none (asks.0, ap (λ t. reply_of (edit t command)) again ∙ asks.1))
-            | inr met ↦ inr (met_richer s v (need_of command) h met)
-          ]),
-        )
-      ];
-      counted = counted_same s v (need_of command) reply again legal.counted;
-    }
+legal_poorer s v command reply h legal = grind (arith, common_steps)
 
 all_legal_poorer : (s v : TextState) (commands : List Command) (replies : List Reply) → IsRicher s v
     → LegalReplies v commands replies → LegalReplies s commands replies
 all_legal_poorer s v [] [] h legal = tt
-all_legal_poorer s v [] (r ∷ replies) h legal = absurd legal
-all_legal_poorer s v (c ∷ commands) [] h legal = absurd legal
 all_legal_poorer s v (c ∷ commands) (r ∷ replies) h legal = (
   legal_poorer s v c r h legal.0,
   all_legal_poorer (state_after_step s c r) (state_after_step v c r) commands replies
       (richer_step s v c r h) legal.1,
 )
+all_legal_poorer s v commands replies h legal = absurd legal
 
 -- one run after another of one value is a run of both
 pub runs_follow : (old mid new : TextState) (first second : List Command)

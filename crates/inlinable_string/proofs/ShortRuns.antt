@@ -1,16 +1,5 @@
 -- Runs that stay within the inline room: no memory can be refused to them.
-use Rattle.std.proofs.Common.{◌≡◌, ◌≢◌, ℕ, ◌+◌, ◌≤◌, inl, inr, ◌⊎◌, true, List, [], ◌∷◌, refl, sym, ap, ◌∙◌, arith, subst, nat_le, Contains}
-use Rattle.std.proofs.lemmas.Bool.Decides.{nat_tests}
-use Rattle.inlinable_string.specs.Text.{size}
-use Rattle.inlinable_string.specs.State.{TextState, IsLawful, storage_with_room, storage_when_shrunk}
-use Rattle.inlinable_string.specs.Edit.{edit, reply_of, text_left, text_after_step}
-use Rattle.inlinable_string.specs.Run.{Need, at_end, anywhere, reserved, tight, no_room, need_of, storage_when_met, storage_after_step, state_after_step, storage_after, IsMet, IsLegal, LegalReplies}
-use Rattle.inlinable_string.specs.Laws.{ReservesWithin, StaysWithin}
-use Rattle.inlinable_string.specs.declared.string_ext.Storage.TheVariants.{Inline}
-use Rattle.inlinable_string.specs.declared.run.Command.{Command}
-use Rattle.inlinable_string.specs.declared.run.Command.TheVariants.{Push, PushStr, Insert, InsertStr, Truncate, Pop, Remove, Clear, ReplaceBytes, Reserve, ReserveExact, ShrinkToFit}
-use Rattle.inlinable_string.specs.declared.run.Reply.{Reply}
-use Rattle.inlinable_string.specs.declared.run.Reply.TheVariants.{Done, NoMemory}
+use Rattle.inlinable_string.proofs.Common.{common_steps, ◌≡◌, ◌≢◌, ℕ, ◌+◌, ◌≤◌, inl, inr, ◌⊎◌, true, List, [], ◌∷◌, refl, sym, ap, ◌∙◌, arith, subst, Contains, rules, size, TextState, IsLawful, edit, reply_of, text_left, text_after_step, Need, at_end, anywhere, reserved, tight, no_room, need_of, storage_when_met, storage_after_step, state_after_step, storage_after, IsMet, IsLegal, LegalReplies, ReservesWithin, StaysWithin, Inline, Command, Push, PushStr, Insert, InsertStr, Truncate, Pop, Remove, Clear, ReplaceBytes, Reserve, ReserveExact, ShrinkToFit, Reply, Done, NoMemory}
 use Rattle.inlinable_string.proofs.Edits.{push_grows, push_str_grows, insert_grows, insert_str_grows, text_granted}
 use Rattle.inlinable_string.proofs.RefusalsDecide.{storage_kept}
 use Rattle.inlinable_string.proofs.FreeCommands.{granted, not_refused, absent, absent_nil}
@@ -39,32 +28,15 @@ grows t (Reserve n) done = tt
 grows t (ReserveExact n) done = tt
 grows t ShrinkToFit done = refl
 
--- with room inline a text stays there
-stays_with_room : (s : TextState) (n : ℕ) → s.storage ≡ Inline → size s.text + n ≤ s.policy.limit
-    → storage_with_room s n ≡ Inline
-stays_with_room s n inline room =
-    let few : nat_le (size s.text + n) s.policy.limit ≡ true = grind (arith, nat_tests, room) in
-    rw (inline, few)
-
--- and when it is shrunk
-stays_shrunk : (s : TextState) → s.storage ≡ Inline → storage_when_shrunk s ≡ Inline
-stays_shrunk s inline = rw inline
-
 -- a need within the limit is met inline
 met_inline : (s : TextState) (need : Need) (v : List ℕ) → Grows s.text need v
     → s.policy.demotes ≡ true → s.storage ≡ Inline
     → ReservesWithin s.policy.limit s.text need → size v ≤ s.policy.limit
     → IsMet s need × (storage_when_met s need ≡ Inline)
-met_inline s (at_end n) v grown demotes inline held short =
-    let room : size s.text + n ≤ s.policy.limit = omega (arith, grown, short) in
-    (inl (inline, room), stays_with_room s n inline room)
-met_inline s (anywhere n) v grown demotes inline held short =
-    let room : size s.text + n ≤ s.policy.limit = omega (arith, grown, short) in
-    ((inline, room), stays_with_room s n inline room)
-met_inline s (reserved n) v grown demotes inline held short =
-    ((inline, held), stays_with_room s n inline held)
-met_inline s tight v grown demotes inline held short =
-    ((demotes, omega (arith, ap size grown, short)), stays_shrunk s inline)
+met_inline s (at_end n) v grown demotes inline held short = grind (arith, common_steps)
+met_inline s (anywhere n) v grown demotes inline held short = grind (arith, common_steps)
+met_inline s (reserved n) v grown demotes inline held short = grind (arith, common_steps)
+met_inline s tight v grown demotes inline held short = grind (arith, common_steps)
 met_inline s no_room v grown demotes inline held short = (tt, inline)
 
 -- carried out or not
@@ -99,8 +71,6 @@ short_run : (s : TextState) (commands : List Command) (replies : List Reply)
     → StaysWithin s.policy.limit s.text commands → LegalReplies s commands replies
     → (¬ Contains replies NoMemory) × (storage_after s commands replies ≡ Inline)
 short_run s [] [] demotes inline within legal = (absent_nil, inline)
-short_run s [] (r ∷ replies) demotes inline within legal = absurd legal
-short_run s (c ∷ commands) [] demotes inline within legal = absurd legal
 short_run s (c ∷ commands) (r ∷ replies) demotes inline within legal =
     let step = short_step s c r demotes inline within.0.0 within.0.1 legal.0 in
     let here : r ≢ NoMemory = not_refused s.text c r step.0 in
@@ -109,18 +79,17 @@ short_run s (c ∷ commands) (r ∷ replies) demotes inline within legal =
     (sym (text_granted s.text c r here)) within.1 in
     let rest = short_run (state_after_step s c r) commands replies demotes step.1 next legal.1 in
     (absent r replies here rest.0, rest.1)
+short_run s commands replies demotes inline within legal = absurd legal
 
 -- the clauses on short runs
 pub short_run_never_asks : (s : TextState) (commands : List Command) (replies : List Reply)
     → IsLawful s → s.storage ≡ Inline
     → StaysWithin s.policy.limit s.text commands → LegalReplies s commands replies
     → ¬ Contains replies NoMemory
-short_run_never_asks s commands replies laws inline within legal =
-    (short_run s commands replies (laws.inline_demotes inline) inline within legal).0
+short_run_never_asks s commands replies laws inline within legal = search (rules, short_run)
 
 pub short_run_stays_inline : (s : TextState) (commands : List Command) (replies : List Reply)
     → IsLawful s → s.storage ≡ Inline
     → StaysWithin s.policy.limit s.text commands → LegalReplies s commands replies
     → storage_after s commands replies ≡ Inline
-short_run_stays_inline s commands replies laws inline within legal =
-    (short_run s commands replies (laws.inline_demotes inline) inline within legal).1
+short_run_stays_inline s commands replies laws inline within legal = search (rules, short_run)

@@ -1,17 +1,5 @@
 -- One step of a value, by its command and its reply.
-use Rattle.std.proofs.Common.{◌≡◌, ℕ, ◌+◌, ◌-◌, ◌≤◌, inl, inr, true, false, List, [], ◌∷◌, ◌++◌, length, refl, sym, ap, ◌∙◌, arith, Bor, Some}
-use Rattle.std.proofs.lemmas.Str.{chars_from_encodes}
-use Rattle.std.specs.Str.{chars, IsUtf8}
-use Rattle.std.proofs.Common.{subst}
-use Rattle.inlinable_string.specs.Text.{bytes_of, size, IsCut, IsPlace, IsSplice, IsRemoval, cut}
-use Rattle.inlinable_string.specs.State.{TextState, IsLawful, IsSameText, HasRoom, HasInlineRoom, storage_with_room}
-use Rattle.inlinable_string.specs.Edit.{becomes, has_no_place, reply_of, text_left, edit, insertion, truncation, removal, text_after_step}
-use Rattle.inlinable_string.specs.Run.{need_of, storage_after_step, credit_after_step, AsksMemory, IsMet, IsCounted}
-use Rattle.inlinable_string.specs.Step.{IsStep}
-use Rattle.inlinable_string.specs.declared.run.Command.{Command}
-use Rattle.inlinable_string.specs.declared.run.Command.TheVariants.{Push, PushStr, Insert, InsertStr, Truncate, Pop, Remove, ReplaceBytes}
-use Rattle.inlinable_string.specs.declared.run.Reply.{Reply}
-use Rattle.inlinable_string.specs.declared.run.Reply.TheVariants.{Done, Char, BadPlace, NotUtf8, NoMemory}
+use Rattle.inlinable_string.proofs.Common.{common_steps, ◌≡◌, ℕ, ◌+◌, ◌-◌, ◌≤◌, inl, true, false, List, [], ◌∷◌, ◌++◌, length, refl, sym, ap, ◌∙◌, arith, Bor, rules, chars_from_encodes, chars, IsUtf8, bytes_of, size, IsCut, IsPlace, IsSplice, IsRemoval, cut, TextState, IsLawful, IsSameText, HasRoom, HasInlineRoom, storage_with_room, becomes, has_no_place, reply_of, text_left, edit, insertion, text_after_step, need_of, storage_after_step, credit_after_step, AsksMemory, IsMet, IsCounted, IsStep, Command, PushStr, Insert, InsertStr, Truncate, Pop, Remove, ReplaceBytes, Reply, Done, Char, BadPlace, NotUtf8, NoMemory}
 use Rattle.inlinable_string.proofs.Text.{size-append, size-chars, nil_from_size}
 use Rattle.inlinable_string.proofs.Cut.{cut_is, no_cut}
 use Rattle.inlinable_string.proofs.Edits.{insertion_is, pop_is, removal_is, replacement_is, not_utf8}
@@ -26,15 +14,8 @@ answered : (old new : TextState) (command : Command) (reply : Reply) → IsLawfu
     → ((n : ℕ) → IsCounted (record old { capacity = n }) (need_of command) reply)
     → ((k : ℕ) → credit_after_step k command reply ≡ 0) → new.policy ≡ old.policy
     → IsStep old command reply new
-answered old new command reply laws answer text storage counted none policy = record {
-  legal = λ n fits most. record { answer = inl answer; counted = counted n };
-  next = λ n fits most. record {
-    text = text;
-    storage = storage n;
-    room = omega (arith, ap size text, laws.within, none (n - size old.text));
-    policy = policy;
-  };
-}
+answered old new command reply laws answer text storage counted none policy =
+    grind (arith, common_steps)
 
 -- a command that memory was refused to
 refused : (old new : TextState) (command : Command) → IsLawful new → IsSameText old new
@@ -44,41 +25,18 @@ refused : (old new : TextState) (command : Command) → IsLawful new → IsSameT
     → ((n : ℕ) → IsCounted (record old { capacity = n }) (need_of command) NoMemory)
     → new.policy ≡ old.policy
     → IsStep old command NoMemory new
-refused old new command laws same asks unmet counted policy = record {
-  legal = λ n fits most. record {
-    answer =
-        inr (refl, λ free. elim free [ inl none ↦ none asks | inr met ↦ unmet n fits most met ]);
-    counted = counted n;
-  };
-  next = λ n fits most. record {
-    text = same.text;
-    storage = same.storage;
-    room = omega (arith, ap size same.text, laws.within);
-    policy = policy;
-  };
-}
+refused old new command laws same asks unmet counted policy = grind (arith, common_steps)
 
 -- a command at a bad place
 misplaced : (old : TextState) (command : Command) → edit old.text command ≡ has_no_place
     → ((n : ℕ) → IsCounted (record old { capacity = n }) (need_of command) BadPlace)
     → IsStep old command BadPlace old
-misplaced old command is counted =
-    let kept : text_left old.text (edit old.text command) ≡ old.text = ap (text_left old.text) is in
-    record {
-      legal = λ n fits most. record { answer = inl (sym (ap reply_of is)); counted = counted n };
-      next = λ n fits most. record {
-        text = sym kept;
-        storage = refl;
-        room = omega (arith, ap size kept, fits, most);
-        policy = refl;
-      };
-    }
+misplaced old command is counted = grind (arith, common_steps)
 
 -- what pushes have left of a credit
 left : (t u : List ℕ) (a n old new : ℕ) → size u ≡ a → size (t ++ u) ≤ new → n ≤ old → old ≤ new
     → size (t ++ u) + (n - size t - a) ≤ new
-left t u a n old new width within most more =
-    omega (arith, size-append t u, width, within, most, more)
+left t u a n old new width within most more = search (rules, size-append)
 
 pushed : (old new : TextState) (command : Command) (u : List ℕ) (a : ℕ) → IsLawful new → size u ≡ a
     → edit old.text command ≡ becomes (old.text ++ u)
@@ -106,21 +64,11 @@ pushed old new command u a laws width is credit counted text storage more policy
       };
     }
 
-pub push_done : (old new : TextState) (c : ℕ) → IsLawful new → new.text ≡ old.text ++ c ∷ []
-    → new.storage ≡ storage_with_room old (size (c ∷ []))
-    → old.capacity ≤ new.capacity → new.policy ≡ old.policy → IsStep old (Push c) Done new
-push_done old new c laws text storage more policy =
-    pushed old new (Push c) (c ∷ []) (size (c ∷ [])) laws refl refl (λ k. refl) (λ n. tt) text
-    (λ n. storage) more policy
-
 pub push_str_done : (old new : TextState) (string : Bor (List ℕ)) → IsUtf8 string.now → IsLawful new
     → new.text ≡ old.text ++ chars string.now
     → new.storage ≡ storage_with_room old (length string.now) → old.capacity ≤ new.capacity
     → new.policy ≡ old.policy → IsStep old (PushStr string) Done new
-push_str_done old new string u laws text storage more policy =
-    pushed old new (PushStr string) (chars string.now) (size (chars string.now)) laws refl refl
-    (λ k. refl) (λ n. tt) text (λ n. storage
-    ∙ ap (storage_with_room old) (sym (size-chars string.now u))) more policy
+push_str_done old new string u laws text storage more policy = search (rules, pushed, size-chars)
 
 pub push_str_refused : (old new : TextState) (string : Bor (List ℕ)) → IsUtf8 string.now
     → IsLawful new → IsSameText old new
@@ -128,11 +76,7 @@ pub push_str_refused : (old new : TextState) (string : Bor (List ℕ)) → IsUtf
     → (HasInlineRoom old (length string.now) → false ≡ true) → new.policy ≡ old.policy
     → IsStep old (PushStr string) NoMemory new
 push_str_refused old new string u laws same out inline_out policy =
-    let width : size (chars string.now) ≡ length string.now = size-chars string.now u in
-    refused old new (PushStr string) laws same ((λ e. cc), refl) (λ n fits most met. elim met [
-      | inl room ↦ clash (inline_out (subst (HasInlineRoom old) width room))
-      | inr few ↦ clash (out (omega (arith, few, fits, most, width)))
-    ]) (λ n. tt) policy
+    search (rules, size-chars, refused, clash)
 
 -- insertions
 
@@ -156,14 +100,11 @@ pub insert_refused : (old new : TextState) (p c : ℕ) → IsLawful new → IsPl
     → IsSameText old new
     → (HasInlineRoom old (size (c ∷ [])) → false ≡ true) → new.policy ≡ old.policy
     → IsStep old (Insert p c) NoMemory new
-insert_refused old new p c laws at same out policy =
-    refused old new (Insert p c) laws same ((λ e. cc), insertion_done old.text (c ∷ []) p at)
-    (λ n fits most met. clash (out met)) (λ n. tt) policy
+insert_refused old new p c laws at same out policy = search (rules, refused, insertion_done, clash)
 
 pub insert_misplaced : (old : TextState) (p c : ℕ) → (IsPlace old.text p → ⊥)
     → IsStep old (Insert p c) BadPlace old
-insert_misplaced old p c none =
-    misplaced old (Insert p c) (no_insertion old.text (c ∷ []) p none) (λ n. tt)
+insert_misplaced old p c none = search (rules, misplaced, no_insertion)
 
 pub insert_str_done : (old new : TextState) (p : ℕ) (string : Bor (List ℕ)) → IsUtf8 string.now
     → IsLawful new → IsSplice old.text p (chars string.now) new.text
@@ -180,38 +121,26 @@ pub insert_str_refused : (old new : TextState) (p : ℕ) (string : Bor (List ℕ
     → (HasInlineRoom old (length string.now) → false ≡ true) → new.policy ≡ old.policy
     → IsStep old (InsertStr p string) NoMemory new
 insert_str_refused old new p string u laws at same out policy =
-    refused old new (InsertStr p string) laws same
-    ((λ e. cc), insertion_done old.text (chars string.now) p at)
-    (λ n fits most met. clash (out (subst (HasInlineRoom old) (size-chars string.now u) met)))
-    (λ n. tt) policy
+    search (rules, refused, insertion_done, clash, size-chars)
 
 pub insert_str_misplaced : (old : TextState) (p : ℕ) (string : Bor (List ℕ))
     → (IsPlace old.text p → ⊥) → IsStep old (InsertStr p string) BadPlace old
-insert_str_misplaced old p string none =
-    misplaced old (InsertStr p string) (no_insertion old.text (chars string.now) p none) (λ n. tt)
+insert_str_misplaced old p string none = search (rules, misplaced, no_insertion)
 
 -- cuts
 
 pub truncate_done : (old new : TextState) (rest : List ℕ) (p : ℕ) → IsLawful new
     → IsCut old.text p new.text rest
     → new.storage ≡ old.storage → new.policy ≡ old.policy → IsStep old (Truncate p) Done new
-truncate_done old new rest p laws at storage policy =
-    let is : truncation (cut old.text p) ≡ becomes new.text =
-    ap truncation (cut_is old.text p new.text rest at) in
-    answered old new (Truncate p) Done laws (sym (ap reply_of is))
-    (sym (ap (text_left old.text) is)) (λ n. storage) (λ n. tt) (λ k. refl) policy
+truncate_done old new rest p laws at storage policy = search (rules, cut_is, answered)
 
 pub truncate_misplaced : (old : TextState) (p : ℕ) → (IsPlace old.text p → ⊥)
     → IsStep old (Truncate p) BadPlace old
-truncate_misplaced old p none =
-    misplaced old (Truncate p) (ap truncation (no_cut old.text p none)) (λ n. tt)
+truncate_misplaced old p none = search (rules, misplaced, no_cut)
 
 pub pop_char : (old new : TextState) (c : ℕ) → IsLawful new → old.text ≡ new.text ++ c ∷ []
     → new.storage ≡ old.storage → new.policy ≡ old.policy → IsStep old Pop (Char c) new
-pop_char old new c laws text storage policy =
-    let is = pop_is old.text new.text c text in
-    answered old new Pop (Char c) laws (sym (ap reply_of is)) (sym (ap (text_left old.text) is))
-    (λ n. storage) (λ n. tt) (λ k. refl) policy
+pop_char old new c laws text storage policy = search (rules, pop_is, answered)
 
 pub remove_char : (old new : TextState) (p c : ℕ) → IsLawful new → IsRemoval old.text p c new.text
     → new.storage ≡ old.storage → new.policy ≡ old.policy → IsStep old (Remove p) (Char c) new
@@ -222,19 +151,12 @@ remove_char old new p c laws r storage policy =
 
 pub remove_misplaced : (old : TextState) (p : ℕ) → (IsPlace old.text p → ⊥)
     → IsStep old (Remove p) BadPlace old
-remove_misplaced old p none =
-    misplaced old (Remove p) (ap removal (no_cut old.text p none)) (λ n. tt)
+remove_misplaced old p none = search (rules, misplaced, no_cut)
 
 -- no character begins at the end
 pub remove_at_end : (old : TextState) (p : ℕ) → IsPlace old.text p → size old.text ≤ p
     → IsStep old (Remove p) BadPlace old
-remove_at_end old p at past =
-    let none : at.1 ≡ [] =
-    nil_from_size at.1
-    (omega (arith, ap size at.2.joined, size-append at.0 at.1, at.2.before, past)) in
-    let is : cut old.text p ≡ Some (at.0, []) =
-    cut_is old.text p at.0 at.1 at.2 ∙ ap (λ b. Some (at.0, b)) none in
-    misplaced old (Remove p) (ap removal is) (λ n. tt)
+remove_at_end old p at past = search (rules, nil_from_size, size-append, cut_is, misplaced)
 
 -- replacements
 
@@ -242,15 +164,9 @@ pub replace_done : (old new : TextState) (bytes : Bor (List ℕ)) → IsLawful n
     → bytes_of new.text ≡ bytes.now → length bytes.now ≡ size old.text → IsUtf8 bytes.now
     → new.storage ≡ old.storage → new.policy ≡ old.policy → IsStep old (ReplaceBytes bytes) Done new
 replace_done old new bytes laws text same u storage policy =
-    let is = replacement_is old.text bytes.now same u in
-    let now : new.text ≡ chars bytes.now = chars_from_encodes new.text bytes.now u text in
-    answered old new (ReplaceBytes bytes) Done laws (sym (ap reply_of is)) (now
-    ∙ sym (ap (text_left old.text) is)) (λ n. storage) (λ n. tt) (λ k. refl) policy
+    search (rules, replacement_is, chars_from_encodes, answered)
 
 pub replace_not_utf8 : (old new : TextState) (bytes : Bor (List ℕ)) → IsLawful new
     → IsSameText old new → length bytes.now ≡ size old.text → ¬ (IsUtf8 bytes.now)
     → new.policy ≡ old.policy → IsStep old (ReplaceBytes bytes) NotUtf8 new
-replace_not_utf8 old new bytes laws same as_many not policy =
-    let is = not_utf8 old.text bytes.now as_many not in
-    answered old new (ReplaceBytes bytes) NotUtf8 laws (sym (ap reply_of is)) (same.text
-    ∙ sym (ap (text_left old.text) is)) (λ n. same.storage) (λ n. tt) (λ k. refl) policy
+replace_not_utf8 old new bytes laws same as_many not policy = search (rules, not_utf8, answered)

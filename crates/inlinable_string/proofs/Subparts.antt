@@ -1,18 +1,7 @@
 -- Bytes read as text: characters, and the maximal subparts between them.
-use Rattle.std.proofs.Common.{◌≡◌, ℕ, zero, suc, ◌+◌, ◌-◌, ◌<◌, ◌≤◌, true, false, Bool, cond, nat_eq, List, [], ◌∷◌, ◌++◌, length, take, drop, refl, ap, sym, ◌∙◌, arith, subst, ⊎_elim, Option, Some, None, MatchOption, append-nil, append_assoc, length-append, take-append-drop, length-take, length-drop}
-use Rattle.std.specs.Char.{encode_utf8, IsScalar}
-use Rattle.std.specs.Str.{chars, IsUtf8, is_utf8, all_scalars, encode_utf8_all, IsValidUpTo}
-use Rattle.std.proofs.lemmas.Bool.{cases_Bool, and_parts, cond-true, cond-false}
-use Rattle.std.proofs.lemmas.Bool.Decides.{nat_tests}
-use Rattle.std.proofs.lemmas.List.{take_at, drop_at}
-use Rattle.std.proofs.lemmas.Str.{IsUtf8-from_is_utf8, is_utf8-from_IsUtf8, IsUtf8-encode, IsUtf8-append, length-encode, len_utf8_bounds, encode_same, scalars-chars, encodes-chars}
-use Rattle.inlinable_string.specs.Text.{bytes_of, size}
+use Rattle.inlinable_string.proofs.Common.{common_steps, ◌≡◌, ℕ, zero, suc, ◌+◌, ◌-◌, ◌<◌, ◌≤◌, true, false, Bool, cond, nat_eq, List, [], ◌∷◌, ◌++◌, length, take, drop, refl, ap, sym, ◌∙◌, arith, subst, ⊎_elim, Option, Some, None, MatchOption, append-nil, append_assoc, length-append, take-append-drop, length-take, length-drop, rules, encode_utf8, IsScalar, chars, IsUtf8, is_utf8, all_scalars, encode_utf8_all, IsValidUpTo, cases_Bool, and_parts, cond-true, cond-false, nat_tests, take_at, drop_at, IsUtf8-from_is_utf8, is_utf8-from_IsUtf8, IsUtf8-encode, IsUtf8-append, length-encode, len_utf8_bounds, encode_same, scalars-chars, encodes-chars, size, char_len, subpart_len, lossy_utf8_past, lossy_utf8}
 use Rattle.inlinable_string.proofs.Text.{size-append}
-use Rattle.inlinable_string.specs.Lossy.{char_len, subpart_len, lossy_utf8_past, lossy_utf8}
 use Rattle.inlinable_string.proofs.Window.{chars_one}
-
-clash : {b : Bool} → b ≡ true → b ≡ false → ⊥
-clash t f = cc
 
 -- a character c begins the bytes, and rest follows it
 pub record Begins (bs : List ℕ) (c : ℕ) (rest : List ℕ) : Type 0 where
@@ -22,8 +11,7 @@ pub record Begins (bs : List ℕ) (c : ℕ) (rest : List ℕ) : Type 0 where
 -- UTF-8 that is not empty begins with a character
 first_of : (bs : List ℕ) → 0 < length bs → IsUtf8 bs → (c : ℕ) × (rest : List ℕ) × Begins bs c rest
 first_of bs some ([], (s, e)) = let none = ap length e in absurd (omega arith)
-first_of bs some (c ∷ cs, (s, e)) =
-    (c, encode_utf8_all cs, record { scalar = (and_parts _ _ s).0; joined = sym e })
+first_of bs some (c ∷ cs, (s, e)) = grind (arith, common_steps)
 
 -- so does what has UTF-8 at its front, and the character is no longer than that
 front : (bs : List ℕ) (k : ℕ) → 0 < length bs → 0 < k → is_utf8 (take k bs) ≡ true
@@ -52,34 +40,21 @@ passed : (p : ℕ → Bool) (n : ℕ) → 0 < n → n ≤ 4 → p n ≡ true
     → ((k : ℕ) → 0 < k → k < n → p k ≡ false) → first_passed p ≡ n
 passed p zero a b t f = absurd (omega arith)
 passed p (suc zero) a b t f = cond-true _ _ _ t
-passed p (suc (suc zero)) a b t f =
-    cond-false _ _ _ (f 1 (omega arith) (omega arith)) ∙ cond-true _ _ _ t
-passed p (suc (suc (suc zero))) a b t f =
-    cond-false _ _ _ (f 1 (omega arith) (omega arith))
-    ∙ cond-false _ _ _ (f 2 (omega arith) (omega arith)) ∙ cond-true _ _ _ t
-passed p (suc (suc (suc (suc zero)))) a b t f =
-    cond-false _ _ _ (f 1 (omega arith) (omega arith))
-    ∙ cond-false _ _ _ (f 2 (omega arith) (omega arith))
-    ∙ cond-false _ _ _ (f 3 (omega arith) (omega arith)) ∙ cond-true _ _ _ t
+passed p (suc (suc zero)) a b t f = grind (arith, common_steps)
+passed p (suc (suc (suc zero))) a b t f = grind (arith, common_steps)
+passed p (suc (suc (suc (suc zero)))) a b t f = grind (arith, common_steps)
 passed p (suc (suc (suc (suc (suc n))))) a b t f = absurd (omega arith)
 
 none_passed : (p : ℕ → Bool) → ((k : ℕ) → 0 < k → p k ≡ false) → first_passed p ≡ 0
-none_passed p f =
-    cond-false _ _ _ (f 1 (omega arith)) ∙ cond-false _ _ _ (f 2 (omega arith))
-    ∙ cond-false _ _ _ (f 3 (omega arith)) ∙ cond-false _ _ _ (f 4 (omega arith))
+none_passed p f = grind (arith, common_steps)
 
 nonempty : (bs : List ℕ) (c : ℕ) (rest : List ℕ) → Begins bs c rest → 0 < length bs
-nonempty bs c rest b =
-    omega (arith, ap length b.joined, length-append (encode_utf8 c) rest, positive c)
+nonempty bs c rest b = grind (arith, common_steps, positive)
 
 -- no shorter front of a character is UTF-8
 shorter : (bs : List ℕ) (c : ℕ) (rest : List ℕ) → Begins bs c rest → (k : ℕ) → 0 < k
     → k < length (encode_utf8 c) → is_utf8 (take k bs) ≡ false
-shorter bs c rest b k pos less = ⊎_elim (λ h.
-    let f = front bs k (nonempty bs c rest b) pos h in
-    let same = (encode_same c f.0 rest f.1 (sym b.joined ∙ f.2.joined)).0 in
-    absurd (omega (arith, f.3, less, ap (λ x. length (encode_utf8 x)) same))) (λ h. h)
-    (cases_Bool (is_utf8 (take k bs)))
+shorter bs c rest b k pos less = search (rules, front, nonempty, encode_same, cases_Bool)
 
 pub len_of_char : (bs : List ℕ) (c : ℕ) (rest : List ℕ) → Begins bs c rest
     → char_len bs ≡ length (encode_utf8 c)
@@ -110,9 +85,6 @@ past zero bs = refl
 past (suc n) [] = refl
 past (suc n) (b ∷ bs) = past n bs
 
-step : (b : ℕ) (bs : List ℕ) (n : ℕ) → lossy_utf8_past (n - 1) bs ≡ lossy_utf8 (drop (n - 1) bs)
-step b bs n = past (n - 1) bs
-
 one_less : (n : ℕ) (b : ℕ) (bs : List ℕ) → 0 < n → drop (n - 1) bs ≡ drop n (b ∷ bs)
 one_less zero b bs h = absurd (omega arith)
 one_less (suc n) b bs h = let e : suc n - 1 ≡ n = omega arith in ap (λ k. drop k bs) e
@@ -139,9 +111,7 @@ of_char (x ∷ bs) c rest b h =
 
 pub lossy_char : (c : ℕ) (rest : List ℕ) → IsScalar c
     → lossy_utf8 (encode_utf8 c ++ rest) ≡ c ∷ lossy_utf8 rest
-lossy_char c rest s =
-    let b : Begins (encode_utf8 c ++ rest) c rest = record { scalar = s; joined = refl } in
-    of_char _ c rest b (nonempty _ c rest b)
+lossy_char c rest s = search (rules, of_char, nonempty)
 
 lossy_front : (cs rest : List ℕ) → all_scalars cs ≡ true
     → lossy_utf8 (encode_utf8_all cs ++ rest) ≡ cs ++ lossy_utf8 rest
@@ -219,12 +189,7 @@ read_on left rest bs t l e m = subst (λ o. ReadInParts o rest bs t) e m
 pub size_on : {A : Type 0} (left : Option A) (rest : A → List ℕ) (bs t : List ℕ) (l : A)
     → left ≡ Some l → ReadInParts left rest bs t
     → size (lossy_utf8 bs) ≡ size t + (length (encode_utf8 0xFFFD) + size (lossy_utf8 (rest l)))
-size_on left rest bs t l e m =
-    let more = lossy_utf8 (rest l) in
-    let behind = length-append (encode_utf8 0xFFFD) (bytes_of more) in
-    ap size (read_on left rest bs t l e m)
-    ∙ size-append t (0xFFFD ∷ more)
-    ∙ ap (λ n. size t + n) behind
+size_on left rest bs t l e m = grind (arith, common_steps, read_on, size-append)
 
 -- in either case the text t is in front
 pub size_within : {A : Type 0} (left : Option A) (rest : A → List ℕ) (bs t : List ℕ)

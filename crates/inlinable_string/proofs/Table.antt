@@ -1,16 +1,7 @@
 -- The table of well-formed UTF-8 against the codes of the characters.
-use Rattle.std.proofs.Common.{◌≡◌, ◌⊎◌, inl, inr, ℕ, zero, suc, ◌+◌, ◌-◌, ◌*◌, ◌/◌, ◌%◌, ◌<◌, ◌≤◌, List, [], ◌∷◌, ◌++◌, length, take, drop, refl, ap, sym, ◌∙◌, arith, subst, ⊎_elim, append-nil, append_assoc, length-append, length-take-le}
-use Rattle.std.specs.Prelude.{slice_index, ◌==◌, if◌then◌else◌}
-use Rattle.std.proofs.lemmas.List.{take_at}
-use Rattle.std.specs.Char.{encode_utf8, IsScalar}
+use Rattle.inlinable_string.proofs.Common.{common_steps, ◌≡◌, ◌⊎◌, inl, inr, ℕ, zero, suc, ◌+◌, ◌-◌, ◌*◌, ◌/◌, ◌%◌, ◌<◌, ◌≤◌, List, [], ◌∷◌, ◌++◌, length, take, drop, refl, ap, sym, ◌∙◌, arith, subst, ⊎_elim, append-nil, append_assoc, length-append, length-take-le, rules, slice_index, ◌==◌, if◌then◌else◌, take_at, encode_utf8, IsScalar, scalar_cases, cases_lt, cases_Bool, cond-true, cond-false, and_parts, leb-true, nat_tests, length-encode, len_utf8, following, count_in, subpart_len}
 use Rattle.std.specs.Int.{is_in_range}
-use lib.Utf8.{scalar_cases}
 use Rattle.std.proofs.str.Laws.{Shape, of1, of2, of3, of4, shape, Follows, two, three, four}
-use Rattle.std.proofs.lemmas.Bool.{cases_lt, cases_Bool, cond-true, cond-false, le-leb, lt-ltb, le-ltb, and_from, and_parts, leb-true}
-use Rattle.std.proofs.lemmas.Bool.Decides.{nat_tests}
-use Rattle.std.proofs.lemmas.Str.{length-encode}
-use Rattle.std.specs.Char.{len_utf8}
-use Rattle.inlinable_string.specs.Lossy.{following, count_in, subpart_len}
 
 -- from where to where the table lets the byte behind a go
 abbrev least : ℕ → ℕ
@@ -40,36 +31,23 @@ row_four a l h = grind (arith, nat_tests)
 scalar_below : (c : ℕ) → IsScalar c → c < 0x11_0000
 scalar_below c s = ⊎_elim (λ h. omega (arith, h)) (λ h. h.1) (scalar_cases c s)
 
--- one more byte in its range
-more : (low high b : ℕ) (ranges : List (ℕ × ℕ)) (bs : List ℕ) → low ≤ b → b ≤ high
-    → count_in ((low, high) ∷ ranges) (b ∷ bs) ≡ 1 + count_in ranges bs
-more low high b ranges bs l h = cond-true _ _ _ (and_from _ _ (le-leb low b l) (le-leb b high h))
-
 -- bytes that are in a row in full
 at_row : (a b k : ℕ) (bs : List ℕ) → IsRow a k → (least a ≤ b) × (b ≤ most a)
     → count_in (later k) bs ≡ k → subpart_len (a ∷ b ∷ bs) ≡ 1 + (1 + k)
-at_row a b k bs row p e =
-    ap (λ r. 1 + count_in r (b ∷ bs)) row
-    ∙ ap (λ n. 1 + n) (more (least a) (most a) b (later k) bs p.0 p.1 ∙ ap (λ n. 1 + n) e)
+at_row a b k bs row p e = grind (arith, common_steps)
 
 one_later : (d : ℕ) (rest : List ℕ) → Follows d → count_in (later 1) (d ∷ rest) ≡ 1
-one_later d rest f = more 0x80 0xBF d [] rest f.0 (omega (arith, f.1))
+one_later d rest f = grind (arith, common_steps)
 
 two_later : (d e : ℕ) (rest : List ℕ) → Follows d → Follows e
     → count_in (later 2) (d ∷ e ∷ rest) ≡ 2
-two_later d e rest f g =
-    more 0x80 0xBF d (later 1) (e ∷ rest) f.0 (omega (arith, f.1))
-    ∙ ap (λ n. 1 + n) (one_later e rest g)
+two_later d e rest f g = grind (arith, common_steps)
 
 none_in : (a : ℕ) → a < 194 → following a ≡ []
 none_in a h = grind (arith, nat_tests)
 
 none_above : (a : ℕ) → 245 ≤ a → following a ≡ []
 none_above a h = grind (arith, nat_tests)
-
--- a character's second byte is in the range
-in_two : (a b : ℕ) → 194 ≤ a → a < 224 → 128 ≤ b → b < 192 → (least a ≤ b) × (b ≤ most a)
-in_two a b l h p q = (grind (arith, nat_tests), grind (arith, nat_tests))
 
 in_three : (a b d c : ℕ) → 224 ≤ a → a < 240 → 128 ≤ b → b < 192 → 128 ≤ d → d < 192
     → c + 925824 ≡ a * 4096 + b * 64 + d → 2048 ≤ c
@@ -79,35 +57,21 @@ in_three a b d c l h p q p' q' n from s = (grind (arith, nat_tests), grind (arit
 in_four : (a b d e c : ℕ) → 240 ≤ a → 128 ≤ b → b < 192 → 128 ≤ d → d < 192 → 128 ≤ e
     → e < 192 → c + 63447168 ≡ a * 262144 + b * 4096 + d * 64 + e → 65536 ≤ c
     → c < 1114112 → (a < 245) × (least a ≤ b) × (b ≤ most a)
-in_four a b d e c l p q p' q' p'' q'' n from top =
-    (omega arith, grind (arith, nat_tests), grind (arith, nat_tests))
+in_four a b d e c l p q p' q' p'' q'' n from top = grind (arith, common_steps)
 
 -- a code of more bytes is of a greater character
 from_long : (c : ℕ) → ((2 ≤ len_utf8 c → 128 ≤ c) × (3 ≤ len_utf8 c → 2048 ≤ c))
     × (4 ≤ len_utf8 c → 65536 ≤ c)
-from_long c =
-    ((λ h. grind (arith, nat_tests), λ h. grind (arith, nat_tests)), λ h. grind (arith, nat_tests))
+from_long c = grind (arith, common_steps)
 
 fits : (c : ℕ) (rest : List ℕ) → IsScalar c → Shape c
     → subpart_len (encode_utf8 c ++ rest) ≡ length (encode_utf8 c)
-fits c rest s (of1 l e) =
-    subst (λ p. subpart_len (p ++ rest) ≡ length p) (sym e)
-    (ap (λ r. 1 + count_in r rest) (none_in c (omega (arith, l))))
-fits c rest s (of2 a b l h f n e) =
-    let from : 128 ≤ c = (from_long c).0.0 (omega (arith, ap length e, length-encode c)) in
-    let low : 194 ≤ a = omega (arith, f.1) in
-    subst (λ p. subpart_len (p ++ rest) ≡ length p) (sym e)
-    (at_row a b 0 rest (row_two a low h) (in_two a b low h f.0 f.1) refl)
+fits c rest s (of1 l e) = grind (arith, common_steps)
+fits c rest s (of2 a b l h f n e) = grind (arith, common_steps)
 fits c rest s (of3 a b d l h f g n e) =
-    let from : 2048 ≤ c = (from_long c).0.1 (omega (arith, ap length e, length-encode c)) in
-    let second = in_three a b d c l h f.0 f.1 g.0 g.1 n from (scalar_cases c s) in
-    subst (λ p. subpart_len (p ++ rest) ≡ length p) (sym e)
-    (at_row a b 1 (d ∷ rest) (row_three a l h) second (one_later d rest g))
+    search (rules, from_long, length-encode, in_three, scalar_cases, at_row, row_three, one_later)
 fits c rest s (of4 a b d x l h f g k n e) =
-    let from : 65536 ≤ c = (from_long c).1 (omega (arith, ap length e, length-encode c)) in
-    let p = in_four a b d x c l f.0 f.1 g.0 g.1 k.0 k.1 n from (scalar_below c s) in
-    subst (λ q. subpart_len (q ++ rest) ≡ length q) (sym e)
-    (at_row a b 2 (d ∷ x ∷ rest) (row_four a l p.0) (p.1, p.2) (two_later d x rest g k))
+    search (rules, from_long, length-encode, in_four, scalar_below, at_row, row_four, two_later)
 
 -- the code of each character fits its row in full, and no more does
 pub table_fits : (c : ℕ) (rest : List ℕ) → IsScalar c
@@ -120,8 +84,7 @@ in_front : (n : ℕ) (ranges : List (ℕ × ℕ)) (xs ys : List ℕ) → take n 
 in_front zero ranges xs ys same h = omega arith
 in_front (suc n) [] xs ys same h = absurd (omega (arith, h))
 in_front (suc n) (r ∷ ranges) xs [] same h = absurd (omega (arith, h))
-in_front (suc n) (r ∷ ranges) [] (y ∷ ys) same h = let none =
-    ap length same in absurd (omega (arith, none))
+in_front (suc n) (r ∷ ranges) [] (y ∷ ys) same h = grind (arith, common_steps)
 in_front (suc n) (r ∷ ranges) (x ∷ xs) (y ∷ ys) same h =
     let head : x ≡ y = ap (λ l. slice_index l 0) same in
     let tail : take n xs ≡ take n ys = ap (λ l. drop 1 l) same in
@@ -160,14 +123,7 @@ abbrev pub BeginsCode : List ℕ → Type 0
 BeginsCode bs = (c : ℕ) × (rest : List ℕ) × IsScalar c × (encode_utf8 c ≡ bs ++ rest)
 
 is_scalar : (c : ℕ) → (c < 55296) ⊎ ((57344 ≤ c) × (c < 1114112)) → IsScalar c
-is_scalar c h = ⊎_elim (λ l. low_scalar' c l) (λ r. high_scalar' c r.0 r.1) h
-  where
-    low_scalar' : (c : ℕ) → c < 55296 → IsScalar c
-    low_scalar' c l = cond-true _ _ _ (lt-ltb c 55296 l)
-
-    high_scalar' : (c : ℕ) → 57344 ≤ c → c < 1114112 → IsScalar c
-    high_scalar' c l h = cond-false _ _ _ (le-ltb c 55296 (omega (arith, l)))
-        ∙ and_from _ _ (le-leb 57344 c l) (lt-ltb c 1114112 h)
+is_scalar c h = grind (arith, common_steps)
 
 -- the k bytes that a row wants behind the second
 abbrev IsLater : ℕ → List ℕ → Type 0
@@ -220,8 +176,7 @@ codes_three a b l h p q (d ∷ ds) (p', q', none) =
 four_is : (a b d e c : ℕ) → 240 ≤ a → a < 245 → least a ≤ b → b ≤ most a → 128 ≤ d → d ≤ 191
     → 128 ≤ e → e ≤ 191 → c + 63447168 ≡ a * 262144 + b * 4096 + d * 64 + e
     → (65536 ≤ c) × (c < 1114112)
-four_is a b d e c l h p q p' q' p'' q'' n =
-    (grind (arith, nat_tests), grind (arith, nat_tests))
+four_is a b d e c l h p q p' q' p'' q'' n = grind (arith, common_steps)
 
 codes_four : (a b : ℕ) → 240 ≤ a → a < 245 → least a ≤ b → b ≤ most a → HasCodes a b 2
 codes_four a b l h p q [] ds = absurd ds
@@ -296,13 +251,7 @@ in_row a b k bs row codes h =
     (cases_Bool (is_in_range (least a) (most a) b))
 
 no_row : (a : ℕ) (bs : List ℕ) → following a ≡ [] → Begins (a ∷ bs)
-no_row a bs row h =
-    let short : subpart_len (a ∷ bs) ≡ 1 = ap (λ r. 1 + count_in r bs) row in
-    absurd (omega (arith, h, short))
-
-none_left : (ranges : List (ℕ × ℕ)) → count_in ranges [] ≡ 0
-none_left [] = refl
-none_left (r ∷ ranges) = refl
+no_row a bs row h = grind (arith, common_steps)
 
 by_row : (a b : ℕ) (bs : List ℕ) → Begins (a ∷ b ∷ bs)
 by_row a b bs =
@@ -316,5 +265,5 @@ by_row a b bs =
 -- the maximal subpart, where it has more than one byte, begins the code of some character
 pub table_begins : (bs : List ℕ) → 1 < subpart_len bs → BeginsCode (take (subpart_len bs) bs)
 table_begins [] h = absurd (omega (arith, h))
-table_begins (a ∷ []) h = absurd (omega (arith, h, none_left (following a)))
+table_begins (a ∷ []) h = grind (arith, common_steps)
 table_begins (a ∷ b ∷ bs) h = by_row a b bs h

@@ -1,15 +1,6 @@
 -- Texts and their bytes.
-use Rattle.std.proofs.Common.{◌≡◌, ℕ, ◌+◌, ◌≤◌, true, List, [], ◌∷◌, ◌++◌, length, take, drop, refl, sym, ap, ◌∙◌, arith, subst, length-append, take-append-drop, length-take-le, append-nil, Result, Ok, Err, is_ok, if◌then◌else◌, OnOk, OnErr, IsOk, Option, Some, None, MatchOption, IfSome, IfNone, IsTrue, ◌↔◌, nat_eq}
-use Rattle.std.proofs.lemmas.List.{append_assoc, nil_from_length}
-use Rattle.std.proofs.lemmas.Bool.{and_parts, eqb-true, eq-eqb}
-use Rattle.std.specs.declared.string.String.{String}
-use Rattle.std.specs.String.{string_bytes, string_len}
-use Rattle.std.proofs.lemmas.Str.{IsUtf8-string_bytes, length-le-encodes, length-encode, len_utf8_bounds}
-use Rattle.std.specs.Char.{encode_utf8}
-use Rattle.std.specs.Str.{chars, all_scalars, IsUtf8, IsCharBoundary}
+use Rattle.inlinable_string.proofs.Common.{common_steps, ◌≡◌, ℕ, ◌+◌, ◌≤◌, true, List, [], ◌∷◌, ◌++◌, length, take, drop, refl, sym, ap, ◌∙◌, arith, subst, length-append, take-append-drop, length-take-le, append-nil, Result, Ok, Err, is_ok, if◌then◌else◌, OnOk, OnErr, IsOk, Option, Some, None, MatchOption, IfSome, IfNone, IsTrue, ◌↔◌, nat_eq, rules, nil_from_length, and_parts, eqb-true, String, string_bytes, string_len, IsUtf8-string_bytes, length-le-encodes, length-encode, len_utf8_bounds, encode_utf8, chars, all_scalars, IsUtf8, IsCharBoundary, chars-nil, encodes-chars, scalars-chars, chars-append, chars_from_encodes, encodes-append, encodes_same, IsUtf8-take, IsCharBoundary-at_seam, bytes_of, size, IsCut, IsPlace, IsSplice, IsRemoval}
 use Rattle.std.specs.String.Boundary.{IsSplitPoint}
-use Rattle.std.proofs.lemmas.Str.{chars-nil, encodes-chars, scalars-chars, chars-append, chars_from_encodes, encodes-append, encodes_same, IsUtf8-take, IsCharBoundary-at_seam}
-use Rattle.inlinable_string.specs.Text.{bytes_of, size, IsCut, IsPlace, IsSplice, IsRemoval}
 
 pub size-chars : (bs : List ℕ) → IsUtf8 bs → size (chars bs) ≡ length bs
 size-chars bs u = ap length (encodes-chars bs u)
@@ -24,11 +15,7 @@ pub record Holds (t w : List ℕ) (l : ℕ) : Type 0 where
   pub long : length w ≡ l
 
 pub holds : {t bs : List ℕ} → IsUtf8 bs → bs ≡ bytes_of t → Holds t bs (length bs)
-holds {t} {bs} u e = record {
-  shown = sym (chars_from_encodes t bs u (sym e));
-  utf8 = u;
-  long = refl;
-}
+holds {t} {bs} u e = search (rules, chars_from_encodes)
 
 pub holds_chars : {bs : List ℕ} → IsUtf8 bs → Holds (chars bs) bs (length bs)
 holds_chars u = record { shown = refl; utf8 = u; long = refl }
@@ -94,36 +81,22 @@ pub popped-text : (r : Option ℕ) (old new : List ℕ) → IsUtf8 old → IsUtf
     → IfSome r (λ c. old ≡ new ++ encode_utf8 c) → IfNone r (length old ≡ 0)
     → length new ≤ length old
     → MatchOption r ((chars old ≡ []) × (chars new ≡ [])) (λ c. chars old ≡ chars new ++ c ∷ [])
-popped-text None old new u v some none le = (
-  ap chars (nil_from_length old none) ∙ chars-nil,
-  ap chars (nil_from_length new (omega (arith, none, le))) ∙ chars-nil,
-)
+popped-text None old new u v some none le = search (rules, nil_from_length, chars-nil)
 popped-text (Some c) old new u v some none le = popped-chars old new c u v some
 
 -- only the empty text has no byte
 pub nil_from_size : (t : List ℕ) → size t ≡ 0 → t ≡ []
 nil_from_size t h = nil_from_length t (omega (arith, h, length-le-encodes t))
 
--- a test for 0, and for the empty text
-pub zero_at_test : (n : ℕ) → IsTrue (nat_eq n 0) ↔ (n ≡ 0)
-zero_at_test n = (eqb-true n 0, eq-eqb n 0)
-
 pub empty_at_size : (t : List ℕ) → IsTrue (nat_eq (size t) 0) ↔ (t ≡ [])
 empty_at_size t = (λ h. nil_from_size t (eqb-true _ 0 h), λ e. rw e refl)
 
 -- what is put in at the end is pushed
 pub splice_at_end : (t u v : List ℕ) (p : ℕ) → p ≡ size t → IsSplice t p u v → v ≡ t ++ u
-splice_at_end t u v p end s =
-    let sizes = ap size s.cut.joined ∙ size-append s.front s.back in
-    let none = nil_from_size s.back (omega (arith, sizes, s.cut.before, end)) in
-    let whole = rw (none, append-nil) at s.cut.joined in
-    rw whole (rw (none, append-nil) at s.joined)
+splice_at_end t u v p end s = search (rules, size-append, nil_from_size)
 
 pub splice_at_start : (t u v : List ℕ) → IsSplice t 0 u v → v ≡ u ++ t
-splice_at_start t u v s =
-    let none = nil_from_size s.front s.cut.before in
-    let whole = rw none at s.cut.joined in
-    rw whole (rw none at s.joined)
+splice_at_start t u v s = search (rules, nil_from_size)
 
 -- the text stays where nothing is put in, and where a refusal leaves it
 pub kept : {T E : Type 0} (r : Result T E) (t v : List ℕ) (p : ℕ)
@@ -148,22 +121,14 @@ pub size-spliced : {t u v : List ℕ} {p : ℕ} → IsSplice t p u v → size v 
 size-spliced s = rw (s.joined, s.cut.joined) (simp size-append (omega arith))
 
 pub size-removed : {t v : List ℕ} {p c : ℕ} → IsRemoval t p c v → size v + size (c ∷ []) ≡ size t
-size-removed {c = c} r =
-    rw (r.joined, r.cut.joined) (simp size-append (omega (arith, size-append (c ∷ []) r.back)))
+size-removed {c = c} r = grind (arith, common_steps, size-append)
 
 -- where places are
 pub place_within : (t : List ℕ) (p : ℕ) → IsPlace t p → p ≤ size t
 place_within t p at = omega (arith, ap size at.2.joined, size-append at.0 at.1, at.2.before)
 
-pub place_before : {t u v : List ℕ} {p : ℕ} → IsSplice t p u v → IsPlace v p
-place_before {u = u} s =
-    let joined = s.joined ∙ append_assoc s.front u s.back in
-    (s.front, u ++ s.back, record { joined = joined; before = s.cut.before })
-
 pub place_behind : {t u v : List ℕ} {p : ℕ} → IsSplice t p u v → IsPlace v (p + size u)
-place_behind {u = u} s =
-    let before = size-append s.front u ∙ ap (λ n. n + size u) s.cut.before in
-    (s.front ++ u, s.back, record { joined = s.joined; before = before })
+place_behind {u = u} s = search (rules, size-append)
 
 pub place_left : {t v : List ℕ} {p c : ℕ} → IsRemoval t p c v → IsPlace v p
 place_left r = (r.front, r.back, record { joined = r.joined; before = r.cut.before })
@@ -194,5 +159,4 @@ size_bound (Some c) old new h = omega (arith, size-popped (Some c) old new h)
 
 -- a character has at most four bytes
 pub char_size : (c : ℕ) → size (c ∷ []) ≤ 4
-char_size c =
-    omega (arith, ap length (append-nil (encode_utf8 c)), length-encode c, len_utf8_bounds c)
+char_size c = search (rules, length-encode, len_utf8_bounds)

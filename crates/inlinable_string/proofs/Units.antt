@@ -1,30 +1,16 @@
 -- UTF-16: units with their neighbours, and the text that they give.
-use Rattle.std.proofs.Common.{◌≡◌, ℕ, zero, suc, ◌+◌, ◌-◌, ◌/◌, ◌%◌, ◌<◌, ◌≤◌, true, false, not, Bool, ◌&&◌, ◌||◌, List, [], ◌∷◌, ◌++◌, length, take, refl, ap, sym, ◌∙◌, subst, arith, add-one, ⊎_elim, append-nil, append_assoc}
-use Rattle.std.specs.Prelude.{slice_index, if◌then◌else◌}
-use Rattle.std.specs.Char.{IsScalar}
+use Rattle.inlinable_string.proofs.Common.{common_steps, ◌≡◌, ℕ, zero, suc, ◌+◌, ◌-◌, ◌/◌, ◌%◌, ◌<◌, ◌≤◌, true, false, not, Bool, ◌&&◌, ◌||◌, List, [], ◌∷◌, ◌++◌, length, take, refl, ap, sym, ◌∙◌, subst, arith, add-one, ⊎_elim, append-nil, append_assoc, rules, slice_index, if◌then◌else◌, IsScalar, all_scalars, IsAscii, scalar_cases, cases_lt, cases_Bool, and_parts, leb-true, ltb-true, cond-true, cond-false, lt-ltb, lt-leb, le-ltb, and_left, and_right, get_or_past, take_more, take_all, size, units_of, is_high_at, is_low_at, is_high_before, is_unpaired, HasUnpaired, lossy_unit, lossy_utf16_before, lossy_utf16}
 use Rattle.std.specs.Char.Escape.{encode_utf16}
 use Rattle.std.specs.Char.Utf16.{is_high_surrogate, is_low_surrogate, surrogate_pair_char}
-use Rattle.std.specs.Str.{all_scalars, IsAscii}
-use lib.Utf8.{scalar_cases}
-use Rattle.std.proofs.lemmas.Bool.{cases_lt, cases_Bool, and_parts, leb-true, ltb-true, cond-true, cond-false, le-leb, lt-ltb, lt-leb, le-ltb, and_left, and_right, and_from}
-use Rattle.std.proofs.lemmas.List.{get_or_past, take_more, take_all}
-use Rattle.inlinable_string.specs.Text.{size}
 use Rattle.inlinable_string.proofs.Text.{size-append}
-use Rattle.inlinable_string.specs.Utf16.{units_of, is_high_at, is_low_at, is_high_before, is_unpaired, HasUnpaired, lossy_unit, lossy_utf16_before, lossy_utf16}
 
 clash : {b : Bool} → b ≡ true → b ≡ false → ⊥
 clash t f = cc
 
--- past the end no unit is unpaired
-none_past : (v : List ℕ) (i : ℕ) → length v ≤ i → is_unpaired v i ≡ false
-none_past v i h = rw (get_or_past v i 0 h)
-
--- so those before it decide
+-- past the end no unit is unpaired, so those before it decide
 pub none_unpaired : (v : List ℕ) → ((j : ℕ) → j < length v → is_unpaired v j ≡ false)
     → HasUnpaired v → ⊥
-none_unpaired v none some =
-    ⊎_elim (λ h. clash some.1 (none some.0 h)) (λ h. clash some.1 (none_past v some.0 h))
-    (cases_lt some.0 (length v))
+none_unpaired v none some = grind (arith, common_steps)
 
 pub all_paired : (v : List ℕ) → (HasUnpaired v → ⊥) → (i : ℕ) → is_unpaired v i ≡ false
 all_paired v none i = ⊎_elim (λ h. absurd (none (i, h))) (λ h. h) (cases_Bool (is_unpaired v i))
@@ -37,9 +23,7 @@ lossy_more v i = ap (lossy_utf16_before v) (add-one i)
 -- more units give no fewer bytes
 pub lossy_grows : (v : List ℕ) (i n : ℕ) → i ≤ n
     → size (lossy_utf16_before v i) ≤ size (lossy_utf16_before v n)
-lossy_grows v i zero h =
-    let e : i ≡ 0 = omega arith in
-    subst (λ k. size (lossy_utf16_before v i) ≤ size (lossy_utf16_before v k)) e (omega arith)
+lossy_grows v i zero h = grind (arith, common_steps)
 lossy_grows v i (suc n) h = ⊎_elim
     (λ (below : i < suc n).
     let more = size-append (lossy_utf16_before v n) (lossy_unit v n) in
@@ -62,8 +46,7 @@ lossy_counted_within v i h =
 
 units-append : (a b : List ℕ) → units_of (a ++ b) ≡ units_of a ++ units_of b
 units-append [] b = refl
-units-append (c ∷ a) b = ap (λ u. encode_utf16 c ++ u) (units-append a b)
-    ∙ sym (append_assoc (encode_utf16 c) (units_of a) (units_of b))
+units-append (c ∷ a) b = grind (arith, common_steps, units-append a b)
 
 -- the numbers of surrogates
 pub high_range : (u : ℕ) → is_high_surrogate u ≡ true → (0xD800 ≤ u) × (u < 0xDC00)
@@ -76,13 +59,7 @@ low_range u h = let p = and_parts _ _ h in (leb-true _ _ p.0, ltb-true _ _ p.1)
 high_is_not_low : (u : ℕ) → is_high_surrogate u ≡ true → is_low_surrogate u ≡ false
 high_is_not_low u h = and_left _ _ (lt-leb 0xDC00 u (high_range u h).1)
 
--- a high unit that is paired has a low one behind it
-paired_high : (h l x : Bool) → h ≡ true → ((h && not l) || x) ≡ false → l ≡ true
-paired_high true true x e f = refl
-paired_high true false x e f = absurd (clash refl f)
-paired_high false l x e f = absurd (clash e refl)
-
--- and a low one that is paired has a high one before it
+-- a low unit that is paired has a high one before it
 paired_low : (x y l b : Bool) → x ≡ false → l ≡ true → ((x && y) || (l && not b)) ≡ false → b ≡ true
 paired_low false y true true e g f = refl
 paired_low false y true false e g f = absurd (clash refl f)
@@ -111,15 +88,11 @@ two_units c h = cond-false _ _ _ (le-ltb c 0x1_0000 h)
 
 pair_units : (h l : ℕ) → (0xD800 ≤ h) × (h < 0xDC00) → (0xDC00 ≤ l) × (l < 0xE000)
     → encode_utf16 (surrogate_pair_char h l) ≡ h ∷ l ∷ []
-pair_units h l p q =
-    let c = surrogate_pair_char h l in
-    let first : 0xD800 + (c - 0x1_0000) / 0x400 ≡ h = omega (arith, p.0, p.1, q.0, q.1) in
-    let second : 0xDC00 + (c - 0x1_0000) % 0x400 ≡ l = omega (arith, p.0, p.1, q.0, q.1) in
-    two_units c (omega arith) ∙ (λ i. first i ∷ second i ∷ [])
+pair_units h l p q = grind (arith, common_steps)
 
 module _ (v : List ℕ) (paired : (i : ℕ) → is_unpaired v i ≡ false) where
   low_after : (i : ℕ) → is_high_at v i ≡ true → is_low_at v (i + 1) ≡ true
-  low_after i h = paired_high _ _ _ h (paired i)
+  low_after i h = grind (arith, common_steps)
 
   -- behind a high unit stands a low one
   low_here : (i : ℕ) → is_high_before v i ≡ true → is_low_at v i ≡ true
@@ -127,16 +100,14 @@ module _ (v : List ℕ) (paired : (i : ℕ) → is_unpaired v i ≡ false) where
   low_here (suc i) h = ap (is_low_at v) (sym (add-one i)) ∙ low_after i h
 
   not_before : (i : ℕ) → is_low_at v i ≡ false → is_high_before v i ≡ false
-  not_before i l = ⊎_elim (λ h. absurd (clash (low_here i h) l)) (λ h. h)
-      (cases_Bool (is_high_before v i))
+  not_before i l = search (rules, clash, low_here, cases_Bool)
 
   -- how many units those before n have given: a pair is given by its first
   abbrev read_to : ℕ → ℕ
   read_to n = if is_high_before v n then n + 1 else n
 
   low_within : (i : ℕ) → is_low_at v i ≡ true → i < length v
-  low_within i l = ⊎_elim (λ h. h) (λ h. absurd (clash l (rw (get_or_past v i 0 h) refl)))
-      (cases_lt i (length v))
+  low_within i l = grind (arith, common_steps)
 
   module _ (fits : (i : ℕ) → slice_index v i < 0x1_0000) where
     abbrev StepsAt : ℕ → Type 0
@@ -164,50 +135,26 @@ module _ (v : List ℕ) (paired : (i : ℕ) → is_unpaired v i ≡ false) where
     one_more n h = ap (λ k. take k v) (cond-false _ _ _ h ∙ sym (add-one n))
 
     low : (n : ℕ) → is_high_at v n ≡ false → is_low_at v n ≡ true → StepsAt n
-    low n h l =
-        let before : is_high_before v n ≡ true = paired_low _ _ _ _ h l (paired n) in
-        let from : take (read_to n) v ≡ take (n + 1) v =
-        ap (λ k. take k v) (cond-true _ _ _ before) in
-        (λ i. from i ++ units_of (gives_none v n (paired n) h l i)) ∙ append-nil _
-        ∙ sym (one_more n h)
+    low n h l = search (rules, paired_low, cond-true, gives_none, one_more)
 
     plain : (n : ℕ) → n < length v → is_high_at v n ≡ false → is_low_at v n ≡ false → StepsAt n
     plain n below h l =
-        let u = slice_index v n in
-        let before : is_high_before v n ≡ false = not_before n l in
-        let from : take (read_to n) v ≡ take n v = ap (λ k. take k v) (cond-false _ _ _ before) in
-        let gives : units_of (lossy_unit v n) ≡ u ∷ [] =
-        ap units_of (gives_itself v n (paired n) h l) ∙ append-nil _ ∙ one_unit u (fits n) in
-        (λ i. from i ++ gives i) ∙ sym (take_more v n 0 below) ∙ sym (one_more n h)
+        search (rules, not_before, cond-false, gives_itself, one_unit, take_more, one_more)
 
     step : (n : ℕ) → n < length v → StepsAt n
-    step n below = ⊎_elim (high n below)
-        (λ h. ⊎_elim (low n h) (plain n below h) (cases_Bool (is_low_at v n)))
-        (cases_Bool (is_high_at v n))
+    step n below = grind (arith, common_steps, high, low, plain, cases_Bool)
 
     read : (n : ℕ) → n ≤ length v → units_of (lossy_utf16_before v n) ≡ take (read_to n) v
     read zero h = refl
-    read (suc n) h =
-        units-append (lossy_utf16_before v n) (lossy_unit v n)
-        ∙ ap (λ x. x ++ units_of (lossy_unit v n)) (read n (omega (arith, h)))
-        ∙ step n (omega (arith, h))
+    read (suc n) h = search (rules, read n (omega (arith, h)), units-append, step)
 
     -- units of which each is paired are those of the text that they are read as
     pub units-lossy : units_of (lossy_utf16 v) ≡ v
-    units-lossy =
-        let none : is_low_at v (length v) ≡ false =
-        rw (get_or_past v (length v) 0 (omega arith)) refl in
-        read (length v) (omega arith)
-        ∙ ap (λ k. take k v) (cond-false _ _ _ (not_before (length v) none))
-        ∙ take_all (length v) v (omega arith)
+    units-lossy = search (rules, get_or_past, read, cond-false, not_before, take_all)
 
 -- units of ASCII are read as they are
 ascii_gives : (v : List ℕ) → IsAscii v → (i : ℕ) → lossy_unit v i ≡ slice_index v i ∷ []
-ascii_gives v a i =
-    let u = slice_index v i in
-    let high : is_high_at v i ≡ false = and_left _ _ (lt-leb 0xD800 u (omega (arith, a i))) in
-    let low : is_low_at v i ≡ false = and_left _ _ (lt-leb 0xDC00 u (omega (arith, a i))) in
-    gives_itself v i (rw (high, low) refl) high low
+ascii_gives v a i = grind (arith, common_steps)
 
 ascii_read : (v : List ℕ) → IsAscii v → (n : ℕ) → n ≤ length v → lossy_utf16_before v n ≡ take n v
 ascii_read v a zero h = refl
@@ -231,20 +178,12 @@ by_next v i = ap (unpaired_next v i) (add-one i)
 
 past_first : (u : ℕ) (v : List ℕ) (i : ℕ) → is_high_surrogate u ≡ false
     → is_unpaired (u ∷ v) (suc i) ≡ is_unpaired v i
-past_first u v zero h = ap
-    (λ b. (is_high_at v 0 && not (is_low_at v 1)) || (is_low_at v 0 && not b)) h
+past_first u v zero h = grind (arith, common_steps)
 past_first u v (suc i) h = by_next (u ∷ v) (suc (suc i)) ∙ sym (by_next v (suc i))
 
 scalar_is_no_surrogate : (c : ℕ) → IsScalar c
     → (is_high_surrogate c ≡ false) × (is_low_surrogate c ≡ false)
-scalar_is_no_surrogate c s = ⊎_elim
-    (λ h. (and_left _ _ (lt-leb 0xD800 c h), and_left _ _ (lt-leb 0xDC00 c (omega (arith, h)))))
-    (λ h. (
-      and_right _ _ (le-ltb c 0xDC00 (omega (arith, h.0))),
-      and_right _ _
-          (le-ltb c 0xE000 h.0),
-    ))
-    (scalar_cases c s)
+scalar_is_no_surrogate c s = grind (arith, common_steps)
 
 scalar_below : (c : ℕ) → IsScalar c → c < 0x11_0000
 scalar_below c s = ⊎_elim (λ h. omega (arith, h)) (λ h. h.1) (scalar_cases c s)
@@ -252,14 +191,10 @@ scalar_below c s = ⊎_elim (λ h. omega (arith, h)) (λ h. h.1) (scalar_cases c
 -- the two units of a character above U+FFFF
 first_is_high : (c : ℕ) → 0x1_0000 ≤ c → c < 0x11_0000
     → is_high_surrogate (0xD800 + (c - 0x1_0000) / 0x400) ≡ true
-first_is_high c l h = let u =
-    0xD800 + (c - 0x1_0000) / 0x400 in
-    and_from _ _ (le-leb 0xD800 u (omega arith)) (lt-ltb u 0xDC00 (omega (arith, l, h)))
+first_is_high c l h = grind (arith, common_steps)
 
 second_is_low : (c : ℕ) → is_low_surrogate (0xDC00 + (c - 0x1_0000) % 0x400) ≡ true
-second_is_low c = let u =
-    0xDC00 + (c - 0x1_0000) % 0x400 in
-    and_from _ _ (le-leb 0xDC00 u (omega arith)) (lt-ltb u 0xE000 (omega arith))
+second_is_low c = grind (arith, common_steps)
 
 low_is_not_high : (u : ℕ) → is_low_surrogate u ≡ true → is_high_surrogate u ≡ false
 low_is_not_high u l = and_right _ _ (le-ltb u 0xDC00 (low_range u l).0)
@@ -279,7 +214,7 @@ one_is_paired u v p q rest (suc i) = past_first u v i p ∙ rest i
 
 pub text_is_paired : (t : List ℕ) → all_scalars t ≡ true → (i : ℕ)
     → is_unpaired (units_of t) i ≡ false
-text_is_paired [] s i = none_past [] i (omega arith)
+text_is_paired [] s i = grind (arith, common_steps)
 text_is_paired (c ∷ t) s i =
     let p = and_parts _ _ s in
     let rest = text_is_paired t p.1 in
@@ -300,8 +235,7 @@ given unpaired high low u next =
     else (if low then [] else u ∷ []))
 
 next_behind : (u : ℕ) (v : List ℕ) (n : ℕ) → slice_index (u ∷ v) (suc n + 1) ≡ slice_index v (n + 1)
-next_behind u v n =
-    ap (slice_index (u ∷ v)) (add-one (suc n)) ∙ sym (ap (slice_index v) (add-one n))
+next_behind u v n = grind (arith, common_steps)
 
 -- behind a unit that is not high, units give what they give by themselves
 behind_one : (u : ℕ) (v : List ℕ) (n : ℕ) → is_high_surrogate u ≡ false
@@ -327,9 +261,7 @@ read_behind : (w v x : List ℕ) (at : ℕ → ℕ) → lossy_utf16_before w (at
     → (n : ℕ) → lossy_utf16_before w (at n) ≡ x ++ lossy_utf16_before v n
 read_behind w v x at first more zero = first ∙ sym (append-nil x)
 read_behind w v x at first more (suc n) =
-    more n
-    ∙ ap (λ y. y ++ lossy_unit v n) (read_behind w v x at first more n)
-    ∙ append_assoc x (lossy_utf16_before v n) (lossy_unit v n)
+    grind (arith, common_steps, read_behind w v x at first more n)
 
 one_is_read : (u : ℕ) (v : List ℕ) → is_high_surrogate u ≡ false → is_low_surrogate u ≡ false
     → lossy_utf16 (u ∷ v) ≡ u ∷ lossy_utf16 v

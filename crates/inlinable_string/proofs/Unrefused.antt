@@ -1,13 +1,5 @@
 -- Runs in which no memory is refused: their replies and their text are those of plain edits.
-use Rattle.std.proofs.Common.{◌≡◌, ◌≢◌, ◌↔◌, ℕ, zero, suc, ◌<◌, ◌^◌, inl, inr, true, List, [], ◌∷◌, take, refl, sym, ap, ◌∙◌, arith, subst, Contains, Some, slice_get}
-use Rattle.inlinable_string.specs.State.{TextState, IsLawful}
-use Rattle.inlinable_string.specs.Edit.{edit, reply_of, text_left, text_after_step, text_after}
-use Rattle.inlinable_string.specs.Run.{Need, reserved, need_of, state_after_step, IsCounted, IsLegal, LegalReplies}
-use Rattle.inlinable_string.specs.Laws.{replies_of, text_after_edits, ReservesWithin, LeavesWithin, StaysWithin}
-use Rattle.inlinable_string.specs.declared.string_ext.Storage.TheVariants.{Inline}
-use Rattle.inlinable_string.specs.declared.run.Command.{Command}
-use Rattle.inlinable_string.specs.declared.run.Reply.{Reply}
-use Rattle.inlinable_string.specs.declared.run.Reply.TheVariants.{Done, NoMemory}
+use Rattle.inlinable_string.proofs.Common.{common_steps, ◌≡◌, ◌≢◌, ◌↔◌, ℕ, zero, suc, ◌<◌, ◌^◌, inl, true, List, [], ◌∷◌, take, refl, sym, ap, ◌∙◌, arith, subst, Contains, Some, slice_get, rules, TextState, IsLawful, edit, reply_of, text_left, text_after_step, text_after, Need, reserved, need_of, state_after_step, IsCounted, IsLegal, LegalReplies, replies_of, text_after_edits, ReservesWithin, LeavesWithin, StaysWithin, Inline, Command, Reply, Done, NoMemory}
 use Rattle.inlinable_string.proofs.Edits.{never_refused, text_granted}
 use Rattle.inlinable_string.proofs.ShortRuns.{short_step, short_run_never_asks}
 
@@ -23,16 +15,13 @@ refused_later reply replies has = (suc has.0, omega (arith, has.1), has.2)
 -- a legal reply that refuses nothing is that of `edit`
 answered : (s : TextState) (command : Command) (reply : Reply) → IsLegal s command reply
     → reply ≢ NoMemory → reply ≡ reply_of (edit s.text command)
-answered s command reply legal given =
-    elim legal.answer [ inl same ↦ same | inr refused ↦ absurd (given refused.0) ]
+answered s command reply legal given = grind (arith, common_steps)
 
 -- so are all of them
 pub unrefused_replies : (s : TextState) (commands : List Command) (replies : List Reply)
     → LegalReplies s commands replies → ¬ Contains replies NoMemory
     → replies ≡ replies_of s.text commands
 unrefused_replies s [] [] legal given = refl
-unrefused_replies s [] (r ∷ replies) legal given = absurd legal
-unrefused_replies s (c ∷ commands) [] legal given = absurd legal
 unrefused_replies s (c ∷ commands) (r ∷ replies) legal given =
     let here : r ≢ NoMemory = λ is. given (refused_first r replies is) in
     let same : r ≡ reply_of (edit s.text c) = answered s c r legal.0 here in
@@ -42,19 +31,19 @@ unrefused_replies s (c ∷ commands) (r ∷ replies) legal given =
     text_granted s.text c r here in
     ap (λ x. x ∷ replies) same
     ∙ ap (λ l. reply_of (edit s.text c) ∷ l) (rest ∙ ap (λ t. replies_of t commands) text)
+unrefused_replies s commands replies legal given = absurd legal
 
 -- and the text is that of the edits
 pub unrefused_text : (s : TextState) (commands : List Command) (replies : List Reply)
     → LegalReplies s commands replies → ¬ Contains replies NoMemory
     → text_after s.text commands replies ≡ text_after_edits s.text commands
 unrefused_text s [] [] legal given = refl
-unrefused_text s [] (r ∷ replies) legal given = absurd legal
-unrefused_text s (c ∷ commands) [] legal given = absurd legal
 unrefused_text s (c ∷ commands) (r ∷ replies) legal given =
     let text : text_after_step s.text c r ≡ text_left s.text (edit s.text c) =
     text_granted s.text c r (λ is. given (refused_first r replies is)) in
     unrefused_text (state_after_step s c r) commands replies legal.1
     (λ has. given (refused_later r replies has)) ∙ ap (λ t. text_after_edits t commands) text
+unrefused_text s commands replies legal given = absurd legal
 
 -- a reservation within a limit that a `usize` counts is counted
 counted_within : (s : TextState) (need : Need) (reply : Reply) → s.policy.limit < 2 ^ 64
@@ -88,29 +77,22 @@ short_replies_are_legal s (c ∷ commands) demotes inline small within =
 pub short_replies : (s : TextState) (commands : List Command) (replies : List Reply) → IsLawful s
     → s.storage ≡ Inline → StaysWithin s.policy.limit s.text commands
     → LegalReplies s commands replies ↔ (replies ≡ replies_of s.text commands)
-short_replies s commands replies laws inline within = (
-  λ legal. unrefused_replies s commands replies legal
-      (short_run_never_asks s commands replies laws inline within legal),
-  λ same. subst (LegalReplies s commands) (sym same)
-      (short_replies_are_legal s commands (laws.inline_demotes inline) inline
-      (omega (arith, laws.bounded, laws.inline_room inline)) within),
-)
+short_replies s commands replies laws inline within =
+    search (rules, unrefused_replies, short_run_never_asks, short_replies_are_legal)
 
 pub short_text : (s : TextState) (commands : List Command) (replies : List Reply) → IsLawful s
     → s.storage ≡ Inline → StaysWithin s.policy.limit s.text commands
     → LegalReplies s commands replies
     → text_after s.text commands replies ≡ text_after_edits s.text commands
 short_text s commands replies laws inline within legal =
-    unrefused_text s commands replies legal
-    (short_run_never_asks s commands replies laws inline within legal)
+    search (rules, unrefused_text, short_run_never_asks)
 
 -- each command in its turn
 pub stays_at : (n : ℕ) (t : List ℕ) (commands : List Command) (i : ℕ) (command : Command)
     → StaysWithin n t commands → slice_get commands i ≡ Some command
     → LeavesWithin n (text_after_edits t (take i commands)) command
 stays_at n t [] i command within is = cc
-stays_at n t (c ∷ commands) zero command within is =
-    let same : c ≡ command = cc in subst (LeavesWithin n t) same within.0
+stays_at n t (c ∷ commands) zero command within is = grind (arith, common_steps)
 stays_at n t (c ∷ commands) (suc i) command within is =
     stays_at n (text_left t (edit t c)) commands i command within.1 is
 

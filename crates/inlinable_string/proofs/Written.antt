@@ -1,8 +1,5 @@
 -- What is written into a text.
-use Rattle.std.proofs.Common.{◌≡◌, List, ℕ, ◌++◌, ap, ◌∙◌}
-use Rattle.std.specs.Str.{chars, IsUtf8}
-use Rattle.std.proofs.lemmas.Str.{encodes-append, encodes-chars}
-use Rattle.inlinable_string.specs.Text.{bytes_of}
+use Rattle.inlinable_string.proofs.Common.{◌≡◌, List, ℕ, ◌++◌, ap, ◌∙◌, chars, IsUtf8, encodes-append, encodes-chars, bytes_of}
 
 -- a string that is appended adds its bytes
 pub bytes_of-written : (t s v : List ℕ) → IsUtf8 s → v ≡ t ++ chars s

@@ -1,17 +1,10 @@
-use Rattle.std.proofs.Common.{refl}
+use Rattle.std.proofs.Common.{rules}
 use Rattle.inlinable_string.proofs.Cut.{not_from_test}
-use Rattle.inlinable_string.proofs.Steps.{push_done, insert_done, insert_refused, insert_misplaced, truncate_done, truncate_misplaced, pop_char, remove_char, remove_misplaced, remove_at_end, replace_done, replace_not_utf8}
+use Rattle.inlinable_string.proofs.Steps.{insert_done, insert_refused, insert_misplaced, truncate_done, truncate_misplaced, pop_char, remove_char, remove_misplaced, remove_at_end, replace_done, replace_not_utf8}
 use Rattle.inlinable_string.proofs.run.obey.Goals as goal
 
-pub returns-in-Ok : goal.returns-in-Ok
-returns-in-Ok g c laws =
-    let e = c.in-Ok.ensures in
-    rw c.in-Push.is (push_done _ _ _ laws e.text e.storage e.room e.policy)
-
 pub returns-in-Ok-insert : goal.returns-in-Ok-insert
-returns-in-Ok-insert g c laws =
-    let e = c.in-Ok-insert.ensures in
-    rw c.in-Insert.is (insert_done _ _ _ _ laws e.text e.storage e.policy)
+returns-in-Ok-insert g c laws = search (rules, insert_done)
 
 pub returns-in-Err-insert : goal.returns-in-Err-insert
 returns-in-Err-insert g c laws =
@@ -25,9 +18,7 @@ returns-else-is_char_boundary g c laws =
     rw c.in-Insert.is (insert_misplaced _ _ _ none)
 
 pub returns-then-is_char_boundary-2 : goal.returns-then-is_char_boundary-2
-returns-then-is_char_boundary-2 g c laws =
-    let e = c.truncate.ensures in
-    rw c.in-Truncate.is (truncate_done _ _ _ _ laws e.text.1 e.storage e.policy)
+returns-then-is_char_boundary-2 g c laws = search (rules, truncate_done)
 
 pub returns-else-is_char_boundary-2 : goal.returns-else-is_char_boundary-2
 returns-else-is_char_boundary-2 g c laws =
@@ -36,9 +27,7 @@ returns-else-is_char_boundary-2 g c laws =
     rw c.in-Truncate.is (truncate_misplaced _ _ none)
 
 pub returns-in-Some : goal.returns-in-Some
-returns-in-Some g c laws =
-    let e = c.in-Some.ensures in
-    rw c.in-Pop.is (pop_char _ _ _ laws e.text e.storage e.policy)
+returns-in-Some g c laws = search (rules, pop_char)
 
 pub returns-then-not-is_char_boundary : goal.returns-then-not-is_char_boundary
 returns-then-not-is_char_boundary g c laws =
@@ -47,24 +36,13 @@ returns-then-not-is_char_boundary g c laws =
     rw c.in-Remove.is (remove_misplaced _ _ none)
 
 pub returns-then-idx-len : goal.returns-then-idx-len
-returns-then-idx-len g c laws =
-    let e = c.remove.ensures in
-    rw c.in-Remove.is (remove_char _ _ _ _ laws e.text e.storage e.policy)
+returns-then-idx-len g c laws = search (rules, remove_char)
 
 pub returns-else-idx-len : goal.returns-else-idx-len
-returns-else-idx-len g c laws =
-    let place = c.is_char_boundary-in-Remove.ensures.0 c.if-not-is_char_boundary.false in
-    let e = c.len.ensures in
-    rw c.in-Remove.is (remove_at_end _ _ place (rw e.value at c.if-idx-len.false))
+returns-else-idx-len g c laws = search (rules, remove_at_end)
 
 pub returns-in-Ok-replace_bytes : goal.returns-in-Ok-replace_bytes
-returns-in-Ok-replace_bytes g c laws =
-    let e = c.in-Ok-replace_bytes.ensures in
-    rw c.in-ReplaceBytes.is
-    (replace_done _ _ _ laws e.text e.same_length e.well_formed e.storage e.policy)
+returns-in-Ok-replace_bytes g c laws = search (rules, replace_done)
 
 pub returns-in-Err-NotUtf8 : goal.returns-in-Err-NotUtf8
-returns-in-Err-NotUtf8 g c laws =
-    let e = rw c.in-Err-NotUtf8.field-0-is at c.in-Err-NotUtf8.ensures in
-    let not = e.not_utf8 refl in
-    rw c.in-ReplaceBytes.is (replace_not_utf8 _ _ _ laws e.err not.0 not.1 e.policy)
+returns-in-Err-NotUtf8 g c laws = search (rules, replace_not_utf8)

@@ -1,5 +1,4 @@
-use Rattle.inlinable_string.specs.Joins.{text_of_char_refs}
-use Rattle.inlinable_string.specs.Values.{inlinable_state}
+use Rattle.inlinable_string.proofs.Common.{text_of_char_refs, inlinable_state}
 use Rattle.inlinable_string.proofs.Extended.{Grown}
 use Rattle.inlinable_string.proofs.inlinable_string.InlinableStringN.extend_char_refs.Given as goal
 

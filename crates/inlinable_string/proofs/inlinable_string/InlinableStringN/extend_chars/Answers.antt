@@ -1,5 +1,4 @@
-use Rattle.std.proofs.Common.{refl}
-use Rattle.inlinable_string.specs.Joins.{text_of_chars}
+use Rattle.inlinable_string.proofs.Common.{refl, text_of_chars}
 use Rattle.inlinable_string.proofs.Extended.{grown_more, finished, stopped, refused, all_fit}
 use Rattle.inlinable_string.proofs.inlinable_string.InlinableStringN.extend_chars.Goals as goal
 

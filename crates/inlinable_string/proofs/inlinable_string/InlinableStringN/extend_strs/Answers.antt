@@ -1,5 +1,4 @@
-use Rattle.std.proofs.Common.{sym}
-use Rattle.inlinable_string.specs.Joins.{text_of_strs}
+use Rattle.inlinable_string.proofs.Common.{sym, text_of_strs}
 use Rattle.inlinable_string.proofs.Text.{size-chars}
 use Rattle.inlinable_string.proofs.Extended.{text_of_strs-more, grown_more, finished, stopped, refused, all_fit}
 use Rattle.inlinable_string.proofs.inlinable_string.InlinableStringN.extend_strs.Goals as goal

@@ -1,5 +1,4 @@
-use Rattle.inlinable_string.specs.Joins.{text_of_strs}
-use Rattle.inlinable_string.specs.Values.{inlinable_state}
+use Rattle.inlinable_string.proofs.Common.{text_of_strs, inlinable_state}
 use Rattle.inlinable_string.proofs.Extended.{Grown}
 use Rattle.inlinable_string.proofs.inlinable_string.InlinableStringN.extend_strs.Given as goal
 

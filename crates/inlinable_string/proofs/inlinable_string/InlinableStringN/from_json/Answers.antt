@@ -1,12 +1,7 @@
-use Rattle.std.proofs.Common.{◌≡◌, sym, ap, ◌∙◌, rules}
-use Rattle.std.specs.String.{string_bytes}
-use Rattle.std.proofs.lemmas.Str.{encodes-chars}
+use Rattle.inlinable_string.proofs.Common.{rules, ◌≡◌, sym, ap, ◌∙◌, string_bytes, encodes-chars, bytes_of}
 use Rattle.serde_json.specs.Data.{string}
 use Rattle.serde_json.specs.View.{view}
 use Rattle.serde_json.specs.declared.value.Value.{the_lemmas}
-use Rattle.inlinable_string.specs.Text.{bytes_of, size}
-use Rattle.inlinable_string.specs.State.{storage_when_made}
-use Rattle.inlinable_string.specs.Values.{inlinable_policy}
 use Rattle.inlinable_string.proofs.Text.{size-chars}
 use Rattle.inlinable_string.proofs.inlinable_string.InlinableStringN.from_json.Goals as goal
 
@@ -18,6 +13,4 @@ returns-clause-text g c =
     is_string ∙ ap string (sym (bytes ∙ c.as_str.ensures.value))
 
 pub returns-clause-storage : goal.returns-clause-storage
-returns-clause-storage g c =
-    let long = ap size c.in_ok-made.ensures.text ∙ size-chars _ c.as_str.utf8 in
-    c.in_ok-made.ensures.storage ∙ ap (storage_when_made (inlinable_policy g.row.N)) (sym long)
+returns-clause-storage g c = search (rules, size-chars)

@@ -1,5 +1,5 @@
-use Rattle.inlinable_string.specs.Joins.{text_of_strs}
-use Rattle.inlinable_string.proofs.Extended.{joined_text, joined_storage, refused_above, refused, all_within}
+use Rattle.inlinable_string.proofs.Common.{text_of_strs}
+use Rattle.inlinable_string.proofs.Extended.{joined_text, refused_above, refused}
 use Rattle.inlinable_string.proofs.inlinable_string.InlinableStringN.from_strs.Goals as goal
 
 pub returns-in_err-extend_strs-clause-err : goal.returns-in_err-extend_strs-clause-err
@@ -9,22 +9,8 @@ returns-in_err-extend_strs-clause-err g c =
     (refused_above text_of_strs g.row.N _ _ made.result made.ensures.text made.ensures.storage _
     c.in_err-extend_strs.ensures.err)
 
-pub returns-in_err-extend_strs-clause-granted : goal.returns-in_err-extend_strs-clause-granted
-returns-in_err-extend_strs-clause-granted g c within =
-    let made = c.new-made in
-    absurd (all_within text_of_strs g.row.N _ _
-    (refused_above text_of_strs g.row.N _ _ made.result made.ensures.text made.ensures.storage _
-    c.in_err-extend_strs.ensures.err)
-    within)
-
 pub returns-clause-text : goal.returns-clause-text
 returns-clause-text g c =
     let made = c.new-made in
     joined_text text_of_strs g.row.N _ _ made.result made.ensures.text made.ensures.storage _
-    c.in_ok-extend_strs.ensures.ok
-
-pub returns-clause-storage : goal.returns-clause-storage
-returns-clause-storage g c =
-    let made = c.new-made in
-    joined_storage text_of_strs g.row.N _ _ made.result made.ensures.text made.ensures.storage _
     c.in_ok-extend_strs.ensures.ok

@@ -1,6 +1,4 @@
-use Rattle.std.proofs.Common.{ap, ◌∙◌, ◌++◌}
-use Rattle.std.specs.Str.{chars}
-use Rattle.std.proofs.lemmas.Str.{chars-append}
+use Rattle.inlinable_string.proofs.Common.{ap, ◌∙◌, ◌++◌, chars, chars-append}
 use Rattle.inlinable_string.proofs.Text.{size-pushed_str}
 use Rattle.inlinable_string.proofs.inlinable_string.InlinableStringN.promote_appending.Goals as goal
 

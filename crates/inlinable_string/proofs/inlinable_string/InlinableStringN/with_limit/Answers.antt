@@ -1,7 +1,4 @@
-use Rattle.std.proofs.Common.{sym, ap, ◌∙◌}
-use Rattle.std.proofs.lemmas.Str.{IsUtf8-string_bytes}
-use Rattle.inlinable_string.specs.State.{storage_when_made}
-use Rattle.inlinable_string.specs.Values.{inlinable_policy}
+use Rattle.inlinable_string.proofs.Common.{sym, ap, ◌∙◌, IsUtf8-string_bytes, storage_when_made, inlinable_policy}
 use Rattle.inlinable_string.proofs.Text.{size-chars}
 use Rattle.inlinable_string.proofs.inlinable_string.InlinableStringN.with_limit.Goals as goal
 

@@ -1,15 +1,6 @@
-use Rattle.std.proofs.Common.{arith}
-use Rattle.std.proofs.lemmas.Result.{on_ok_weaker, on_err_weaker}
+use Rattle.inlinable_string.proofs.Common.{rules}
 use Rattle.inlinable_string.proofs.Text.{kept}
 use Rattle.inlinable_string.proofs.inlinable_string.InlinableStringNStringExt.reserve_exact.Goals as goal
 
 pub returns-else-additional-len-clause-text : goal.returns-else-additional-len-clause-text
-returns-else-additional-len-clause-text g c =
-    let e = c.promote.ensures in
-    let same = on_err_weaker c.promote.result (λ same. same.text) e.err in
-    rw c.in-Inline.is (kept c.promote.result _ _ _ e.text same)
-
-pub returns-else-additional-len-clause-room : goal.returns-else-additional-len-clause-room
-returns-else-additional-len-clause-room g c =
-    let same = rw c.in-Inline.is at (returns-else-additional-len-clause-text g c) in
-    on_ok_weaker c.promote.result (λ room. rw same (omega (arith, room))) c.promote.ensures.room
+returns-else-additional-len-clause-text g c = search (rules, kept)

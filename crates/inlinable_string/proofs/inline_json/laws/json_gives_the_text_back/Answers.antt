@@ -1,5 +1,4 @@
-use Rattle.std.proofs.Common.{◌≡◌, sym}
-use Rattle.inlinable_string.specs.Text.{bytes_of}
+use Rattle.inlinable_string.proofs.Common.{◌≡◌, sym, bytes_of}
 use Rattle.inlinable_string.proofs.Text.{same_bytes}
 use Rattle.inlinable_string.proofs.inline_json.laws.json_gives_the_text_back.Goals as goal
 

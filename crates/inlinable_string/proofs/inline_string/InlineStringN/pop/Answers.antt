@@ -1,16 +1,10 @@
-use Rattle.std.proofs.Common.{◌≡◌, [], length, sym, ap, ◌∙◌, Some, arith}
-use Rattle.inlinable_string.specs.Text.{size}
+use Rattle.inlinable_string.proofs.Common.{rules, ◌∙◌, Some}
 use Rattle.inlinable_string.proofs.Window.{window_popped}
 use Rattle.inlinable_string.proofs.Text.{nil_from_size, size-popped, size_bound}
 use Rattle.inlinable_string.proofs.inline_string.InlineStringN.pop.Goals as goal
 
 pub returns-in_err-last : goal.returns-in_err-last
-returns-in_err-last g c =
-    let bytes = sym (c.chars-rest.ensures.rest ∙ c.as_str.ensures.value) in
-    let none : c.args.self.now ≡ [] =
-    nil_from_size c.args.self.now (ap length bytes ∙ c.in_err-last.ensures.steps.0) in
-    rw c.from_residual.ensures
-    (record { text = (none, none); len = ap size none; bound = omega arith })
+returns-in_err-last g c = search (rules, nil_from_size)
 
 pub invariant_of-self : goal.invariant_of-self
 invariant_of-self g c =

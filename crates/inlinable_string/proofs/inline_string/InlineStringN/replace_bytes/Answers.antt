@@ -29,6 +29,3 @@ pub returns-clause-same_length : goal.returns-clause-same_length
 returns-clause-same_length g c =
     let h = held c.self.inside c.self.view_is c.self.told c.self.invariant in
     c.if-bytes-self.false ∙ sym (size_of h)
-
-pub returns-clause-well_formed : goal.returns-clause-well_formed
-returns-clause-well_formed g c = c.in-Ok.ensures.cases.1

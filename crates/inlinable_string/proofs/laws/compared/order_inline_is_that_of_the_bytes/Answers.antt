@@ -1,6 +1,4 @@
-use Rattle.std.specs.Cmp.{on_total}
-use Rattle.std.specs.Cmp.Lexicographic.{nat_list_cmp_total}
-use Rattle.inlinable_string.specs.Text.{bytes_of}
+use Rattle.inlinable_string.proofs.Common.{on_total, nat_list_cmp_total, bytes_of}
 use Rattle.inlinable_string.proofs.Compared.{ties_are_equal}
 use Rattle.inlinable_string.proofs.laws.compared.order_inline_is_that_of_the_bytes.Goals as goal
 

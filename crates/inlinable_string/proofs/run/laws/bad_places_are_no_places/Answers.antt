@@ -1,13 +1,10 @@
-use Rattle.std.proofs.Common.{[], ◌∷◌}
-use Rattle.std.specs.Str.{chars}
+use Rattle.std.proofs.Common.{[], ◌∷◌, chars}
 use Rattle.inlinable_string.proofs.Places.{misplaced_insertion, misplaced_truncation}
 use Rattle.inlinable_string.proofs.run.laws.bad_places_are_no_places.Goals as goal
 
-pub returns-clause-insert : goal.returns-clause-insert
-returns-clause-insert c = λ t p ch. misplaced_insertion t (ch ∷ []) p
-
-pub returns-clause-insert_str : goal.returns-clause-insert_str
-returns-clause-insert_str c = λ t p u. misplaced_insertion t (chars u.now) p
-
-pub returns-clause-truncate : goal.returns-clause-truncate
-returns-clause-truncate c = misplaced_truncation
+pub returns : goal.returns
+returns c = record {
+  insert = λ t p ch. misplaced_insertion t (ch ∷ []) p;
+  insert_str = λ t p u. misplaced_insertion t (chars u.now) p;
+  truncate = misplaced_truncation;
+}

@@ -1,10 +1,9 @@
+use Rattle.std.proofs.Common.{rules}
 use Rattle.inlinable_string.proofs.Steps.{push_str_done, push_str_refused}
 use Rattle.inlinable_string.proofs.run.over_dyn.push_str_dyn.Goals as goal
 
 pub returns-in-Ok : goal.returns-in-Ok
-returns-in-Ok g c laws =
-    let e = c.in-Ok.ensures in
-    push_str_done _ _ _ c.utf8.string laws e.0 e.1.1.0 e.1.1.1.1.1.1.0 e.1.1.1.1.1.1.1
+returns-in-Ok g c laws = search (rules, push_str_done)
 
 pub returns-in-Err : goal.returns-in-Err
 returns-in-Err g c laws =

@@ -1,10 +1,5 @@
-use Rattle.std.proofs.Common.{refl, sym}
-use Rattle.std.proofs.lemmas.Str.{chars_from_encodes}
-use Rattle.inlinable_string.specs.Text.{bytes_of}
+use Rattle.inlinable_string.proofs.Common.{refl, sym, chars_from_encodes, bytes_of}
 use Rattle.inlinable_string.proofs.string_ext.laws.bytes_give_the_text_back.Goals as goal
-
-pub returns-clause-utf8 : goal.returns-clause-utf8
-returns-clause-utf8 c t bs s e = (t, (s, sym e))
 
 pub returns-clause-text : goal.returns-clause-text
 returns-clause-text c t s = sym (chars_from_encodes t (bytes_of t) (t, (s, refl)) refl)

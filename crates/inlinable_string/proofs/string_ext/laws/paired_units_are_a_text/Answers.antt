@@ -1,6 +1,4 @@
-use Rattle.std.proofs.Common.{◌<◌, length, ◌^◌, ⊎_elim, arith}
-use Rattle.std.proofs.lemmas.Bool.{cases_lt}
-use Rattle.std.proofs.lemmas.List.{get_or_past}
+use Rattle.inlinable_string.proofs.Common.{◌<◌, length, ◌^◌, ⊎_elim, arith, cases_lt, get_or_past}
 use Rattle.std.proofs.lemmas.List.Elements.{All-get_or}
 use Rattle.inlinable_string.proofs.Units.{all_paired, units-lossy}
 use Rattle.inlinable_string.proofs.string_ext.laws.paired_units_are_a_text.Goals as goal

@@ -1,4 +1,4 @@
-use Rattle.inlinable_string.specs.Utf16.{units_of}
+use Rattle.inlinable_string.proofs.Common.{units_of}
 use Rattle.inlinable_string.proofs.Units.{none_unpaired, text_is_paired}
 use Rattle.inlinable_string.proofs.string_ext.laws.units_of_a_text_are_paired.Goals as goal
 

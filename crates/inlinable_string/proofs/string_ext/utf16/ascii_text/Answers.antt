@@ -1,8 +1,5 @@
-use Rattle.std.proofs.Common.{◌≡◌, ◌++◌, ℕ, List, take, length, sym, ap, ◌∙◌, subst, arith}
-use Rattle.std.specs.Prelude.{IsUtf8}
-use Rattle.std.specs.Str.{chars}
+use Rattle.inlinable_string.proofs.Common.{◌≡◌, ◌++◌, ℕ, List, take, length, sym, ap, ◌∙◌, subst, arith, IsUtf8, chars, IsUtf8-from_ascii, chars-IsAscii}
 use Rattle.std.proofs.Math.Seq.{take-append_seam}
-use Rattle.std.proofs.lemmas.Str.{IsUtf8-from_ascii, chars-IsAscii}
 use Rattle.inlinable_string.proofs.Units.{lossy_ascii}
 use Rattle.inlinable_string.proofs.string_ext.utf16.ascii_text.Goals as goal
 

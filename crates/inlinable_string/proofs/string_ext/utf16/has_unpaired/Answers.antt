@@ -1,7 +1,4 @@
-use Rattle.std.proofs.Common.{◌≡◌, ◌<◌, ◌≤◌, ℕ, length, false, arith, sym, ◌∙◌, ⊎_elim, subst}
-use Rattle.std.proofs.lemmas.Bool.{cases_lt}
-use Rattle.inlinable_string.specs.Utf16.{is_unpaired}
-use Rattle.inlinable_string.proofs.Units.{none_unpaired}
+use Rattle.inlinable_string.proofs.Common.{◌≡◌, ◌≤◌, false, arith, sym, ◌∙◌, ⊎_elim, subst, cases_lt, is_unpaired}
 use Rattle.inlinable_string.proofs.string_ext.utf16.has_unpaired.Goals as goal
 
 pub loop-i-preserved : goal.loop-i-preserved
@@ -12,9 +9,3 @@ loop-i-preserved c j below =
     (λ (h : i ≤ j). let e : i ≡ j = omega arith in
     subst (λ k. is_unpaired c.args.units.now k ≡ false) e here)
     (cases_lt j i)
-
-pub returns : goal.returns
-returns c =
-    let none = none_unpaired _
-    (λ (j : ℕ) (h : j < length c.args.units.now). c.loop-i.invariant j (omega arith)) in
-    (λ h. absurd (cc), λ some. absurd (none some))

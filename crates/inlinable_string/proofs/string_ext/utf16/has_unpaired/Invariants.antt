@@ -1,5 +1,4 @@
-use Rattle.std.proofs.Common.{◌≡◌, ◌<◌, ℕ, false}
-use Rattle.inlinable_string.specs.Utf16.{is_unpaired}
+use Rattle.inlinable_string.proofs.Common.{◌≡◌, ◌<◌, ℕ, false, is_unpaired}
 use Rattle.inlinable_string.proofs.string_ext.utf16.has_unpaired.Given as goal
 
 abbrev pub invariant-loop-i : goal.invariant-loop-i

@@ -1,5 +1,4 @@
-use Rattle.std.proofs.Common.{◌<◌, ◌↔◌, ℕ}
-use Rattle.std.specs.Prelude.{IsTrue, slice_index}
+use Rattle.std.proofs.Common.{◌<◌, ◌↔◌, ℕ, IsTrue, slice_index}
 use Rattle.inlinable_string.proofs.string_ext.utf16.is_ascii.Given as goal
 
 abbrev pub invariant-loop-i : goal.invariant-loop-i

@@ -1,8 +1,4 @@
-use Rattle.std.proofs.Common.{◌++◌, [], ◌∷◌, sym, ap, ◌∙◌, append-nil}
-use Rattle.std.specs.Str.{chars}
-use Rattle.std.specs.String.{string_bytes}
-use Rattle.std.proofs.lemmas.Str.{chars-nil, IsUtf8-string_bytes}
-use Rattle.inlinable_string.specs.Utf16.{lossy_utf16_before}
+use Rattle.inlinable_string.proofs.Common.{◌++◌, [], ◌∷◌, sym, ap, ◌∙◌, append-nil, chars, string_bytes, chars-nil, IsUtf8-string_bytes, lossy_utf16_before}
 use Rattle.inlinable_string.proofs.Text.{popped-chars}
 use Rattle.inlinable_string.proofs.Units.{lossy_more}
 use Rattle.inlinable_string.proofs.string_ext.utf16.lossy_by_units.Goals as goal

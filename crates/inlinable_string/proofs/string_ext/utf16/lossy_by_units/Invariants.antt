@@ -1,7 +1,4 @@
-use Rattle.std.proofs.Common.{◌≡◌}
-use Rattle.std.specs.Str.{chars}
-use Rattle.std.specs.String.{string_bytes}
-use Rattle.inlinable_string.specs.Utf16.{lossy_utf16_before}
+use Rattle.inlinable_string.proofs.Common.{◌≡◌, chars, string_bytes, lossy_utf16_before}
 use Rattle.inlinable_string.proofs.string_ext.utf16.lossy_by_units.Given as goal
 
 abbrev pub invariant-loop-i : goal.invariant-loop-i

@@ -1,6 +1,4 @@
-use Rattle.std.proofs.Common.{◌≡◌}
-use Rattle.inlinable_string.specs.Text.{size}
-use Rattle.inlinable_string.specs.Utf16.{lossy_utf16_before}
+use Rattle.inlinable_string.proofs.Common.{◌≡◌, size, lossy_utf16_before}
 use Rattle.inlinable_string.proofs.string_ext.utf16.lossy_len.Given as goal
 
 abbrev pub invariant-loop-i : goal.invariant-loop-i

@@ -1,5 +1,4 @@
-use Rattle.std.proofs.Common.{◌≡◌, ◌+◌, ◌-◌, ◌≤◌, length, drop}
-use Rattle.inlinable_string.specs.Lossy.{count_in}
+use Rattle.inlinable_string.proofs.Common.{◌≡◌, ◌+◌, ◌-◌, ◌≤◌, length, drop, count_in}
 use Rattle.inlinable_string.proofs.string_ext.utf8.count_in.Given as goal
 
 abbrev pub invariant-loop-count : goal.invariant-loop-count

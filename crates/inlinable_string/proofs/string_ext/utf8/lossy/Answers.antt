@@ -1,8 +1,4 @@
-use Rattle.std.proofs.Common.{◌++◌, [], ◌∷◌, sym, ap, ◌∙◌, append_assoc}
-use Rattle.std.specs.Str.{chars}
-use Rattle.std.specs.String.{string_bytes}
-use Rattle.std.proofs.lemmas.Str.{chars-nil, chars-append, IsUtf8-string_bytes}
-use Rattle.inlinable_string.specs.Lossy.{lossy_utf8}
+use Rattle.inlinable_string.proofs.Common.{◌++◌, [], ◌∷◌, sym, ap, ◌∙◌, append_assoc, chars, string_bytes, chars-nil, chars-append, IsUtf8-string_bytes, lossy_utf8}
 use Rattle.inlinable_string.proofs.Text.{popped-chars}
 use Rattle.inlinable_string.proofs.Subparts.{read_whole, read_on}
 use Rattle.inlinable_string.proofs.string_ext.utf8.lossy.Goals as goal

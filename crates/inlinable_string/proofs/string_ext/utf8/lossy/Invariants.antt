@@ -1,7 +1,4 @@
-use Rattle.std.proofs.Common.{◌≡◌, ◌++◌, length}
-use Rattle.std.specs.Str.{chars}
-use Rattle.std.specs.String.{string_bytes}
-use Rattle.inlinable_string.specs.Lossy.{lossy_utf8}
+use Rattle.inlinable_string.proofs.Common.{◌≡◌, ◌++◌, length, chars, string_bytes, lossy_utf8}
 use Rattle.inlinable_string.proofs.string_ext.utf8.lossy.Given as goal
 
 -- what was made, and what is left, is the whole

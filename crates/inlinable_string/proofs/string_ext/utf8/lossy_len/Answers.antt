@@ -1,7 +1,4 @@
-use Rattle.std.proofs.Common.{◌≤◌, ◌^◌, ap, arith}
-use Rattle.std.specs.Str.{chars}
-use Rattle.inlinable_string.specs.Text.{size}
-use Rattle.inlinable_string.specs.Lossy.{lossy_utf8}
+use Rattle.inlinable_string.proofs.Common.{rules, arith, ◌≤◌, ◌^◌, chars, size, lossy_utf8}
 use Rattle.inlinable_string.proofs.Text.{size-chars}
 use Rattle.inlinable_string.proofs.Subparts.{read_whole, size_on, size_within}
 use Rattle.inlinable_string.proofs.string_ext.utf8.lossy_len.Goals as goal
@@ -17,18 +14,7 @@ returns-in_err-len c =
     rw c.from_residual.ensures past
 
 pub returns-in_default : goal.returns-in_default
-returns-in_default c =
-    let split = c.split_fault.ensures in
-    let text = c.split_fault.result.0.now in
-    let whole = read_whole c.split_fault.result.1 (λ l. l.now) c.loop-len.rest.now (chars text)
-    c.in_default.is split.text in
-    omega (
-      arith,
-      c.in_ok-len.ensures,
-      c.loop-len.invariant,
-      size-chars text split.utf8,
-      ap size whole,
-    )
+returns-in_default c = search (rules, read_whole, size-chars)
 
 pub returns-in_err-len-2 : goal.returns-in_err-len-2
 returns-in_err-len-2 c =

@@ -1,6 +1,4 @@
-use Rattle.std.proofs.Common.{◌≡◌, ◌+◌, length}
-use Rattle.inlinable_string.specs.Text.{size}
-use Rattle.inlinable_string.specs.Lossy.{lossy_utf8}
+use Rattle.inlinable_string.proofs.Common.{◌≡◌, ◌+◌, length, size, lossy_utf8}
 use Rattle.inlinable_string.proofs.string_ext.utf8.lossy_len.Given as goal
 
 -- what was counted, and what is left, is the whole

@@ -1,5 +1,4 @@
-use Rattle.std.proofs.Common.{◌≡◌, ◌++◌}
-use Rattle.inlinable_string.specs.Values.{inlinable_state}
+use Rattle.inlinable_string.proofs.Common.{◌≡◌, ◌++◌, inlinable_state}
 use Rattle.inlinable_string.proofs.inlinable_string.collected.InlinableStringNExtendChar.extend.Given as goal
 
 abbrev pub invariant-loop-ch : goal.invariant-loop-ch

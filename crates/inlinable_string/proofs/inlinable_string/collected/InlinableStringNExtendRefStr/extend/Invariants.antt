@@ -1,6 +1,4 @@
-use Rattle.std.proofs.Common.{◌≡◌, ◌++◌}
-use Rattle.inlinable_string.specs.Joins.{text_of_strs}
-use Rattle.inlinable_string.specs.Values.{inlinable_state}
+use Rattle.inlinable_string.proofs.Common.{◌≡◌, ◌++◌, text_of_strs, inlinable_state}
 use Rattle.inlinable_string.proofs.inlinable_string.collected.InlinableStringNExtendRefStr.extend.Given as goal
 
 abbrev pub invariant-loop-string : goal.invariant-loop-string

@@ -1,4 +1,4 @@
-use Rattle.inlinable_string.proofs.Makers.{bytes_made, chars_made, utf8_made}
+use Rattle.inlinable_string.proofs.Makers.{bytes_made, utf8_made}
 use Rattle.inlinable_string.proofs.inlinable_string.makers.InlinableStringNStringMake.from_utf8.Goals as goal
 
 pub returns-clause-text : goal.returns-clause-text
@@ -6,6 +6,3 @@ returns-clause-text g c = bytes_made c.in_ok-heap.heap c.args.vec c.in_ok-heap.e
 
 pub returns-clause-well_formed : goal.returns-clause-well_formed
 returns-clause-well_formed g c = utf8_made c.in_ok-heap.heap c.args.vec c.in_ok-heap.ensures.ok
-
-pub returns-clause-chars : goal.returns-clause-chars
-returns-clause-chars g c = chars_made c.in_ok-heap.heap c.args.vec c.in_ok-heap.ensures.ok

@@ -1,10 +1,6 @@
-use Rattle.inlinable_string.proofs.Makers.{bytes_made, chars_made}
+use Rattle.std.proofs.Common.{rules}
+use Rattle.inlinable_string.proofs.Makers.{bytes_made}
 use Rattle.inlinable_string.proofs.inlinable_string.makers.InlinableStringNStringMake.from_utf8_unchecked.Goals as goal
 
 pub returns-clause-text : goal.returns-clause-text
-returns-clause-text g c =
-    let made = c.from_utf8_unchecked-heap in bytes_made made.result c.args.bytes made.ensures.value
-
-pub returns-clause-chars : goal.returns-clause-chars
-returns-clause-chars g c =
-    let made = c.from_utf8_unchecked-heap in chars_made made.result c.args.bytes made.ensures.value
+returns-clause-text g c = search (rules, bytes_made)

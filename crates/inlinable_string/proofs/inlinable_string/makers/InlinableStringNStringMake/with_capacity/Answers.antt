@@ -1,6 +1,4 @@
-use Rattle.std.proofs.Common.{◌∙◌, ap}
-use Rattle.std.proofs.lemmas.Str.{chars-nil}
-use Rattle.std.specs.Str.{chars}
+use Rattle.inlinable_string.proofs.Common.{◌∙◌, ap, chars-nil, chars}
 use Rattle.inlinable_string.proofs.inlinable_string.makers.InlinableStringNStringMake.with_capacity.Goals as goal
 
 pub returns-clause-text : goal.returns-clause-text

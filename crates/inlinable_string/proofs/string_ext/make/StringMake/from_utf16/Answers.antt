@@ -1,5 +1,4 @@
-use Rattle.std.proofs.Common.{sym, ap, ◌∙◌, arith}
-use Rattle.inlinable_string.specs.Utf16.{units_of}
+use Rattle.inlinable_string.proofs.Common.{sym, ap, ◌∙◌, arith, units_of}
 use Rattle.inlinable_string.proofs.Units.{all_paired, units-lossy}
 use Rattle.inlinable_string.proofs.Makers.{utf8_made, text_made}
 use Rattle.inlinable_string.proofs.string_ext.make.StringMake.from_utf16.Goals as goal
@@ -16,10 +15,3 @@ returns-clause-text g c =
     let made = text_made _ c.in_ok-read.read bytes.result bytes.ensures.value in
     ap units_of (made c.from_utf8_unchecked.ensures.text ∙ c.in_ok-read.ensures)
     ∙ units-lossy v paired (λ i. let fits = c.type_inv.v i in omega arith)
-
-pub returns-clause-read : goal.returns-clause-read
-returns-clause-read g c =
-    let bytes = c.into_bytes in
-    let made = text_made _ c.in_ok-read.read bytes.result bytes.ensures.value in
-    made c.from_utf8_unchecked.ensures.text
-    ∙ c.in_ok-read.ensures

@@ -1,6 +1,4 @@
-use Rattle.std.proofs.Common.{sym, ap, ◌∙◌}
-use Rattle.std.proofs.lemmas.Str.{encodes-chars}
-use Rattle.inlinable_string.specs.Text.{bytes_of}
+use Rattle.inlinable_string.proofs.Common.{rules, sym, ap, ◌∙◌, encodes-chars, bytes_of}
 use Rattle.inlinable_string.proofs.Subparts.{lossy_all}
 use Rattle.inlinable_string.proofs.Makers.{bytes-string}
 use Rattle.inlinable_string.proofs.string_ext.make.StringMake.from_utf8_lossy.Goals as goal
@@ -11,5 +9,4 @@ returns-in-Ok-clause-text g c =
     is.0 ∙ sym (encodes-chars _ is.1) ∙ ap bytes_of (sym (lossy_all _ is.1))
 
 pub returns-clause-text : goal.returns-clause-text
-returns-clause-text g c =
-    sym (bytes-string c.in_ok-lossy.field-0) ∙ ap bytes_of c.in_ok-lossy.ensures
+returns-clause-text g c = search (rules, bytes-string)

@@ -1,5 +1,4 @@
-use Rattle.std.proofs.Common.{sym, ◌∙◌}
-use Rattle.std.proofs.lemmas.Str.{IsUtf8-string_bytes, encodes-chars}
+use Rattle.inlinable_string.proofs.Common.{sym, ◌∙◌, IsUtf8-string_bytes, encodes-chars}
 use Rattle.inlinable_string.proofs.string_ext.std_string.StringStringExt.as_bytes.Goals as goal
 
 pub returns : goal.returns

@@ -1,12 +1,10 @@
-use Rattle.std.proofs.Common.{◌∙◌}
-use Rattle.std.proofs.lemmas.Str.{IsUtf8-string_bytes}
+use Rattle.inlinable_string.proofs.Common.{rules}
 use Rattle.inlinable_string.proofs.Cut.{places_are}
 use Rattle.inlinable_string.proofs.Text.{bytes_are, holds_chars}
 use Rattle.inlinable_string.proofs.string_ext.std_string.StringStringExt.as_str.Goals as goal
 
 pub returns-clause-bytes : goal.returns-clause-bytes
-returns-clause-bytes c =
-    c.as_str.ensures.value ∙ bytes_are (holds_chars (IsUtf8-string_bytes c.args.self.now))
+returns-clause-bytes c = search (rules, bytes_are, holds_chars)
 
 pub returns-clause-places : goal.returns-clause-places
 returns-clause-places c = places_are _ _ c.as_str.utf8 (returns-clause-bytes c)

@@ -1,6 +1,4 @@
-use Rattle.std.proofs.Common.{refl}
-use Rattle.std.proofs.lemmas.Result.{on_ok_weaker}
-use Rattle.std.proofs.lemmas.Str.{IsUtf8-string_bytes, IsUtf8-encode}
+use Rattle.inlinable_string.proofs.Common.{refl, on_ok_weaker, IsUtf8-string_bytes, IsUtf8-encode}
 use Rattle.inlinable_string.proofs.Text.{holds_chars, split_point, size-spliced, place_within, place_behind}
 use Rattle.inlinable_string.proofs.Window.{char_held, inserted}
 use Rattle.inlinable_string.proofs.string_ext.std_string.StringStringExt.insert.Goals as goal

@@ -1,5 +1,4 @@
-use Rattle.std.proofs.lemmas.Result.{on_ok_weaker}
-use Rattle.std.proofs.lemmas.Str.{IsUtf8-string_bytes}
+use Rattle.inlinable_string.proofs.Common.{on_ok_weaker, IsUtf8-string_bytes}
 use Rattle.inlinable_string.proofs.Text.{holds_chars, split_point, size-spliced_str, place_within, place_behind_str}
 use Rattle.inlinable_string.proofs.Window.{inserted}
 use Rattle.inlinable_string.proofs.string_ext.std_string.StringStringExt.insert_str.Goals as goal

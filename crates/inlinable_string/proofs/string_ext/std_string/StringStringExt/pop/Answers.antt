@@ -1,4 +1,4 @@
-use Rattle.std.proofs.lemmas.Str.{IsUtf8-string_bytes}
+use Rattle.inlinable_string.proofs.Common.{IsUtf8-string_bytes}
 use Rattle.inlinable_string.proofs.Text.{popped-text, size-popped, size_bound}
 use Rattle.inlinable_string.proofs.string_ext.std_string.StringStringExt.pop.Goals as goal
 

@@ -1,6 +1,4 @@
-use Rattle.std.proofs.Common.{refl}
-use Rattle.std.proofs.lemmas.Result.{on_ok_weaker}
-use Rattle.std.proofs.lemmas.Str.{IsUtf8-string_bytes, IsUtf8-encode}
+use Rattle.inlinable_string.proofs.Common.{refl, on_ok_weaker, IsUtf8-string_bytes, IsUtf8-encode}
 use Rattle.inlinable_string.proofs.Text.{pushed-chars, size-string, size-pushed}
 use Rattle.inlinable_string.proofs.Window.{chars_one, size_one}
 use Rattle.inlinable_string.proofs.string_ext.std_string.StringStringExt.push.Goals as goal

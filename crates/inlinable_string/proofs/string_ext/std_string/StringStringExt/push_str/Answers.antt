@@ -1,5 +1,4 @@
-use Rattle.std.proofs.lemmas.Result.{on_ok_weaker}
-use Rattle.std.proofs.lemmas.Str.{IsUtf8-string_bytes}
+use Rattle.inlinable_string.proofs.Common.{on_ok_weaker, IsUtf8-string_bytes}
 use Rattle.inlinable_string.proofs.Text.{pushed-chars, size-string, size-pushed_str}
 use Rattle.inlinable_string.proofs.string_ext.std_string.StringStringExt.push_str.Goals as goal
 

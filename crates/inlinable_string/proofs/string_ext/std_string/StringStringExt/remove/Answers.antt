@@ -1,4 +1,4 @@
-use Rattle.std.proofs.lemmas.Str.{IsUtf8-string_bytes}
+use Rattle.inlinable_string.proofs.Common.{IsUtf8-string_bytes}
 use Rattle.inlinable_string.proofs.Text.{holds_chars, split_point, size-string, size-removed, place_left}
 use Rattle.inlinable_string.proofs.Window.{removed}
 use Rattle.inlinable_string.proofs.string_ext.std_string.StringStringExt.remove.Goals as goal

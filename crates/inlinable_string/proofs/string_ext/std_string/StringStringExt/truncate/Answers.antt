@@ -1,4 +1,4 @@
-use Rattle.std.proofs.lemmas.Str.{IsUtf8-string_bytes}
+use Rattle.inlinable_string.proofs.Common.{IsUtf8-string_bytes}
 use Rattle.inlinable_string.proofs.Cut.{back_of_cut}
 use Rattle.inlinable_string.proofs.Text.{bytes_are, holds_chars, boundary, cut_at, split_point}
 use Rattle.inlinable_string.proofs.string_ext.std_string.StringStringExt.truncate.Goals as goal

@@ -1,4 +1,4 @@
-use Rattle.std.proofs.lemmas.Result.{IfOk-weaker}
+use Rattle.inlinable_string.proofs.Common.{IfOk-weaker}
 use Rattle.inlinable_string.proofs.Makers as makers
 use Rattle.inlinable_string.proofs.string_ext.std_string.StringStringMake.from_utf8.Goals as goal
 
@@ -11,7 +11,3 @@ pub returns-clause-well_formed : goal.returns-clause-well_formed
 returns-clause-well_formed c =
     makers.well_formed c.from_utf8.result c.args.vec c.from_utf8.ensures.ok
     c.from_utf8.ensures.succeeds
-
-pub returns-clause-chars : goal.returns-clause-chars
-returns-clause-chars c = IfOk-weaker c.from_utf8.result _ _
-    (λ made e. makers.chars_made made c.args.vec e) c.from_utf8.ensures.ok

@@ -1,10 +1,6 @@
-use Rattle.inlinable_string.proofs.Makers.{bytes_made, chars_made}
+use Rattle.std.proofs.Common.{rules}
+use Rattle.inlinable_string.proofs.Makers.{bytes_made}
 use Rattle.inlinable_string.proofs.string_ext.std_string.StringStringMake.from_utf8_unchecked.Goals as goal
 
 pub returns-clause-text : goal.returns-clause-text
-returns-clause-text c =
-    bytes_made c.from_utf8_unchecked.result c.args.bytes c.from_utf8_unchecked.ensures.value
-
-pub returns-clause-chars : goal.returns-clause-chars
-returns-clause-chars c =
-    chars_made c.from_utf8_unchecked.result c.args.bytes c.from_utf8_unchecked.ensures.value
+returns-clause-text c = search (rules, bytes_made)

@@ -1,7 +1,4 @@
-use Rattle.std.proofs.Common.{◌∙◌, ap}
-use Rattle.std.proofs.lemmas.Result.{IfOk-weaker}
-use Rattle.std.proofs.lemmas.Str.{chars-nil}
-use Rattle.std.specs.Str.{chars}
+use Rattle.inlinable_string.proofs.Common.{◌∙◌, ap, IfOk-weaker, chars-nil, chars}
 use Rattle.inlinable_string.proofs.string_ext.std_string.StringStringMake.with_capacity.Goals as goal
 
 pub returns-clause-text : goal.returns-clause-text
