@@ -12,9 +12,6 @@ use inlinable_string::laws::{
 use inlinable_string::run::{Command, cut_decides_places};
 use std::marker::Model;
 
-#[cfg(test)]
-mod tests;
-
 /// What a key does to the text of a line, a command does at the cursor: so a list of keys is one of
 /// commands, and what `run` says of these is said of the line.
 pub fn keys_are_commands()

@@ -10,8 +10,6 @@ use std::collections::btree_map::Iter;
 use std::marker::Model;
 
 pub mod json;
-#[cfg(test)]
-mod tests;
 
 /// Texts under texts. A contract sees the list of the keys with their values, each as its bytes.
 #[derive(Drop)]

@@ -8,9 +8,6 @@ use std::alloc::{AllocError, Global};
 use std::collections::HashMap;
 use std::marker::Model;
 
-#[cfg(test)]
-mod tests;
-
 /// Texts with their ids: a new text gets the number of those before it. A contract sees the list of
 /// the texts, each as its bytes.
 #[derive(Drop)]

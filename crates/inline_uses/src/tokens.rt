@@ -7,9 +7,6 @@ ghost use Rattle.inline_uses.specs.Tokens.{is_word_part, word_of, BeginsWith};
 use inlinable_string::InlineStringN;
 use inlinable_string::laws::{bytes_of_parts, sizes_of_parts};
 
-#[cfg(test)]
-mod tests;
-
 /// A word has more bytes than the buffer for it.
 #[derive(Clone, Copy, Debug, PartialEq, Eq)]
 pub struct TooLong;

@@ -10,8 +10,6 @@ use std::alloc::{AllocError, Global};
 use std::marker::Model;
 
 mod json;
-#[cfg(test)]
-mod tests;
 
 /// A node: what it is under, which is a node by its number or the top, and its key there.
 #[derive(Drop)]

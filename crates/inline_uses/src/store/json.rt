@@ -10,9 +10,6 @@ use inlinable_string::StringExt;
 use serde_json::{Map, Value, put};
 use std::alloc::{AllocError, Global};
 
-#[cfg(test)]
-mod tests;
-
 /// Why bytes were not read as a store.
 #[derive(Clone, Copy, Debug, PartialEq, Eq)]
 pub enum ReadError {

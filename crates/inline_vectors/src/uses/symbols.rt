@@ -1,4 +1,6 @@
-use super::{Symbols, have_same_id};
+//! Texts and their ids.
+use inline_uses::symbols::{Symbols, have_same_id};
+use std::alloc::AllocError;
 use std::test::Fail;
 use test_support::letters::LETTERS_31;
 use test_support::{Hoard, NEEDS_THE_PROVED_BUILD};
@@ -40,6 +42,22 @@ const NEW: &[&str] = &[
     "a", "b", "c", "d", "e", "f", "g", "h", "i", "j", "k", "l", "m", "n", "o", "p", "q", "r", "s",
 ];
 
+/// The first of these texts that is refused an id.
+fn first_refused<'a>(symbols: &mut Symbols, texts: &[&'a str]) -> Option<&'a str> {
+    for text in texts {
+        if symbols.intern(text).is_err() {
+            return Some(*text);
+        }
+    }
+    None
+}
+
+/// Whether the text is not there, and gets the next id.
+fn gets_the_next_id(symbols: &mut Symbols, text: &str) -> Result<bool, AllocError> {
+    let next = symbols.len();
+    Ok(symbols.find(text)?.is_none() && symbols.intern(text)? == next)
+}
+
 #[test]
 fn a_known_short_text_takes_no_memory(rt: HostRuntime) -> Result<(), Fail> {
     let mut symbols = Symbols::new(rt.alloc());
@@ -49,21 +67,14 @@ fn a_known_short_text_takes_no_memory(rt: HostRuntime) -> Result<(), Fail> {
     let known = symbols.intern("known");
     let found = symbols.find("unknown");
     let long = symbols.intern(LETTERS_31);
-    let mut refused = None;
-    for text in NEW {
-        if symbols.intern(text).is_err() {
-            refused = Some(*text);
-            break;
-        }
-    }
+    let refused = first_refused(&mut symbols, NEW);
     drop(hoard);
-    assert_eq!(rt; known?, 0);
-    assert_eq!(rt; found?, None);
+    assert!(rt; matches!(known, Ok(0)));
+    assert!(rt; matches!(found, Ok(None)));
     assert!(rt; long.is_err());
     // The one that was refused is not there; once there is memory again it gets the next id.
     let refused = refused.ok_or("none was refused")?;
-    let next = symbols.len();
-    assert_eq!(rt; symbols.find(refused)?, None);
-    assert_eq!(rt; symbols.intern(refused)?, next);
+    let is_next = gets_the_next_id(&mut symbols, refused)?;
+    assert!(rt; is_next);
     Ok(())
 }

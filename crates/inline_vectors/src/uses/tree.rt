@@ -1,5 +1,6 @@
-use super::{Fault, Tree};
+//! Trees, and the JSON of trees.
 use inlinable_string::StringExt;
+use inline_uses::tree::{Fault, Tree};
 use serde_json::Value;
 use std::test::Fail;
 use test_support::{Hoard, NEEDS_THE_PROVED_BUILD};
@@ -62,31 +63,42 @@ fn nodes_have_paths_and_are_found_by_their_keys(rt: HostRuntime) -> Result<(), F
     Ok(())
 }
 
+/// Keys of nodes, one under the other: the path of the second has 14 bytes, that of the third 31.
+const DEEP: &[&str] = &["book", "chapters", "a deeper chapter"];
+
+/// Adds nodes, each under the one before it; the numbers of the last two.
+fn add_deep(tree: &mut Tree) -> Result<(usize, usize), Fault> {
+    let book = tree.add(None, DEEP[0])?;
+    let chapters = tree.add(Some(book), DEEP[1])?;
+    Ok((chapters, tree.add(Some(chapters), DEEP[2])?))
+}
+
+/// Adds nodes under this one, each under the one before it, up to the first that is refused: the last
+/// that was added, and why the next was not.
+fn add_until_refused(tree: &mut Tree, node: usize) -> (usize, Option<Fault>) {
+    let mut last = node;
+    for _ in 0..64 {
+        match tree.add(Some(last), "next") {
+            Ok(id) => last = id,
+            Err(fault) => return (last, Some(fault)),
+        }
+    }
+    (last, None)
+}
+
 #[test]
 fn without_memory_a_tree_stays_as_it_is(rt: HostRuntime) -> Result<(), Fail> {
     let mut tree = Tree::new(rt.alloc());
-    let book = tree.add(None, "book").map_err(|_| "refused")?;
-    let chapters = tree.add(Some(book), "chapters").map_err(|_| "refused")?;
-    let deep = tree
-        .add(Some(chapters), "a deeper chapter")
-        .map_err(|_| "refused")?;
+    let (chapters, deep) = add_deep(&mut tree).map_err(|_| "refused")?;
     let hoard = Hoard::take(rt.alloc()).expect(&rt, NEEDS_THE_PROVED_BUILD);
-    let mut refused = Ok(chapters);
-    let mut last = deep;
-    for _ in 0..64 {
-        refused = tree.add(Some(last), "next");
-        let Ok(id) = refused else {
-            break;
-        };
-        last = id;
-    }
+    let (last, refused) = add_until_refused(&mut tree, deep);
     let short = tree.path(rt.alloc(), chapters);
     let long = tree.path(rt.alloc(), deep);
     drop(hoard);
-    assert_eq!(rt; refused, Err(Fault::NoMemory));
-    assert_eq!(rt; tree.child(Some(last), "next"), None);
+    assert!(rt; refused == Some(Fault::NoMemory));
+    assert!(rt; tree.child(Some(last), "next").is_none());
     let next = tree.len();
-    assert_eq!(rt; tree.add(Some(last), "next"), Ok(next));
+    assert!(rt; tree.add(Some(last), "next") == Ok(next));
     // A path of at most 30 bytes takes no memory.
     assert!(rt; short.is_ok_and(|path| path.as_str() == "/book/chapters"));
     assert!(rt; long.is_err_and(|fault| fault == Fault::NoMemory));

@@ -1,5 +1,7 @@
-use super::{ReadError, copied};
-use crate::store::Store;
+//! Stores as bytes, and read back.
+use inline_uses::store::Store;
+use inline_uses::store::json::{ReadError, copied};
+use std::alloc::{AllocError, Global};
 use std::test::Fail;
 use test_support::letters::LETTERS_31;
 use test_support::{Hoard, NEEDS_THE_PROVED_BUILD};
@@ -17,27 +19,65 @@ const SINGLE: &[(&str, &str, &str)] = &[
     ),
 ];
 
+/// Whether the store is written as these bytes.
+fn is_written(store: &Store, json: &str) -> Result<bool, AllocError> {
+    let bytes = store.to_bytes()?;
+    Ok(bytes.as_slice() == json.as_bytes())
+}
+
+/// Whether the store has these values, and so many in all.
+fn has_values(
+    store: &Store,
+    entries: &[(&str, &str, &str)],
+    count: usize,
+) -> Result<bool, AllocError> {
+    for (key, value, _) in entries {
+        if store.get(key)? != Some(*value) {
+            return Ok(false);
+        }
+    }
+    Ok(store.len() == count)
+}
+
+/// Whether the bytes are read as a store of this entry alone.
+fn is_read(alloc: Global, bytes: &str, entry: (&str, &str, &str)) -> Result<bool, ReadError> {
+    let store = Store::from_bytes(alloc, bytes.as_bytes())?;
+    Ok(has_values(&store, &[entry], 1)?)
+}
+
+/// The first entry that alone is not written as its JSON or not read back. Each is put into `all` too.
+fn first_wrong(alloc: Global, all: &mut Store) -> Result<Option<usize>, ReadError> {
+    for (i, &(key, value, json)) in SINGLE.iter().enumerate() {
+        let mut store = Store::new(alloc);
+        store.put(key, value)?;
+        all.put(key, value)?;
+        if !is_written(&store, json)? || !is_read(alloc, json, (key, value, json))? {
+            return Ok(Some(i));
+        }
+    }
+    Ok(None)
+}
+
+/// Whether a copy has these values, and so many in all.
+fn is_copied(
+    store: &Store,
+    entries: &[(&str, &str, &str)],
+    count: usize,
+) -> Result<bool, ReadError> {
+    let copy = copied(store)?;
+    Ok(has_values(&copy, entries, count)?)
+}
+
 #[test]
 fn a_store_is_written_as_an_object_and_read_back(rt: HostRuntime) -> Result<(), Fail> {
     let empty = Store::new(rt.alloc());
-    assert!(rt; empty.to_bytes()?.as_slice() == "{}".as_bytes());
+    let is_empty = is_written(&empty, "{}")? && is_copied(&empty, &[], 0)?;
+    assert!(rt; is_empty);
     let mut all = Store::new(rt.alloc());
-    for (key, value, json) in SINGLE {
-        let mut store = Store::new(rt.alloc());
-        store.put(key, value)?;
-        all.put(key, value)?;
-        let bytes = store.to_bytes()?;
-        assert!(rt; bytes.as_slice() == json.as_bytes());
-        let read = Store::from_bytes(rt.alloc(), &bytes)?;
-        assert_eq!(rt; read.len(), 1);
-        assert!(rt; read.get(key)? == Some(*value));
-    }
-    let copy = copied(&all)?;
-    assert_eq!(rt; copy.len(), SINGLE.len());
-    for (key, value, _) in SINGLE {
-        assert!(rt; copy.get(key)? == Some(*value));
-    }
-    assert_eq!(rt; copied(&empty)?.len(), 0);
+    let wrong = first_wrong(rt.alloc(), &mut all)?;
+    assert!(rt; wrong.is_none(), "{wrong:?}");
+    let is_copied = is_copied(&all, SINGLE, SINGLE.len())?;
+    assert!(rt; is_copied);
     Ok(())
 }
 
