@@ -147,6 +147,8 @@ def main(words):
     functions = functions_by_crate(tasks)
     require_proofs(sorted(functions), given.jobs, functions)
     rooms = SimpleQueue()
+    # those of many edits first, so that at the end no processor is left alone with a long check
+    tasks.sort(key=lambda task: -len(task[1]))
     with copies(sorted(functions), min(given.jobs, len(tasks))) as places:
         for place in places:
             rooms.put(place)
