@@ -4,7 +4,7 @@
 
 Behind `@` stands a place, an amount or a width, and behind `:` a text, bytes or units of UTF-16, as
 hexadecimal digits. The text starts empty and inline, and a maker puts another in its place.
-`crates/side_by_side/src/calls/` says what each word calls.
+`crates/line_answers/src/calls/` says what each word calls.
 """
 from floors import CALL_ANSWERS, CALL_KINDS, CALL_WORDS, CALLS_OF_EACH
 from floors import CALLS as HELD

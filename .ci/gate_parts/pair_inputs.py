@@ -4,7 +4,7 @@
 
 The format has its width and its precision behind it, and the way is how the text comes about, which
 must not be seen: what was done to it before leaves bytes beside it, moves its start or leaves it on
-the heap. `crates/side_by_side/src/pair.rt` says what each word stands for.
+the heap. `crates/line_answers/src/pair.rt` says what each word stands for.
 """
 from floors import PAIR_ANSWERS, PAIR_KINDS, PAIR_WORDS, PAIRS_OF_EACH
 from floors import PAIRS as HELD

@@ -1,8 +1,8 @@
 //! Lines that are no input, and what stands before them.
 
-use crate::answer_lines;
-use crate::fault::LineFault;
-use crate::line::asked_of;
+use line_answers::answer_lines;
+use line_answers::fault::LineFault;
+use line_answers::line::asked_of;
 use std::io::BufRead;
 use std::process::Abort;
 use std::test::Fail;
