@@ -101,38 +101,57 @@ const NEW: &[&str] = &[
     "a", "b", "c", "d", "e", "f", "g", "h", "i", "j", "k", "l", "m", "n", "o", "p", "q", "r", "s",
 ];
 
+/// Whether the key has this value.
+fn is_value(store: &Store, key: &str, value: &str) -> Result<bool, AllocError> {
+    Ok(store.get(key)? == Some(value))
+}
+
+/// Whether a short value is put under a short key that has one, and whether a long value, and each
+/// call with a long key, is refused.
+fn answers_without_memory(store: &mut Store) -> [bool; 6] {
+    [
+        store.put("known", "new").is_ok(),
+        store.put("known", LETTERS_31).is_err(),
+        store.put(LETTERS_31, "short").is_err(),
+        store.get(LETTERS_31).is_err(),
+        store.delete(LETTERS_31).is_err(),
+        matches!(is_value(store, "known", "new"), Ok(true)),
+    ]
+}
+
+/// The first of these keys that is refused a value.
+fn first_refused<'a>(store: &mut Store, keys: &[&'a str]) -> Option<&'a str> {
+    for key in keys {
+        if store.put(key, "").is_err() {
+            return Some(*key);
+        }
+    }
+    None
+}
+
+/// Whether the key is not there, and can be put.
+fn is_put_anew(store: &mut Store, key: &str) -> Result<bool, AllocError> {
+    if store.get(key)?.is_some() {
+        return Ok(false);
+    }
+    store.put(key, "now")?;
+    is_value(store, key, "now")
+}
+
 #[test]
 fn refused_memory_changes_nothing(rt: HostRuntime) -> Result<(), Fail> {
     let mut store = Store::new(rt.alloc());
-    store.put("known", "old")?;
-    store.put(LETTERS_31, "long")?;
+    put_all(&mut store, &[("known", "old"), (LETTERS_31, "long")])?;
     let hoard = Hoard::take(rt.alloc()).expect(&rt, NEEDS_THE_PROVED_BUILD);
-    let short = store.put("known", "new");
-    let long_value = store.put("known", LETTERS_31);
-    let long_key = store.put(LETTERS_31, "short");
-    let long_found = store.get(LETTERS_31).is_err();
-    let long_deleted = store.delete(LETTERS_31);
-    let known = store.get("known")? == Some("new");
-    let mut refused = None;
-    for key in NEW {
-        if store.put(key, "").is_err() {
-            refused = Some(*key);
-            break;
-        }
-    }
+    let answers = answers_without_memory(&mut store);
+    let refused = first_refused(&mut store, NEW);
     drop(hoard);
-    assert!(rt; short.is_ok());
-    assert!(rt; long_value.is_err());
-    assert!(rt; long_key.is_err());
-    assert!(rt; long_found);
-    assert!(rt; long_deleted.is_err());
-    assert!(rt; known);
-    assert!(rt; store.get("known")? == Some("new"));
-    assert!(rt; store.get(LETTERS_31)? == Some("long"));
+    assert!(rt; answers == [true; 6], "{answers:?}");
+    let is_kept = is_value(&store, "known", "new")? && is_value(&store, LETTERS_31, "long")?;
+    assert!(rt; is_kept);
     // The key that was refused is not there; once there is memory again it can be put.
     let refused = refused.ok_or("none was refused")?;
-    assert!(rt; store.get(refused)?.is_none());
-    store.put(refused, "now")?;
-    assert!(rt; store.get(refused)? == Some("now"));
+    let is_put = is_put_anew(&mut store, refused)?;
+    assert!(rt; is_put);
     Ok(())
 }

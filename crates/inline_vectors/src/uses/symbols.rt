@@ -19,21 +19,40 @@ const MET: &[(&str, usize)] = &[
     ("", 2),
 ];
 
+/// The first text that gets another id.
+fn first_with_other_id(symbols: &mut Symbols) -> Result<Option<usize>, AllocError> {
+    for (i, (text, id)) in MET.iter().enumerate() {
+        if symbols.intern(text)? != *id {
+            return Ok(Some(i));
+        }
+    }
+    Ok(None)
+}
+
+/// The first text that is not found by its id, or whose id is not found.
+fn first_not_found(symbols: &Symbols) -> Result<Option<usize>, AllocError> {
+    for (i, (text, id)) in MET.iter().enumerate() {
+        if symbols.find(text)? != Some(*id) || symbols.text(*id) != Some(*text) {
+            return Ok(Some(i));
+        }
+    }
+    Ok(None)
+}
+
 #[test]
 fn ids_are_given_in_order_and_stay(rt: HostRuntime) -> Result<(), Fail> {
     let mut symbols = Symbols::new(rt.alloc());
-    for (text, id) in MET {
-        assert_eq!(rt; symbols.intern(text)?, *id);
-    }
-    assert_eq!(rt; symbols.len(), 6);
-    for (text, id) in MET {
-        assert_eq!(rt; symbols.find(text)?, Some(*id));
-        assert!(rt; symbols.text(*id) == Some(*text));
-    }
-    assert_eq!(rt; symbols.find("lets")?, None);
-    assert!(rt; symbols.text(6).is_none());
-    assert!(rt; have_same_id(&mut symbols, "one", "one")?);
-    assert!(rt; !have_same_id(&mut symbols, "one", "eno")?);
+    let wrong = [
+        first_with_other_id(&mut symbols)?,
+        first_not_found(&symbols)?,
+    ];
+    assert!(rt; wrong == [None; 2], "{wrong:?}");
+    assert!(rt; symbols.len() == 6);
+    let is_absent = symbols.find("lets")?.is_none() && symbols.text(6).is_none();
+    assert!(rt; is_absent);
+    let is_same = have_same_id(&mut symbols, "one", "one")?;
+    let is_other = !have_same_id(&mut symbols, "one", "eno")?;
+    assert!(rt; is_same && is_other);
     Ok(())
 }
 

@@ -2,6 +2,7 @@
 use inlinable_string::StringExt;
 use inline_uses::tree::{Fault, Tree};
 use serde_json::Value;
+use std::alloc::Global;
 use std::test::Fail;
 use test_support::{Hoard, NEEDS_THE_PROVED_BUILD};
 
@@ -33,34 +34,68 @@ const REFUSED: &[(Option<usize>, &str, Fault)] = &[
     (None, "sechzehn Größen", Fault::LongKey),
 ];
 
-#[test]
-fn nodes_have_paths_and_are_found_by_their_keys(rt: HostRuntime) -> Result<(), Fail> {
-    let mut tree = Tree::new(rt.alloc());
+/// The first node that is there already, or is not added with its number.
+fn first_not_added(tree: &mut Tree) -> Option<usize> {
     for (id, (place, key, _)) in BOOK.iter().enumerate() {
-        assert_eq!(rt; tree.child(*place, key), None);
-        assert_eq!(rt; tree.add(*place, key), Ok(id));
+        if tree.child(*place, key).is_some() || tree.add(*place, key) != Ok(id) {
+            return Some(id);
+        }
     }
-    for (place, key, fault) in REFUSED {
-        assert_eq!(rt; tree.add(*place, key), Err(*fault));
+    None
+}
+
+/// The first row that is not refused as it says.
+fn first_not_refused(tree: &mut Tree) -> Option<usize> {
+    for (i, (place, key, fault)) in REFUSED.iter().enumerate() {
+        if tree.add(*place, key) != Err(*fault) {
+            return Some(i);
+        }
     }
-    assert_eq!(rt; tree.len(), BOOK.len());
+    None
+}
+
+/// Whether the node has this path.
+fn has_path(tree: &Tree, alloc: Global, id: usize, path: &str) -> bool {
+    match tree.path(alloc, id) {
+        Ok(found) => found.as_str() == path,
+        Err(_) => false,
+    }
+}
+
+/// Whether the node is under this one, by this key.
+fn is_node(tree: &Tree, id: usize, place: Option<usize>, key: &str) -> bool {
+    let Some(node) = tree.node(id) else {
+        return false;
+    };
+    node.parent == place && node.key.as_str() == key
+}
+
+/// The first node that is not found by its key, or has another path or place.
+fn first_not_found(tree: &Tree, alloc: Global) -> Option<usize> {
     for (id, (place, key, path)) in BOOK.iter().enumerate() {
-        assert_eq!(rt; tree.child(*place, key), Some(id));
-        assert!(rt;
-            tree.path(rt.alloc(), id)
-                .is_ok_and(|found| found.as_str() == *path)
-        );
-        let node = tree.node(id).ok_or("no node")?;
-        assert_eq!(rt; (node.parent, node.key.as_str()), (*place, *key));
+        let is_found = tree.child(*place, key) == Some(id);
+        if !is_found || !has_path(tree, alloc, id, path) || !is_node(tree, id, *place, key) {
+            return Some(id);
+        }
     }
-    assert_eq!(rt; tree.child(Some(1), "title"), None);
-    assert_eq!(rt; tree.child(Some(BOOK.len()), "title"), None);
+    None
+}
+
+#[test]
+fn nodes_have_paths_and_are_found_by_their_keys(rt: HostRuntime) {
+    let mut tree = Tree::new(rt.alloc());
+    let wrong = [
+        first_not_added(&mut tree),
+        first_not_refused(&mut tree),
+        first_not_found(&tree, rt.alloc()),
+    ];
+    assert!(rt; wrong == [None; 3], "{wrong:?}");
+    assert!(rt; tree.len() == BOOK.len());
+    assert!(rt; tree.child(Some(1), "title").is_none());
+    assert!(rt; tree.child(Some(BOOK.len()), "title").is_none());
     assert!(rt; tree.node(BOOK.len()).is_none());
-    assert!(rt;
-        tree.path(rt.alloc(), BOOK.len())
-            .is_err_and(|fault| fault == Fault::NoNode)
-    );
-    Ok(())
+    let is_no_node = matches!(tree.path(rt.alloc(), BOOK.len()), Err(Fault::NoNode));
+    assert!(rt; is_no_node);
 }
 
 /// Keys of nodes, one under the other: the path of the second has 14 bytes, that of the third 31.
@@ -132,10 +167,7 @@ fn trees_go_through_json_and_come_back(rt: HostRuntime) -> Result<(), Fail> {
         let tree = Tree::from_json(alloc, &value).map_err(|_| "refused")?;
         assert_eq!(rt; tree.len(), paths.len());
         for (id, path) in paths.iter().enumerate() {
-            assert!(rt;
-                tree.path(alloc, id)
-                    .is_ok_and(|found| found.as_str() == *path)
-            );
+            assert!(rt; has_path(&tree, alloc, id, path));
         }
         assert!(rt; tree.to_json(alloc)? == value);
         assert!(rt; tree.to_json(alloc)?.to_string(alloc)?.as_str() == *text);
