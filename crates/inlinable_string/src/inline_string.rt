@@ -161,20 +161,20 @@ impl<const N: usize> InlineStringN<N> {
         ensures err { OnErr result (self.new ≡ self.old) }
     {
         let len = self.len;
-        if N - len < string.len() {
-            return Err(NotEnoughSpaceError);
-        }
         let end = self.start + len;
-        let new_len = len + string.len();
-        // The usual case by itself: there is room behind the text, and nothing moves.
+        // The usual case by itself, and first: there is room behind the text, and nothing moves.
         if string.len() <= N - end {
+            let new_len = len + string.len();
             write_at(&mut self.bytes[..], end, string.as_bytes());
             self.len = new_len;
             return Ok(());
         }
+        if N - len < string.len() {
+            return Err(NotEnoughSpaceError);
+        }
         let start = put_in(&mut self.bytes[..], self.start, len, len, string.as_bytes());
         self.start = start;
-        self.len = new_len;
+        self.len = len + string.len();
         Ok(())
     }
 
