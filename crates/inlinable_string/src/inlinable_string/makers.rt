@@ -23,12 +23,14 @@ impl<const N: usize> InlinableStringN<N> {
             (λ made. (inlinable_state N made).policy ≡ inlinable_policy N) }
         ensures granted { length string.now ≤ N → IsOk result }
     {
-        if string.len() <= N {
-            let inline = InlineStringN::from(string);
-            return Ok(InlinableStringN::Inline(inline, alloc));
+        // A short text is put where it stays: made by itself, it would be moved once more.
+        let mut made = Self::new(alloc);
+        if N < string.len() {
+            made = InlinableStringN::Heap(String::from_str(alloc, string)?, alloc);
+        } else if let InlinableStringN::Inline(text, _) = &mut made {
+            let _ = text.push_str(string);
         }
-        let heap = String::from_str(alloc, string)?;
-        Ok(InlinableStringN::Heap(heap, alloc))
+        Ok(made)
     }
 
     /// The same as [`InlinableStringN::from`].
