@@ -1,11 +1,11 @@
 """Digests of the answers to what is generated.
 
 A line of a file of digests has a seed, the number of the first input, how many inputs it is of, a digest of
-the inputs, and one of a judge's answers to them. Each thousand that the gate runs has a line; the others,
-which it runs with --all, have one for each 30,000. A digest is a SHA-256: of a thousand, of the bytes that
-`script_digests.py` and `line_digests.py` say; of more, of the digests of its thousands in a row. Of the
-inputs' digest the first 16 digits are enough: it only tells whether the inputs are still those that the
-judge answered.
+the inputs, and one of a judge's answers to them. Scripts have a line for each thousand, and so have the lines
+of `side_by_side` that the gate runs; the others, which run with --all, have one for each 30,000. A digest
+is a SHA-256: of a thousand, of the bytes that `script_digests.py` and `line_digests.py` say; of more, of the
+digests of its thousands in a row. Of the inputs' digest the first 16 digits are enough: it only tells whether
+the inputs are still those that the judge answered.
 """
 import os
 from collections import Counter
@@ -51,7 +51,7 @@ class Generated(NamedTuple):
 
 
 def ranges(run, total):
-    """The first input of each digest, and how many it is of: where the gate runs so many of the total."""
+    """The first input of each digest, and how many it is of: where so many of the total are told by thousands."""
     return [*((first, STEP) for first in range(0, run, STEP)),
             *((first, min(LONG_STEP, total - first)) for first in range(run, total, LONG_STEP))]
 

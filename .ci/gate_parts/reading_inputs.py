@@ -191,4 +191,5 @@ def counted(drawn, answers):
 
 READINGS = Family(
     name='readings', drawn=reading_input, kinds=tuple(kinds()),
-    counted=counted, answers=2, types=('String', 'InlinableString'), longest=80, held=HELD, wanted=(*READING_KINDS, *READING_ANSWERS), of_each=READINGS_OF_EACH)
+    counted=counted, answers=2, types=('String', 'InlinableString'), longest=80,
+    held=HELD, wanted=(*READING_KINDS, *READING_ANSWERS), of_each=READINGS_OF_EACH)

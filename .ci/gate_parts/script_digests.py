@@ -6,7 +6,7 @@ answer's standard output and exit status.
 from collections import Counter
 from hashlib import sha256
 
-from floors import SCRIPTS_RUN, STORED
+from floors import STORED
 from gate_parts.digests import STEP, Generated, Made, framed, stored_digests
 from gate_parts.generated import generated_case
 from gate_parts.language import answer
@@ -17,8 +17,8 @@ from gate_parts.stored import path_of
 
 
 def stored_script_digests():
-    """Those of `replay/digests`."""
-    return stored_digests(path_of('digests'), SCRIPTS_RUN, STORED['digests'])
+    """Those of `replay/digests`, a line for each thousand."""
+    return stored_digests(path_of('digests'), STORED['digests'], STORED['digests'])
 
 
 def scripts_from(seed, first, count=STEP):

@@ -3,7 +3,7 @@
 The judge is a program over the original crate that reads the script language. It is run on as many
 generated scripts as `replay/digests` must have. This is no part of the gate.
 """
-from floors import SCRIPTS_RUN, STORED
+from floors import STORED
 from gate_parts.digests import print_digests
 from gate_parts.options import options
 from gate_parts.programs import checked
@@ -12,5 +12,5 @@ from gate_parts.script_digests import SCRIPTS
 
 def main(words):
     given = options('store_digests', __doc__, words, 'judge', '--seed')
-    print_digests(SCRIPTS, checked(given.judge), given.seed, SCRIPTS_RUN, STORED['digests'])
+    print_digests(SCRIPTS, checked(given.judge), given.seed, STORED['digests'], STORED['digests'])
     return True
