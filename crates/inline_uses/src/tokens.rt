@@ -68,8 +68,8 @@ pub fn read_word<'a, const N: usize>(
 }
 
 /// Reads the next token behind any white space, and gives what follows it; none where nothing else
-/// is there. A word comes to lie in the buffer. Fails exactly where a word of more than `N` bytes is
-/// next, and leaves the buffer empty then.
+/// is there. A word comes to lie in the buffer. Fails exactly where a word of more than `N` bytes
+/// is next, and leaves the buffer empty then.
 #[tactic(auto, using(crate::proofs::Words::ends_no_word))]
 pub fn next_token<'a, const N: usize>(
     word: &mut InlineStringN<N>,

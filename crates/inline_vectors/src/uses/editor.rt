@@ -18,7 +18,8 @@ enum Key {
 
 use Key::{Backspace, Delete, End, Home, KillToEnd, Left, Right, Type};
 
-/// A key, the character that it types, takes out or passes, if any, and what stands in the line after it.
+/// A key, the character that it types, takes out or passes, if any, and what stands in the line
+/// after it.
 type Press<'a> = (Key, Option<char>, &'a str);
 
 /// Presses a key.

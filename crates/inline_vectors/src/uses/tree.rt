@@ -108,8 +108,8 @@ fn add_deep(tree: &mut Tree) -> Result<(usize, usize), Fault> {
     Ok((chapters, tree.add(Some(chapters), DEEP[2])?))
 }
 
-/// Adds nodes under this one, each under the one before it, up to the first that is refused: the last
-/// that was added, and why the next was not.
+/// Adds nodes under this one, each under the one before it, up to the first that is refused: the
+/// last that was added, and why the next was not.
 fn add_until_refused(tree: &mut Tree, node: usize) -> (usize, Option<Fault>) {
     let mut last = node;
     for _ in 0..64 {

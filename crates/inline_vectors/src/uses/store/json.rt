@@ -45,7 +45,8 @@ fn is_read(alloc: Global, bytes: &str, entry: (&str, &str, &str)) -> Result<bool
     Ok(has_values(&store, &[entry], 1)?)
 }
 
-/// The first entry that alone is not written as its JSON or not read back. Each is put into `all` too.
+/// The first entry that alone is not written as its JSON or not read back. Each is put into `all`
+/// too.
 fn first_wrong(alloc: Global, all: &mut Store) -> Result<Option<usize>, ReadError> {
     for (i, &(key, value, json)) in SINGLE.iter().enumerate() {
         let mut store = Store::new(alloc);
