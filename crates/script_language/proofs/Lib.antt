@@ -6,6 +6,7 @@ mod Gathered
 mod Words
 mod Decimals
 mod HexTexts
+mod Lanes
 mod Lines
 mod OneCommand
 mod Scripts

@@ -1,5 +1,5 @@
 -- The lines of an input, and what they ask for, one after the other.
-use Rattle.std.proofs.Common.{◌≡◌, refl, sym, ap, subst, ◌∙◌, ℕ, suc, ◌+◌, ◌≤◌, List, [], ◌∷◌, ◌++◌, length, append_assoc, All, ◌==◌, false, arith, length-append, Option, Some, None, Bor}
+use Rattle.std.proofs.Common.{◌≡◌, refl, sym, ap, subst, ◌∙◌, ℕ, suc, ◌+◌, ◌*◌, ◌≤◌, List, [], ◌∷◌, ◌++◌, length, append_assoc, All, ◌==◌, false, arith, length-append, Option, Some, None, Bor}
 use Rattle.std.specs.Str.Iter.{LacksByte}
 use Rattle.std.proofs.lemmas.Bool.{ne_eqb}
 use Rattle.std.proofs.lemmas.List.{append-nil}
@@ -53,14 +53,14 @@ ask_more ((b ∷ first) ∷ lines) (c ∷ commands) line command asked bytes is 
     (asked.0, ask_more lines commands line command asked.1 bytes is)
 
 -- how far an input is read: its lines so far ask for the commands so far, the next line has this
--- number, and what is left of it has no more bytes than the room
+-- number, and what is left of it has no more bytes than twice the room
 pub record IsReadTo (lines : List (List ℕ)) (rest : Option (Bor (List ℕ)))
     (commands : List Command) (number room : ℕ) : Type 0 where
   pub done : List (List ℕ)
   pub split : lines ≡ done ++ lines_left rest
   pub asked : LinesAskFor done commands
   pub counted : number ≡ length done + 1
-  pub roomy : bytes_left rest ≤ 1 + room
+  pub roomy : bytes_left rest ≤ 2 + 2 * room
   pub bounded : number + bytes_left rest ≤ MOST_BYTES + 2
 
 -- the first line of what is left, and what is left then
@@ -84,7 +84,7 @@ size_on rest more line next = ap bytes_left next.is ∙ omega (arith, next.size)
 pub read_line : (lines : List (List ℕ)) (rest more : Option (Bor (List ℕ)))
     (commands commands' : List Command) (number room room' : ℕ) (line : List ℕ)
     → (before : IsReadTo lines rest commands number room) → IsNextLine rest more line
-    → LinesAskFor (before.done ++ line ∷ []) commands' → room ≤ room' + length line
+    → LinesAskFor (before.done ++ line ∷ []) commands' → 2 * room ≤ 2 * room' + length line
     → IsReadTo lines more commands' (number + 1) room'
 read_line lines rest more commands commands' number room room' line before next asked fits =
     let size = size_on rest more line next in

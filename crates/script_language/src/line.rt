@@ -1,11 +1,11 @@
 //! One line of a script, as the command that it asks for.
-ghost use Rattle.std.specs.Prelude.{◌≡◌, ◌≢◌, ℕ, ◌+◌, ◌≤◌, ◌∷◌, ◌++◌, List, [], IfNone, IfSome, codes, length};
+ghost use Rattle.std.specs.Prelude.{◌≡◌, ◌≢◌, ℕ, ◌+◌, ◌*◌, ◌≤◌, ◌∷◌, ◌++◌, List, [], IfNone, IfSome, codes, length, take};
 ghost use Rattle.std.specs.Option.{SomeIff};
 ghost use Rattle.std.specs.Str.Parse.{AllDigits, digits_value};
 ghost use Rattle.inlinable_string.specs.declared.run.Command.{Command};
 ghost use Rattle.script_language.specs.Line.{arguments_of, IsCharText, IsHexText, IsLine, IsNumberText, IsTail, space, word_of};
 
-use crate::cut::cut_at;
+use crate::cut::{cut_at, cut_front_at};
 use inlinable_string::run::Command;
 
 /// The most digits that a place is written in.
@@ -13,16 +13,24 @@ const MOST_DIGITS: usize = 20;
 
 /// The command of a line: a word, and what follows the first space where there is one.
 ///
+/// The line is searched faster where `bytes`, which begin with it, have more that follows it.
+///
 /// The bytes that a `replace_bytes` line is written for are put at the front of `room`, which has
-/// to be as long as the line. What is left of it is handed back.
-pub fn command_of<'a>(line: &'a str, room: &'a mut [u8]) -> Option<(Command<'a>, &'a mut [u8])>
-    requires room { length line.now ≤ length room.old }
+/// to be half as long as the line. What is left of it is handed back.
+#[inline]
+pub fn command_of<'a>(
+    line: &'a str,
+    bytes: &[u8],
+    room: &'a mut [u8],
+) -> Option<(Command<'a>, &'a mut [u8])>
+    requires front { take (length line.now) bytes.now ≡ line.now }
+    requires room { length line.now ≤ 2 * length room.old + 1 }
     ensures some { IfSome result (λ found. IsLine line.now found.0) }
     ensures none { IfNone result ((command : Command) → ¬ (IsLine line.now command)) }
     ensures left { IfSome result (λ found.
-        length room.old ≤ length found.1.now + length line.now) }
+        2 * length room.old ≤ 2 * length found.1.now + length line.now) }
 {
-    match cut_at(line, ' ') {
+    match cut_front_at(line, bytes, ' ') {
         None => Some((command_alone(line)?, room)),
         Some((word, rest)) => match word {
             "replace_bytes" => {
@@ -115,11 +123,11 @@ fn char_of(text: &str) -> Option<char>
 
 /// The bytes that pairs of digits are written for, at the front of the room, and the room left.
 fn bytes_from_digits<'a>(digits: &str, room: &'a mut [u8]) -> Option<(&'a [u8], &'a mut [u8])>
-    requires room { length digits.now ≤ length room.old }
+    requires room { length digits.now ≤ 2 * length room.old + 1 }
     ensures some { IfSome result (λ found. IsHexText digits.now found.0.now) }
     ensures none { IfNone result ((bytes : List ℕ) → ¬ (IsHexText digits.now bytes)) }
     ensures left { IfSome result (λ found.
-        length room.old ≤ length found.1.now + length digits.now) }
+        2 * length room.old ≤ 2 * length found.1.now + length digits.now) }
 {
     let (pairs, odd) = digits.as_bytes().as_chunks::<2>();
     if !odd.is_empty() {

@@ -1,5 +1,5 @@
 //! A script from its argument and its input to its printed answers.
-ghost use Rattle.std.specs.Prelude.{◌≡◌, ◌≢◌, ◌+◌, ◌<◌, ◌≤◌, ◌↔◌, ◌⊎◌, ◌∷◌, ℕ, List, IfErr, IfOk, IfSome, IsOk, IsUtf8, Err, OnOk, length};
+ghost use Rattle.std.specs.Prelude.{◌≡◌, ◌≢◌, ◌+◌, ◌*◌, ◌<◌, ◌≤◌, ◌↔◌, ◌⊎◌, ◌∷◌, ℕ, List, IfErr, IfOk, IfSome, IsOk, IsUtf8, Err, OnOk, length, take};
 ghost use Rattle.std.specs.Io.KnownBytes.{Appends, Consumes, IsAtEnd};
 ghost use Rattle.script_language.specs.Output.{WritesFront};
 ghost use Rattle.script_language.specs.Script.{LinesAskFor, IsFirstBad, IsNamed, IsScript, Prints, PrintsFrom, bytes_left, lines_left, lines_of};
@@ -70,8 +70,8 @@ pub fn script<R: Read, W: Write>(
     let Ok(script) = str::from_utf8(bytes.as_slice()) else {
         return Err(ScriptFault::NotUtf8);
     };
-    // No line is written for more bytes than it has.
-    let mut room = vec![in alloc; 0u8; script.len()]?;
+    // A line is written for half as many bytes as it has at most: two digits stand for each.
+    let mut room = vec![in alloc; 0u8; script.len() / 2]?;
     let commands = commands_of(alloc, script, room.as_mut_slice())?;
     run_from(alloc, start, commands.as_slice(), out)
 }
@@ -82,7 +82,7 @@ fn commands_of<'a>(
     script: &'a str,
     room: &'a mut [u8],
 ) -> Result<Vec<Command<'a>>, ScriptFault>
-    requires room { length script.now ≤ length room.old }
+    requires room { length script.now ≤ 2 * length room.old + 1 }
     requires short { length script.now ≤ MOST_BYTES }
     ensures asked { IfOk result (λ commands. LinesAskFor (lines_of script.now) commands.items) }
     ensures bad_line { (number : ℕ) → result ≡ Err (ScriptFault.BadLine number)
@@ -90,14 +90,15 @@ fn commands_of<'a>(
     ensures fault { IfErr result (λ fault. (fault ≡ ScriptFault.NoMemory)
         ⊎ ((number : ℕ) × (fault ≡ ScriptFault.BadLine number))) }
 {
-    let mut commands = Vec::new(alloc);
+    // No line that asks for a command has fewer bytes than `pop` and its line feed.
+    let mut commands = Vec::with_capacity(alloc, (script.len() + 1) / 4)?;
     let mut number = 1;
     let mut room = room;
     let mut unread = Some(script);
     while let Some(rest) = unread {
         let (line, behind) = first_line(rest);
         if !line.is_empty() {
-            let Some((command, room_left)) = command_of(line, room) else {
+            let Some((command, room_left)) = command_of(line, rest.as_bytes(), room) else {
                 return Err(ScriptFault::BadLine(number));
             };
             commands.push(command)?;
@@ -112,6 +113,7 @@ fn commands_of<'a>(
 /// What stands before the first line feed, and what stands behind it.
 fn first_line(text: &str) -> (&str, Option<&str>)
     ensures line { lines_of text.now ≡ result.0.now ∷ lines_left result.1 }
+    ensures front { take (length result.0.now) text.now ≡ result.0.now }
     ensures size { length result.0.now + bytes_left result.1 ≡ length text.now }
 {
     match cut_at(text, '\n') {
