@@ -40,7 +40,6 @@ impl Buffer {
     }
 
     /// Puts `bytes` behind those that wait. Where they have no room there, these are written first.
-    #[inline]
     pub fn add<W: Write>(&mut self, out: &mut W, bytes: &[u8]) -> Result<(), ScriptFault>
         ensures gathered { OnOk result (IsGathered (W.contents out.old) (W.contents out.new)
             self.old bytes.now self.new) }
@@ -60,9 +59,27 @@ impl Buffer {
         Ok(())
     }
 
+    /// Leaves room for `count` bytes behind those that wait: where it is not there, these are
+    /// written.
+    #[inline]
+    pub fn leave_room<W: Write>(&mut self, out: &mut W, count: usize) -> Result<(), ScriptFault>
+        requires { count ≤ MOST_WAITING }
+        ensures room { OnOk result (length self.new + count ≤ MOST_WAITING) }
+        ensures gathered { OnOk result (IsGathered (W.contents out.old) (W.contents out.new)
+            self.old [] self.new) }
+        ensures part { IfErr result (λ _. WritesFront (W.contents out.old) (W.contents out.new)
+            self.old) }
+        ensures fault { IfErr result (λ fault. fault ≡ ScriptFault.Write) }
+    {
+        if MOST_WAITING - self.count < count {
+            self.flush(out)?;
+        }
+        Ok(())
+    }
+
     /// Puts `bytes` behind those that wait, which must leave room for them.
     #[inline]
-    fn put(&mut self, bytes: &[u8])
+    pub fn put(&mut self, bytes: &[u8])
         requires { length self.old + length bytes.now ≤ MOST_WAITING }
         ensures { self.new ≡ self.old ++ bytes.now }
     {

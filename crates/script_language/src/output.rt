@@ -1,5 +1,7 @@
 //! Prints what a run gave. It takes no memory.
-ghost use Rattle.std.specs.Prelude.{◌≡◌, ◌++◌, IfErr, OnOk, decimal};
+ghost use Rattle.std.specs.Prelude.{◌≡◌, ◌+◌, ◌≤◌, ◌++◌, IfErr, OnOk, decimal, length};
+ghost use Rattle.script_language.specs.declared.buffer.TheConstants.{MOST_WAITING};
+ghost use Rattle.script_language.specs.declared.output.TheConstants.{LONGEST_REPLY_LINE};
 ghost use Rattle.std.specs.Io.KnownBytes.{Appends};
 ghost use Rattle.script_language.specs.Output.{labelled_line, printed, reply_line, storage_name, IsGathered, WritesFront};
 
@@ -8,6 +10,9 @@ use crate::fault::ScriptFault;
 use inlinable_string::run::Reply;
 use inlinable_string::{Storage, StringExt};
 use std::io::Write;
+
+/// The most bytes that the line of a reply has.
+const LONGEST_REPLY_LINE: usize = 13;
 
 /// The most digits that a length has.
 const LENGTH_DIGITS: usize = 20;
@@ -40,6 +45,7 @@ pub fn print<S: StringExt, W: Write>(
     buffer.flush(out)
 }
 
+#[inline]
 fn print_reply<W: Write>(out: &mut W, buffer: &mut Buffer, reply: Reply) -> Result<(), ScriptFault>
     ensures gathered { OnOk result (IsGathered (W.contents out.old) (W.contents out.new)
         buffer.old (reply_line reply) buffer.new) }
@@ -47,23 +53,44 @@ fn print_reply<W: Write>(out: &mut W, buffer: &mut Buffer, reply: Reply) -> Resu
         (buffer.old ++ reply_line reply)) }
     ensures fault { IfErr result (λ fault. fault ≡ ScriptFault.Write) }
 {
+    buffer.leave_room(out, LONGEST_REPLY_LINE)?;
+    put_reply(buffer, reply);
+    Ok(())
+}
+
+/// Puts the line of a reply behind the bytes that wait, which must leave room for it.
+#[inline(never)]
+fn put_reply(buffer: &mut Buffer, reply: Reply)
+    requires { length buffer.old + LONGEST_REPLY_LINE ≤ MOST_WAITING }
+    ensures { buffer.new ≡ buffer.old ++ reply_line reply }
+{
     match reply {
-        Reply::Done => buffer.add(out, b"done\n"),
-        Reply::Char(character) => {
-            let mut bytes = [0; 4];
-            print_line(
-                out,
-                buffer,
-                b"char ",
-                character.encode_utf8(&mut bytes).as_bytes(),
-            )
-        }
-        Reply::NoChar => buffer.add(out, b"none\n"),
-        Reply::BadPlace => buffer.add(out, b"bad place\n"),
-        Reply::NotUtf8 => buffer.add(out, b"not utf-8\n"),
-        Reply::WrongLength => buffer.add(out, b"wrong length\n"),
-        Reply::NoMemory => buffer.add(out, b"no memory\n"),
+        Reply::Done => buffer.put(b"done\n"),
+        Reply::Char(character) => put_char(buffer, character),
+        Reply::NoChar => buffer.put(b"none\n"),
+        Reply::BadPlace => buffer.put(b"bad place\n"),
+        Reply::NotUtf8 => buffer.put(b"not utf-8\n"),
+        Reply::WrongLength => buffer.put(b"wrong length\n"),
+        Reply::NoMemory => buffer.put(b"no memory\n"),
     }
+}
+
+/// Puts the line of a character behind the bytes that wait, which must leave room for it.
+#[inline(never)]
+fn put_char(buffer: &mut Buffer, character: char)
+    requires { length buffer.old + LONGEST_REPLY_LINE ≤ MOST_WAITING }
+    ensures { buffer.new ≡ buffer.old ++ reply_line (Reply.Char character) }
+{
+    // A line of a known length is put there by a few stores.
+    if character.is_ascii() {
+        let mut line = *b"char _\n";
+        line[5] = character as u8;
+        return buffer.put(&line);
+    }
+    let mut bytes = [0; 4];
+    buffer.put(b"char ");
+    buffer.put(character.encode_utf8(&mut bytes).as_bytes());
+    buffer.put(b"\n");
 }
 
 /// The digits of a number, which are put at the end of the room.
