@@ -1,11 +1,11 @@
 //! Text that lies inline while it has at most `N` bytes, and goes to the heap when it outgrows
 //! them.
-ghost use Rattle.std.specs.Prelude.{◌≡◌, ◌+◌, ◌≤◌, ◌++◌, [], ◌∷◌, length, IfOk, OnOk, OnErr};
+ghost use Rattle.std.specs.Prelude.{◌≡◌, ◌+◌, ◌≤◌, ◌++◌, [], ◌∷◌, length, IfOk, IsOk, OnOk, OnErr};
 ghost use Rattle.std.specs.List.{insert_slice};
 ghost use Rattle.std.specs.Str.{chars, IsCharBoundary};
 ghost use Rattle.std.specs.String.{string_bytes, string_capacity};
 ghost use Rattle.inlinable_string.specs.Text.{size, IsPlace, IsSplice};
-ghost use Rattle.inlinable_string.specs.State.{IsSameText};
+ghost use Rattle.inlinable_string.specs.State.{IsSameText, HasRoom, HasInlineRoom, storage_with_room};
 ghost use Rattle.inlinable_string.specs.Values.{inlinable_policy, inlinable_state};
 
 use crate::inline_string::{INLINE_STRING_CAPACITY, InlineStringN, ReplaceError};
@@ -93,24 +93,32 @@ impl<const N: usize> InlinableStringN<N> {
         Ok(())
     }
 
-    /// Moves an inline text to the heap, with `ch` at its end.
+    /// `push` of any character, wherever the text lies and its room is. Out of line, so that a push
+    /// of an ASCII character behind an inline text pays nothing for it.
     #[cold]
     #[inline(never)]
-    fn promote_pushing(&mut self, ch: char) -> Result<(), AllocError>
-        requires inline { (inlinable_state N self.old).storage ≡ Storage.Inline }
+    fn push_slowly(&mut self, ch: char) -> Result<(), AllocError>
         ensures text { OnOk result ((inlinable_state N self.new).text
             ≡ (inlinable_state N self.old).text ++ ch ∷ []) }
         ensures len { OnOk result (size (inlinable_state N self.new).text
             ≡ size (inlinable_state N self.old).text + size (ch ∷ [])) }
-        ensures storage { OnOk result ((inlinable_state N self.new).storage ≡ Storage.Heap) }
-        ensures room { OnOk result
-            (size (inlinable_state N self.old).text + size (ch ∷ [])
-            ≤ (inlinable_state N self.new).capacity) }
+        ensures char_len { size (ch ∷ []) ≤ 4 }
+        ensures storage { OnOk result ((inlinable_state N self.new).storage
+            ≡ storage_with_room (inlinable_state N self.old) (size (ch ∷ []))) }
         ensures err { OnErr result
             (IsSameText (inlinable_state N self.old) (inlinable_state N self.new)) }
+
+        // What fits is not refused, and no room is lost.
+        ensures granted { HasRoom (inlinable_state N self.old) (size (ch ∷ [])) → IsOk result }
+        ensures inline_granted { HasInlineRoom (inlinable_state N self.old) (size (ch ∷ []))
+            → IsOk result }
+        ensures room { OnOk result
+            ((inlinable_state N self.old).capacity ≤ (inlinable_state N self.new).capacity) }
+        ensures policy { (inlinable_state N self.new).policy
+            ≡ (inlinable_state N self.old).policy }
     {
         let mut buffer = [0; 4];
-        self.promote_appending(ch.encode_utf8(&mut buffer))
+        self.push_str(ch.encode_utf8(&mut buffer))
     }
 }
 
@@ -170,10 +178,12 @@ impl<const N: usize> StringExt for InlinableStringN<N> {
     fn push(&mut self, ch: char) -> Result<(), AllocError> {
         match self {
             InlinableStringN::Heap(text, _) => StringExt::push(text, ch),
-            InlinableStringN::Inline(text, _) => match text.push(ch) {
-                Ok(()) => Ok(()),
-                Err(_) => self.promote_pushing(ch),
-            },
+            InlinableStringN::Inline(text, _) => {
+                if text.push_behind(ch) {
+                    return Ok(());
+                }
+                self.push_slowly(ch)
+            }
         }
     }
 

@@ -3,6 +3,7 @@
 //! Use [`InlineStringN`] where no text is longer than the limit, or where a longer one is to be
 //! refused; where a longer one is to be kept, use [`crate::InlinableStringN`].
 ghost use Rattle.std.specs.Prelude.{◌≡◌, ⊤, ℕ, ◌+◌, ◌-◌, ◌≤◌, ◌<◌, ◌↔◌, List, ◌++◌, [], ◌∷◌, length, drop, replicate, encode_utf8, IsTrue, true, OnOk, OnErr, Err, Some, MatchOption, MatchResult, IsUtf8, codes};
+ghost use Rattle.std.specs.Bool.{OnTrue, OnFalse};
 ghost use Rattle.std.specs.Str.{all_scalars, chars, IsCharBoundary};
 ghost use Rattle.inlinable_string.specs.Text.{bytes_of, size, IsCut, IsPlace, IsSplice, IsRemoval};
 ghost use Rattle.inlinable_string.specs.Errors.{replacement_message};
@@ -121,15 +122,31 @@ impl<const N: usize> InlineStringN<N> {
         ensures char_len { size (ch ∷ []) ≤ 4 }
         ensures err { OnErr result (self.new ≡ self.old) }
     {
+        if self.push_behind(ch) {
+            return Ok(());
+        }
+        self.push_slowly(ch)
+    }
+
+    /// Appends `ch` where it is ASCII and there is room behind the text: the usual push, in which
+    /// nothing moves. Else the answer is false, and nothing has changed.
+    #[inline]
+    pub(crate) fn push_behind(&mut self, ch: char) -> bool
+        ensures fits { OnTrue result (size self.old + size (ch ∷ []) ≤ N) }
+        ensures pushed { OnTrue result (self.new ≡ self.old ++ ch ∷ []) }
+        ensures len { OnTrue result (size self.new ≡ size self.old + size (ch ∷ [])) }
+        ensures char_len { OnTrue result (size (ch ∷ []) ≡ 1) }
+        ensures refused { OnFalse result (self.new ≡ self.old) }
+    {
         if ch.is_ascii() {
             let end = self.start + self.len;
             if end < N {
                 self.bytes[end] = ch as u8;
                 self.len += 1;
-                return Ok(());
+                return true;
             }
         }
-        self.push_slowly(ch)
+        false
     }
 
     /// [`InlineStringN::push`] of any character, wherever its room is. Out of line, so that a push
