@@ -176,6 +176,9 @@ impl<const N: usize> StringExt for InlinableStringN<N> {
 
     #[inline]
     fn push(&mut self, ch: char) -> Result<(), AllocError> {
+        if !ch.is_ascii() {
+            return self.push_slowly(ch);
+        }
         match self {
             InlinableStringN::Heap(text, _) => StringExt::push(text, ch),
             InlinableStringN::Inline(text, _) => {

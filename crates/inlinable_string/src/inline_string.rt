@@ -141,8 +141,9 @@ impl<const N: usize> InlineStringN<N> {
         if ch.is_ascii() {
             let end = self.start + self.len;
             if end < N {
-                self.bytes[end] = ch as u8;
+                // The length first: else LLVM joins this with a push onto the heap, by a jump.
                 self.len += 1;
+                self.bytes[end] = ch as u8;
                 return true;
             }
         }
