@@ -115,30 +115,33 @@ pub(crate) fn put_in(cells: &mut [u8], start: usize, len: usize, at: usize, adde
     }
 }
 
-/// `put_in` of one byte, whose moves are by a constant.
+/// `put_in` of one byte, whose moves are by a constant. Where the window starts is written only
+/// where that changes.
 #[inline]
-pub(crate) fn put_byte(cells: &mut [u8], start: usize, len: usize, at: usize, byte: u8) -> usize
+pub(crate) fn put_byte(cells: &mut [u8], start: &mut usize, len: usize, at: usize, byte: u8)
     requires place { at ≤ len }
-    requires inside { start + len ≤ length cells.old }
+    requires inside { start.old + len ≤ length cells.old }
     requires room { len < length cells.old }
-    ensures start { result ≡ start_with_more start (length cells.old - len - start) len at 1 }
-    ensures inside { result + (len + 1) ≤ length cells.old }
-    ensures text { take (len + 1) (drop result cells.new)
-        ≡ insert_slice (take len (drop start cells.old)) at (byte ∷ []) }
+    ensures start { start.new
+        ≡ start_with_more start.old (length cells.old - len - start.old) len at 1 }
+    ensures inside { start.new + (len + 1) ≤ length cells.old }
+    ensures text { take (len + 1) (drop start.new cells.new)
+        ≡ insert_slice (take len (drop start.old cells.old)) at (byte ∷ []) }
 {
     let added = [byte];
-    if start == 0 {
+    let old_start = *start;
+    if old_start == 0 {
         insert_up(cells, len, at, &added[..]);
-        return 0;
+        return;
     }
-    let behind = cells.len() - len - start;
+    let behind = cells.len() - len - old_start;
     if 0 < behind && len - at <= at {
-        insert_up(&mut cells[start..], len, at, &added[..]);
-        return start;
+        insert_up(&mut cells[old_start..], len, at, &added[..]);
+        return;
     }
-    let earlier = start - 1;
+    let earlier = old_start - 1;
     insert_down(&mut cells[earlier..], len, at, &added[..]);
-    earlier
+    *start = earlier;
 }
 
 /// Takes the bytes from `from` to `to` out of the window, and tells where it starts then. The

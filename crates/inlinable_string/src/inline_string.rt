@@ -219,8 +219,7 @@ impl<const N: usize> InlineStringN<N> {
             if len == N {
                 return Err(NotEnoughSpaceError);
             }
-            let start = put_byte(&mut self.bytes[..], self.start, len, idx, ch as u8);
-            self.start = start;
+            put_byte(&mut self.bytes[..], &mut self.start, len, idx, ch as u8);
             self.len = len + 1;
             return Ok(());
         }
