@@ -128,12 +128,30 @@ pub(crate) fn put_byte(cells: &mut [u8], start: &mut usize, len: usize, at: usiz
     ensures text { take (len + 1) (drop start.new cells.new)
         ≡ insert_slice (take len (drop start.old cells.old)) at (byte ∷ []) }
 {
-    let added = [byte];
-    let old_start = *start;
-    if old_start == 0 {
-        insert_up(cells, len, at, &added[..]);
+    if *start == 0 {
+        insert_up(cells, len, at, &[byte][..]);
         return;
     }
+    put_byte_further_in(cells, start, len, at, byte);
+}
+
+/// `put_byte` where there is room in front of the window. Out of line, so that one into a text that
+/// starts at the front, as most do, pays nothing for it.
+#[cold]
+#[inline(never)]
+fn put_byte_further_in(cells: &mut [u8], start: &mut usize, len: usize, at: usize, byte: u8)
+    requires front { 0 < start.old }
+    requires place { at ≤ len }
+    requires inside { start.old + len ≤ length cells.old }
+    requires room { len < length cells.old }
+    ensures start { start.new
+        ≡ start_with_more start.old (length cells.old - len - start.old) len at 1 }
+    ensures inside { start.new + (len + 1) ≤ length cells.old }
+    ensures text { take (len + 1) (drop start.new cells.new)
+        ≡ insert_slice (take len (drop start.old cells.old)) at (byte ∷ []) }
+{
+    let added = [byte];
+    let old_start = *start;
     let behind = cells.len() - len - old_start;
     if 0 < behind && len - at <= at {
         insert_up(&mut cells[old_start..], len, at, &added[..]);
