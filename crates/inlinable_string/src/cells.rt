@@ -135,8 +135,8 @@ pub(crate) fn put_byte(cells: &mut [u8], start: &mut usize, len: usize, at: usiz
     put_byte_further_in(cells, start, len, at, byte);
 }
 
-/// `put_byte` where there is room in front of the window. Out of line, so that one into a text that
-/// starts at the front, as most do, pays nothing for it.
+/// `put_byte` where there is room in front of the window. Out of line, so that a window that starts
+/// at the front, as that of a new text does, pays nothing for it.
 #[cold]
 #[inline(never)]
 fn put_byte_further_in(cells: &mut [u8], start: &mut usize, len: usize, at: usize, byte: u8)
