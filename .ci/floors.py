@@ -8,7 +8,7 @@ counts, with the reason.
 EDITS = {'inlinable_string': 212, 'inline_model': 34, 'inline_uses': 26, 'script_language': 50}
 
 # By crate: requests for memory refused one after the other, and how often a test met one.
-REFUSALS = {'inline_refusals': (4, 106), 'inline_script': (7, 57)}
+REFUSALS = {'inline_refusals': (4, 106), 'inline_script': (7, 55)}
 
 # The stored cases of the files in `replay/`, and the scripts whose answers are kept as digests: all of them.
 STORED = {'named.cases': 258, 'drawn.cases': 63, 'digests': 100_000}
