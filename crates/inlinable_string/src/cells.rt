@@ -89,7 +89,13 @@ pub(crate) fn slide(cells: &mut [u8], start: usize, len: usize)
 /// Where both sides have room the shorter part moves; where one side has, the part on that side;
 /// where neither has, the window first slides to the front.
 #[inline(never)]
-pub(crate) fn put_in(cells: &mut [u8], start: usize, len: usize, at: usize, added: &[u8]) -> usize
+pub(crate) fn insert_in(
+    cells: &mut [u8],
+    start: usize,
+    len: usize,
+    at: usize,
+    added: &[u8],
+) -> usize
     requires place { at ≤ len }
     requires inside { start + len ≤ length cells.old }
     requires room { len + length added.now ≤ length cells.old }
@@ -115,10 +121,10 @@ pub(crate) fn put_in(cells: &mut [u8], start: usize, len: usize, at: usize, adde
     }
 }
 
-/// `put_in` of one byte, whose moves are by a constant. Where the window starts is written only
+/// `insert_in` of one byte, whose moves are by a constant. Where the window starts is written only
 /// where that changes.
 #[inline]
-pub(crate) fn put_byte(cells: &mut [u8], start: &mut usize, len: usize, at: usize, byte: u8)
+pub(crate) fn insert_byte(cells: &mut [u8], start: &mut usize, len: usize, at: usize, byte: u8)
     requires place { at ≤ len }
     requires inside { start.old + len ≤ length cells.old }
     requires room { len < length cells.old }
@@ -132,14 +138,14 @@ pub(crate) fn put_byte(cells: &mut [u8], start: &mut usize, len: usize, at: usiz
         insert_up(cells, len, at, &[byte][..]);
         return;
     }
-    put_byte_further_in(cells, start, len, at, byte);
+    insert_byte_further_in(cells, start, len, at, byte);
 }
 
-/// `put_byte` where there is room in front of the window. Out of line, so that a window that starts
+/// `insert_byte` where there is room in front of the window. Out of line, so that a window that starts
 /// at the front, as that of a new text does, pays nothing for it.
 #[cold]
 #[inline(never)]
-fn put_byte_further_in(cells: &mut [u8], start: &mut usize, len: usize, at: usize, byte: u8)
+fn insert_byte_further_in(cells: &mut [u8], start: &mut usize, len: usize, at: usize, byte: u8)
     requires front { 0 < start.old }
     requires place { at ≤ len }
     requires inside { start.old + len ≤ length cells.old }
@@ -165,7 +171,7 @@ fn put_byte_further_in(cells: &mut [u8], start: &mut usize, len: usize, at: usiz
 /// Takes the bytes from `from` to `to` out of the window, and tells where it starts then. The
 /// shorter part moves.
 #[inline]
-pub(crate) fn take_out(cells: &mut [u8], start: usize, len: usize, from: usize, to: usize) -> usize
+pub(crate) fn remove_in(cells: &mut [u8], start: usize, len: usize, from: usize, to: usize) -> usize
     requires order { from ≤ to }
     requires place { to ≤ len }
     requires inside { start + len ≤ length cells.old }

@@ -8,7 +8,7 @@ ghost use Rattle.std.specs.Str.{all_scalars, chars, IsCharBoundary};
 ghost use Rattle.inlinable_string.specs.Text.{bytes_of, size, IsCut, IsPlace, IsSplice, IsRemoval};
 ghost use Rattle.inlinable_string.specs.Errors.{replacement_message};
 
-use crate::cells::{put_byte, put_in, take_out, write_at, write_front};
+use crate::cells::{insert_byte, insert_in, remove_in, write_at, write_front};
 use std::alloc::AllocError;
 use std::error::Error;
 use std::marker::Model;
@@ -190,7 +190,7 @@ impl<const N: usize> InlineStringN<N> {
         if N - len < string.len() {
             return Err(NotEnoughSpaceError);
         }
-        let start = put_in(&mut self.bytes[..], self.start, len, len, string.as_bytes());
+        let start = insert_in(&mut self.bytes[..], self.start, len, len, string.as_bytes());
         self.start = start;
         self.len = len + string.len();
         Ok(())
@@ -219,7 +219,7 @@ impl<const N: usize> InlineStringN<N> {
             if len == N {
                 return Err(NotEnoughSpaceError);
             }
-            put_byte(&mut self.bytes[..], &mut self.start, len, idx, ch as u8);
+            insert_byte(&mut self.bytes[..], &mut self.start, len, idx, ch as u8);
             self.len = len + 1;
             return Ok(());
         }
@@ -248,7 +248,7 @@ impl<const N: usize> InlineStringN<N> {
             return Err(NotEnoughSpaceError);
         }
         let new_len = old_len + string.len();
-        let start = put_in(
+        let start = insert_in(
             &mut self.bytes[..],
             self.start,
             old_len,
@@ -300,7 +300,7 @@ impl<const N: usize> InlineStringN<N> {
     {
         let (ch, next) = char_at(self.as_str(), idx);
         let len = self.len;
-        let start = take_out(&mut self.bytes[..], self.start, len, idx, next);
+        let start = remove_in(&mut self.bytes[..], self.start, len, idx, next);
         self.start = start;
         self.len = len - (next - idx);
         ch

@@ -7,16 +7,16 @@ pub returns-then-old_len-string-clause-fits : goal.returns-then-old_len-string-c
 returns-then-old_len-string-clause-fits g c =
     omega (arith, size_of (held c.self.inside c.self.view_is c.self.told c.self.invariant))
 
-pub put_in-start-requires-clause-place : goal.put_in-start-requires-clause-place
-put_in-start-requires-clause-place g c =
+pub insert_in-start-requires-clause-place : goal.insert_in-start-requires-clause-place
+insert_in-start-requires-clause-place g c =
     let h = held c.self.inside c.self.view_is c.self.told c.self.invariant in
     omega (arith, place_within _ _ c.requires.place, size_of h)
 
 pub invariant_of-self : goal.invariant_of-self
 invariant_of-self g c =
     let h = held c.self.inside c.self.view_is c.self.told c.self.invariant in
-    let new = rw c.as_bytes.ensures.value at c.put_in-start.ensures.text in (
-      omega (arith, c.put_in-start.ensures.inside),
+    let new = rw c.as_bytes.ensures.value at c.insert_in-start.ensures.text in (
+      omega (arith, c.insert_in-start.ensures.inside),
       (inserted h (holds_chars c.utf8.string) c.requires.place new).0,
     )
 
@@ -26,7 +26,7 @@ returns-then-old_len-string-clause-within g c = place_within _ _ c.requires.plac
 pub returns : goal.returns
 returns g c =
     let h = held c.self.inside c.self.view_is c.self.told c.self.invariant in
-    let new = rw c.as_bytes.ensures.value at c.put_in-start.ensures.text in
+    let new = rw c.as_bytes.ensures.value at c.insert_in-start.ensures.text in
     let ok = (inserted h (holds_chars c.utf8.string) c.requires.place new).1 in
     record {
       fits = omega (arith, size_of h);

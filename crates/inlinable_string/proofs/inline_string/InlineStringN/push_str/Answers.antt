@@ -30,14 +30,14 @@ returns-then-string-end g c =
 pub invariant_of-self-2 : goal.invariant_of-self-2
 invariant_of-self-2 g c =
     let h = held c.self.inside c.self.view_is c.self.told c.self.invariant in
-    let new = rw c.as_bytes-2.ensures.value at c.put_in-start.ensures.text in
+    let new = rw c.as_bytes-2.ensures.value at c.insert_in-start.ensures.text in
     let added = new ∙ inserted_last _ c.args.string.now _ h.long in
-    (omega (arith, c.put_in-start.ensures.inside), (pushed h (holds_chars c.utf8.string) added).0)
+    (omega (arith, c.insert_in-start.ensures.inside), (pushed h (holds_chars c.utf8.string) added).0)
 
 pub returns : goal.returns
 returns g c =
     let h = held c.self.inside c.self.view_is c.self.told c.self.invariant in
-    let new = rw c.as_bytes-2.ensures.value at c.put_in-start.ensures.text in
+    let new = rw c.as_bytes-2.ensures.value at c.insert_in-start.ensures.text in
     let added = new ∙ inserted_last _ c.args.string.now _ h.long in
     let ok = (pushed h (holds_chars c.utf8.string) added).1 in
     record {
