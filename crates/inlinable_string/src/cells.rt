@@ -9,10 +9,11 @@ ghost use Rattle.inlinable_string.specs.Cells.{start_with_less, start_with_more}
 #[inline]
 pub(crate) fn write_at(cells: &mut [u8], at: usize, added: &[u8])
     requires { at + length added.now ≤ length cells.old }
-    ensures { take (at + length added.now) cells.new ≡ take at cells.old ++ added.now }
+    ensures text { take (at + length added.now) cells.new ≡ take at cells.old ++ added.now }
+    ensures behind { drop (at + length added.now) cells.new
+        ≡ drop (at + length added.now) cells.old }
 {
-    let end = at + added.len();
-    cells[at..end].copy_from_slice(added);
+    cells[at..at + added.len()].copy_from_slice(added);
 }
 
 /// Writes bytes over the first ones.

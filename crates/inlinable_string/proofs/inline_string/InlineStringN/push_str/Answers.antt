@@ -10,14 +10,14 @@ returns-then-len-string-clause-fits g c =
 pub invariant_of-self : goal.invariant_of-self
 invariant_of-self g c =
     let h = held c.self.inside c.self.view_is c.self.told c.self.invariant in
-    let new = rw c.as_bytes.ensures.value at c.write_at.ensures in
+    let new = rw c.as_bytes.ensures.value at c.write_at.ensures.text in
     let added = window_extended c.self.inside (omega arith) c.args.string.now _ new in
     (omega arith, (pushed h (holds_chars c.utf8.string) added).0)
 
 pub returns-then-string-end : goal.returns-then-string-end
 returns-then-string-end g c =
     let h = held c.self.inside c.self.view_is c.self.told c.self.invariant in
-    let new = rw c.as_bytes.ensures.value at c.write_at.ensures in
+    let new = rw c.as_bytes.ensures.value at c.write_at.ensures.text in
     let added = window_extended c.self.inside (omega arith) c.args.string.now _ new in
     let ok = (pushed h (holds_chars c.utf8.string) added).1 in
     record {

@@ -17,13 +17,13 @@ pub invariant_of-self : goal.invariant_of-self
 invariant_of-self g c =
     let utf8 = c.in-Ok.ensures.cases in
     (window_replaced c.self.inside c.self.view_is c.self.told c.self.invariant _ _
-    (c.as_bytes.ensures.value ∙ utf8.0) utf8.1 c.if-bytes-self.false c.write_at.ensures).0
+    (c.as_bytes.ensures.value ∙ utf8.0) utf8.1 c.if-bytes-self.false c.write_at.ensures.text).0
 
 pub returns-clause-ok : goal.returns-clause-ok
 returns-clause-ok g c =
     let utf8 = c.in-Ok.ensures.cases in
     (window_replaced c.self.inside c.self.view_is c.self.told c.self.invariant _ _
-    (c.as_bytes.ensures.value ∙ utf8.0) utf8.1 c.if-bytes-self.false c.write_at.ensures).1
+    (c.as_bytes.ensures.value ∙ utf8.0) utf8.1 c.if-bytes-self.false c.write_at.ensures.text).1
 
 pub returns-clause-same_length : goal.returns-clause-same_length
 returns-clause-same_length g c =
