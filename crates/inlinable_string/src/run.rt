@@ -82,7 +82,7 @@ pub enum Reply {
 /// What a command does to a text, of a type of its own or behind a `dyn`. A place is tested before
 /// anything that can ask for memory. Two arms go by functions, since a `&str` out of a variant is
 /// known to be text only as an argument.
-macro_rules! obeyed {
+macro_rules! reply_to_command {
     ($text:ident, $command:ident, $push_str:ident, $insert_str:ident) => {
         match $command {
             Command::Push(ch) => match $text.push(ch) {
@@ -147,7 +147,7 @@ macro_rules! obeyed {
     };
 }
 
-pub(crate) use obeyed;
+pub(crate) use reply_to_command;
 
 /// Gives each command in turn to the text, and writes the reply to each, in the same order.
 ///
@@ -173,26 +173,26 @@ pub fn run<S: StringExt>(text: &mut S, commands: &[Command], replies: &mut [Repl
 {
     let _ = text.len();
     for (i, command) in commands.iter().enumerate() {
-        replies[i] = apply(text, *command);
+        replies[i] = step(text, *command);
     }
 }
 
 /// Gives one command.
-fn apply<S: StringExt>(text: &mut S, command: Command) -> Reply
+fn step<S: StringExt>(text: &mut S, command: Command) -> Reply
     ensures { IsStep (S.state text.old) command.entry result (S.state text.new) }
 {
-    let reply = obey(text, command);
+    let reply = reply_to(text, command);
     // The laws of the text as it is now.
     let _ = text.len();
     reply
 }
 
 /// Gives one command; that the text is lawful after it is left to the caller.
-fn obey<S: StringExt>(text: &mut S, command: Command) -> Reply
+fn reply_to<S: StringExt>(text: &mut S, command: Command) -> Reply
     ensures { IsLawful (S.state text.new)
         → IsStep (S.state text.old) command.entry result (S.state text.new) }
 {
-    obeyed!(text, command, push_str, insert_str)
+    reply_to_command!(text, command, push_str, insert_str)
 }
 
 fn push_str<S: StringExt>(text: &mut S, string: &str) -> Reply

@@ -6,7 +6,7 @@ ghost use Rattle.inlinable_string.specs.Edit.{text_after};
 ghost use Rattle.inlinable_string.specs.Run.{LegalReplies, storage_after, credit_after};
 ghost use Rattle.inlinable_string.specs.Step.{IsStep};
 
-use super::{Command, Reply, obeyed};
+use super::{Command, Reply, reply_to_command};
 use crate::inline_string::ReplaceError;
 use crate::string_ext::StringExt;
 
@@ -31,26 +31,26 @@ pub fn run_dyn(text: &mut dyn StringExt, commands: &[Command], replies: &mut [Re
 {
     let _ = text.len();
     for (i, command) in commands.iter().enumerate() {
-        replies[i] = apply_dyn(text, *command);
+        replies[i] = step_dyn(text, *command);
     }
 }
 
 /// Gives one command.
-fn apply_dyn(text: &mut dyn StringExt, command: Command) -> Reply
+fn step_dyn(text: &mut dyn StringExt, command: Command) -> Reply
     ensures { IsStep (state text.old) command.entry result (state text.new) }
 {
-    let reply = obey_dyn(text, command);
+    let reply = reply_to_dyn(text, command);
     // The laws of the text as it is now.
     let _ = text.len();
     reply
 }
 
 /// Gives one command; that the text is lawful after it is left to the caller.
-fn obey_dyn(text: &mut dyn StringExt, command: Command) -> Reply
+fn reply_to_dyn(text: &mut dyn StringExt, command: Command) -> Reply
     ensures { IsLawful (state text.new)
         → IsStep (state text.old) command.entry result (state text.new) }
 {
-    obeyed!(text, command, push_str_dyn, insert_str_dyn)
+    reply_to_command!(text, command, push_str_dyn, insert_str_dyn)
 }
 
 fn push_str_dyn(text: &mut dyn StringExt, string: &str) -> Reply

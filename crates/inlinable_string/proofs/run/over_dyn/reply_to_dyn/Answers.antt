@@ -1,16 +1,13 @@
-use Rattle.std.proofs.Common.{rules}
+use Rattle.inlinable_string.proofs.Common.{common_steps, rules, arith}
 use Rattle.inlinable_string.proofs.Cut.{not_from_test}
 use Rattle.inlinable_string.proofs.Steps.{insert_done, insert_refused, insert_misplaced, truncate_done, truncate_misplaced, pop_char, remove_char, remove_misplaced, remove_at_end, replace_done, replace_not_utf8}
-use Rattle.inlinable_string.proofs.run.obey.Goals as goal
+use Rattle.inlinable_string.proofs.run.over_dyn.reply_to_dyn.Goals as goal
 
 pub returns-in-Ok-insert : goal.returns-in-Ok-insert
 returns-in-Ok-insert g c laws = search (rules, insert_done)
 
 pub returns-in-Err-insert : goal.returns-in-Err-insert
-returns-in-Err-insert g c laws =
-    let place = c.is_char_boundary.ensures.0 c.if-is_char_boundary.true in
-    let e = c.in-Err-insert.ensures in
-    rw c.in-Insert.is (insert_refused _ _ _ _ laws place e.err e.inline_granted e.policy)
+returns-in-Err-insert g c laws = grind (arith, common_steps, insert_refused)
 
 pub returns-else-is_char_boundary : goal.returns-else-is_char_boundary
 returns-else-is_char_boundary g c laws =
