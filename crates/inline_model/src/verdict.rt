@@ -82,7 +82,7 @@ pub enum Verdict {
 
 /// What the plain program says of commands with their replies, from a start, where a text is so
 /// after them.
-pub fn judged(
+pub fn verdict_of(
     alloc: Global,
     start: PlainText,
     commands: &[Command],

@@ -10,7 +10,7 @@ use inlinable_string::run::{Command, Reply, run, run_dyn};
 use inlinable_string::{Storage, StringExt};
 use inline_model::plain::plain_from;
 use inline_model::plain::room::PlainText;
-use inline_model::verdict::{Policy, Seen, Verdict, judged, seen_of, seen_of_dyn};
+use inline_model::verdict::{Policy, Seen, Verdict, seen_of, seen_of_dyn, verdict_of};
 use std::alloc::Global;
 use std::process::Abort;
 
@@ -79,7 +79,7 @@ pub fn wrong_verdict(
     ensures end { IsNone result
         → IsSeenAs end.entry (state_after (state_of start) commands.now replies.now) }
 {
-    let verdict = judged(alloc, start, commands, replies, end);
+    let verdict = verdict_of(alloc, start, commands, replies, end);
     let verdict = verdict.expect(rt, "memory for the plain program");
     if verdict == Verdict::Agrees {
         None

@@ -10,7 +10,7 @@ use inlinable_string::run::Reply::{
     self, BadPlace, Char, Done, NoChar, NoMemory, NotUtf8, WrongLength,
 };
 use inline_model::plain::plain_from;
-use inline_model::verdict::{Seen, Verdict, judged};
+use inline_model::verdict::{Seen, Verdict, verdict_of};
 use std::alloc::Global;
 use std::process::Abort;
 
@@ -192,7 +192,7 @@ fn verdict_of(
 ) -> Verdict {
     let start = plain_from(alloc, start, Inline, 30, true, 30);
     let start = start.expect(rt, "memory for the plain text");
-    let verdict = judged(alloc, start, commands, replies, end);
+    let verdict = verdict_of(alloc, start, commands, replies, end);
     verdict.expect(rt, "memory for the plain program")
 }
 

@@ -11,7 +11,9 @@ use inlinable_string::{
     BoxableString, InlinableString, InlinableStringN, Storage, StringExt, StringMake,
 };
 use inline_model::plain::plain_from;
-use inline_model::verdict::{HEAP, Policy, Seen, Verdict, inlinable, judged, seen_of, seen_of_dyn};
+use inline_model::verdict::{
+    HEAP, Policy, Seen, Verdict, inlinable, seen_of, seen_of_dyn, verdict_of,
+};
 use std::alloc::{AllocError, Global};
 use std::process::Abort;
 use std::test::Fail;
@@ -78,7 +80,7 @@ fn count_no_memory(replies: &[Reply]) -> usize {
 }
 
 /// What the plain program says of commands with their replies on a new text.
-fn judged_from_new(
+fn verdict_from_new(
     alloc: Global,
     start: Seen<'_>,
     policy: Policy,
@@ -94,7 +96,7 @@ fn judged_from_new(
         policy.demotes,
         policy.limit,
     )?;
-    judged(alloc, plain, commands, replies, end)
+    verdict_of(alloc, plain, commands, replies, end)
 }
 
 /// What is wrong after a run.
@@ -148,11 +150,11 @@ fn assert_refused_once(
         storage,
         capacity: policy.limit,
     };
-    let verdict = match judged_from_new(alloc, start, policy, commands, replies, end) {
+    let verdict = match verdict_from_new(alloc, start, policy, commands, replies, end) {
         Ok(verdict) => verdict,
         Err(_) => {
             assert!(rt; !refused, "want of memory with no request refused");
-            let again = judged_from_new(alloc, start, policy, commands, replies, end);
+            let again = verdict_from_new(alloc, start, policy, commands, replies, end);
             again.expect(rt, "memory for the plain program")
         }
     };
