@@ -134,8 +134,8 @@ const OTHERS: &[Other] = &[
 fn commands_of_each_kind_are_followed_to_their_end(rt: HostRuntime) {
     let alloc = rt.alloc();
     let (long, long_replies) = (&COMMANDS[..LONG], &REPLIES[..LONG]);
-    let of_long = verdict_of(&rt, alloc, "a", long, long_replies, LONG_END);
-    let of_whole = verdict_of(&rt, alloc, "a", COMMANDS, REPLIES, WHOLE_END);
+    let of_long = verdict_from_text(&rt, alloc, "a", long, long_replies, LONG_END);
+    let of_whole = verdict_from_text(&rt, alloc, "a", COMMANDS, REPLIES, WHOLE_END);
     assert!(rt;
         (of_long, of_whole) == (Agrees, Agrees),
         "{of_long:?}, {of_whole:?}"
@@ -159,7 +159,7 @@ fn wrong_other(
         let other = replies.get_mut(index);
         *other.expect(rt, "a reply of this index") = reply;
         let end = Seen { storage, ..end };
-        let verdict = verdict_of(rt, alloc, start, commands, &replies, end);
+        let verdict = verdict_from_text(rt, alloc, start, commands, &replies, end);
         if verdict != wanted {
             return Some((i, verdict));
         }
@@ -182,7 +182,7 @@ fn assert_others(
 }
 
 /// What the plain program says of a run that begins with this text, inline.
-fn verdict_of(
+fn verdict_from_text(
     rt: &impl Abort,
     alloc: Global,
     start: &str,
