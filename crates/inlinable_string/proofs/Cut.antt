@@ -1,5 +1,5 @@
 -- The cut of a text, and its last character.
-use Rattle.inlinable_string.proofs.Common.{common_steps, ◌≡◌, ℕ, ◌+◌, ◌-◌, ◌≤◌, true, false, nat_eq, nat_lt, List, [], ◌∷◌, ◌++◌, length, refl, sym, ap, ◌∙◌, arith, length-append, take, drop, take_at, take-append-drop, Option, Some, None, IsSome, Bool, IsTrue, ◌↔◌, cond_both, nat_tests, append_assoc, append-nil, encode_utf8, chars, IsUtf8, IsCharBoundary, IsCharBoundary-from_take, length-encode, len_utf8_bounds, bytes_of, size, IsCut, IsPlace, cut, with_first, split_last}
+use Rattle.inlinable_string.proofs.Common.{common_steps, ◌≡◌, ℕ, ◌-◌, ◌≤◌, true, false, nat_eq, nat_lt, List, [], ◌∷◌, ◌++◌, length, refl, sym, ap, ◌∙◌, arith, length-append, take, drop, take_at, take-append-drop, Option, Some, None, IsSome, Bool, IsTrue, ◌↔◌, cond_both, nat_tests, append_assoc, append-nil, encode_utf8, chars, IsUtf8, IsCharBoundary, IsCharBoundary-from_take, length-encode, len_utf8_bounds, bytes_of, size, IsCut, IsPlace, cut, with_first, split_last}
 use Rattle.inlinable_string.proofs.Text.{holds, boundary, cut_at}
 
 pub cut_joined : (a b : List ℕ) → cut (a ++ b) (size a) ≡ Some (a, b)
