@@ -120,6 +120,19 @@ impl<const N: usize> InlinableStringN<N> {
         let mut buffer = [0; 4];
         self.push_str(ch.encode_utf8(&mut buffer))
     }
+
+    /// A copy of a text on the heap, which lies there too. Out of line, so that a copy of an inline
+    /// text pays nothing for it.
+    #[cold]
+    #[inline(never)]
+    fn copy_on_heap(alloc: Global, text: &String) -> Result<Self, AllocError>
+        ensures text { IfOk result
+            (λ made. (inlinable_state N made).text ≡ chars (string_bytes text.now)) }
+        ensures storage { IfOk result (λ made. (inlinable_state N made).storage ≡ Storage.Heap) }
+    {
+        let copy = text.clone()?;
+        Ok(InlinableStringN::Heap(copy, alloc))
+    }
 }
 
 /// Both texts, one behind the other, on the heap. Memory is asked for once, for their size; a size
@@ -357,10 +370,7 @@ impl<const N: usize> Clone for InlinableStringN<N> {
     #[inline]
     fn clone(&self) -> Result<Self, AllocError> {
         match self {
-            InlinableStringN::Heap(text, alloc) => {
-                let copy = text.clone()?;
-                Ok(InlinableStringN::Heap(copy, *alloc))
-            }
+            InlinableStringN::Heap(text, alloc) => Self::copy_on_heap(*alloc, text),
             InlinableStringN::Inline(text, alloc) => {
                 let copy = text.clone()?;
                 Ok(InlinableStringN::Inline(copy, *alloc))
