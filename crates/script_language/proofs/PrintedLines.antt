@@ -6,7 +6,7 @@ use Rattle.inlinable_string.specs.State.{TextState}
 use Rattle.inlinable_string.specs.Text.{bytes_of, size}
 use Rattle.inlinable_string.specs.declared.run.Reply.{Reply}
 use Rattle.inlinable_string.specs.declared.run.Reply.TheVariants.{Done}
-use Rattle.script_language.specs.Output.{labelled_line, printed, reply_line, storage_name}
+use Rattle.script_language.specs.Output.{labelled_line, reply_line, state_lines, storage_name}
 
 -- the line of the reply at i stands behind those before it
 line_at : (rs : List Reply) (i : ℕ) → i < length rs
@@ -44,21 +44,10 @@ lines_from rs i last within =
     (flat_map reply_line (drop (suc i) rs)) last)
     ∙ ap (λ l. l ++ last) (sym (line_at rs i within))
 
-regroup : (f a b c : List ℕ) → ((f ++ a) ++ b) ++ c ≡ f ++ ((a ++ b) ++ c)
-regroup f a b c =
-    append_assoc (f ++ a) b c
-    ∙ append_assoc f a (b ++ c)
-    ∙ ap (λ l. f ++ l) (sym (append_assoc a b c))
-
--- the replies' lines, and then the three of the text, are all that is printed
-pub printed_by_lines : (rs some : List Reply) (s : TextState) (bytes digits name : List ℕ)
-    → some ≡ rs → bytes ≡ bytes_of s.text → digits ≡ decimal (size s.text)
-    → name ≡ storage_name s.storage
-    → ((flat_map reply_line some ++ labelled_line (codes "text ") bytes)
-    ++ labelled_line (codes "length ") digits) ++ labelled_line (codes "storage ") name
-    ≡ printed rs s
-printed_by_lines rs some s bytes digits name all text size storage =
-    rw (all, text, size, storage) (regroup (flat_map reply_line rs)
-    (labelled_line (codes "text ") (bytes_of s.text))
-    (labelled_line (codes "length ") (decimal _))
-    (labelled_line (codes "storage ") (storage_name s.storage)))
+-- the three lines of a text are those of its state
+pub state_by_lines : (s : TextState) (bytes digits name : List ℕ) → bytes ≡ bytes_of s.text
+    → digits ≡ decimal (size s.text) → name ≡ storage_name s.storage
+    → labelled_line (codes "text ") bytes ++ labelled_line (codes "length ") digits
+    ++ labelled_line (codes "storage ") name
+    ≡ state_lines s
+state_by_lines s bytes digits name text size storage = rw (text, size, storage) refl

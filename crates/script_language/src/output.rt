@@ -3,7 +3,7 @@ ghost use Rattle.std.specs.Prelude.{◌≡◌, ◌+◌, ◌≤◌, ◌++◌, IfE
 ghost use Rattle.script_language.specs.declared.buffer.TheConstants.{MOST_WAITING};
 ghost use Rattle.script_language.specs.declared.output.TheConstants.{LONGEST_REPLY_LINE};
 ghost use Rattle.std.specs.Io.KnownBytes.{Appends};
-ghost use Rattle.script_language.specs.Output.{labelled_line, printed, reply_line, storage_name, IsGathered, WritesFront};
+ghost use Rattle.script_language.specs.Output.{labelled_line, printed, reply_line, state_lines, storage_name, IsGathered, WritesFront};
 
 use crate::buffer::Buffer;
 use crate::fault::ScriptFault;
@@ -33,16 +33,27 @@ pub fn print<S: StringExt, W: Write>(
     for reply in replies {
         print_reply(out, &mut buffer, *reply)?;
     }
-    print_line(out, &mut buffer, b"text ", text.as_bytes())?;
-    let mut room = [0; LENGTH_DIGITS];
-    print_line(
-        out,
-        &mut buffer,
-        b"length ",
-        decimal_digits(text.len(), &mut room),
-    )?;
-    print_line(out, &mut buffer, b"storage ", storage_name(text.storage()))?;
+    print_state(out, &mut buffer, text)?;
     buffer.flush(out)
+}
+
+/// Prints the lines of the text, its length and its storage.
+fn print_state<S: StringExt, W: Write>(
+    out: &mut W,
+    buffer: &mut Buffer,
+    text: &S,
+) -> Result<(), ScriptFault>
+    ensures gathered { OnOk result (IsGathered (W.contents out.old) (W.contents out.new)
+        buffer.old (state_lines (S.state text.now)) buffer.new) }
+    ensures part { IfErr result (λ _. WritesFront (W.contents out.old) (W.contents out.new)
+        (buffer.old ++ state_lines (S.state text.now))) }
+    ensures fault { IfErr result (λ fault. fault ≡ ScriptFault.Write) }
+{
+    print_line(out, buffer, b"text ", text.as_bytes())?;
+    let mut room = [0; LENGTH_DIGITS];
+    let digits = decimal_digits(text.len(), &mut room);
+    print_line(out, buffer, b"length ", digits)?;
+    print_line(out, buffer, b"storage ", storage_name(text.storage()))
 }
 
 #[inline]
