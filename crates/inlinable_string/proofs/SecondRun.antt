@@ -39,6 +39,16 @@ all_legal_poorer s v (c ∷ commands) (r ∷ replies) h legal = (
 )
 all_legal_poorer s v commands replies h legal = absurd legal
 
+-- what a run leaves is what its replies determine, with as much credit at least
+run_richer : (old new : TextState) (commands : List Command) (replies : List Reply)
+    → IsRun old commands replies new → IsRicher (state_after old commands replies) new
+run_richer old new commands replies run = record {
+  text = text_of old commands replies ∙ sym run.text;
+  storage = sym run.storage;
+  policy = policy_of old commands replies ∙ sym run.policy;
+  credit = omega (arith, run.credit);
+}
+
 -- one run after another of one value is a run of both
 pub runs_follow : (old mid new : TextState) (first second : List Command)
     (replies others : List Reply)
@@ -47,20 +57,14 @@ pub runs_follow : (old mid new : TextState) (first second : List Command)
 runs_follow old mid new first second replies others a b =
     let s : TextState = state_after old first replies in
     let same : length first ≡ length replies = sym (as_many_replies old first replies a.legal) in
-    let text : s.text ≡ mid.text = text_of old first replies ∙ sym a.text in
-    let richer : IsRicher s mid = record {
-      text = text;
-      storage = sym a.storage;
-      policy = policy_of old first replies ∙ sym a.policy;
-      credit = omega (arith, a.credit);
-    } in
+    let richer : IsRicher s mid = run_richer old mid first replies a in
+    let storage = same_storage s mid second others richer.text richer.storage richer.policy in
     record {
       text =
           b.text ∙ ap (λ t. text_after t second others) a.text
           ∙ sym (text_joined old.text first second replies others same);
       storage =
-          b.storage
-          ∙ sym (same_storage s mid second others richer.text richer.storage richer.policy)
+          b.storage ∙ sym storage
           ∙ sym (storage_joined old first second replies others same);
       legal =
           legal_joined old first second replies others a.legal

@@ -142,8 +142,8 @@ pub(crate) fn insert_byte(cells: &mut [u8], start: &mut usize, len: usize, at: u
     insert_byte_further_in(cells, start, len, at, byte);
 }
 
-/// `insert_byte` where there is room in front of the window. Out of line, so that a window that starts
-/// at the front, as that of a new text does, pays nothing for it.
+/// `insert_byte` where there is room in front of the window. Out of line, so that a window that
+/// starts at the front, as that of a new text does, pays nothing for it.
 #[cold]
 #[inline(never)]
 fn insert_byte_further_in(cells: &mut [u8], start: &mut usize, len: usize, at: usize, byte: u8)

@@ -124,7 +124,23 @@ one_output_where_free words input output start commands expected named asks made
     shown known lines
     (free_prints start (map plain commands) expected free is)
 
--- a script of one command to which memory may be refused has two
+-- what one command that may be refused prints
+two_prints : (start : Start) (command : Command) (done refused : List ℕ)
+    → ((room : ℕ) → printed (reply_of (edit [] command) ∷ [])
+    (state_after_step (made start room) command (reply_of (edit [] command))) ≡ done)
+    → ((room : ℕ) → printed (NoMemory ∷ [])
+    (state_after_step (made start room) command NoMemory) ≡ refused)
+    → Printing start (command ∷ []) (λ o. (o ≡ done) ⊎ (o ≡ refused))
+two_prints start command done refused is or room [] fits legal = absurd legal
+two_prints start command done refused is or room (r ∷ o ∷ replies) fits legal = absurd legal.1
+two_prints start command done refused is or room (r ∷ []) fits legal = elim legal.0.answer [
+  | inl same ↦ inl (ap (λ x. printed (x ∷ []) (state_after_step (made start room) command x)) same
+      ∙ is room)
+  | inr none ↦ inr (ap (λ x. printed (x ∷ []) (state_after_step (made start room) command x)) none.0
+      ∙ or room)
+]
+
+-- a script of one command to which memory may be refused has two outputs
 pub two_outputs_of_one : {Z : Type 0} (words : List (String Z)) (input output : List ℕ)
     (start : Start) (command : Command) (done refused : List ℕ) {begun : Start}
     {asked : List Command}
@@ -142,18 +158,4 @@ pub two_outputs_of_one : {Z : Type 0} (words : List (String Z)) (input output : 
 two_outputs_of_one words input output start command done refused named asks made_so ran shown known
     lines is or =
     script_prints words input output start (command ∷ []) (λ o. (o ≡ done) ⊎ (o ≡ refused)) named
-    asks made_so ran shown known lines
-    (λ room replies fits legal. by room replies legal)
-  where
-    by : (room : ℕ) (replies : List Reply)
-        → LegalReplies (made start room) (plain command ∷ []) replies
-        → (printed replies (state_after (made start room) (plain command ∷ []) replies) ≡ done)
-        ⊎ (printed replies (state_after (made start room) (plain command ∷ []) replies) ≡ refused)
-    by room [] legal = absurd legal
-    by room (r ∷ o ∷ replies) legal = absurd legal.1
-    by room (r ∷ []) legal = elim legal.0.answer [
-      | inl same ↦ inl (ap (λ x. printed (x ∷ [])
-          (state_after_step (made start room) (plain command) x)) same ∙ is room)
-      | inr none ↦ inr (ap (λ x. printed (x ∷ [])
-          (state_after_step (made start room) (plain command) x)) none.0 ∙ or room)
-    ]
+    asks made_so ran shown known lines (two_prints start (plain command) done refused is or)

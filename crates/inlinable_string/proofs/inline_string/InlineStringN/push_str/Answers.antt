@@ -31,8 +31,10 @@ pub invariant_of-self-2 : goal.invariant_of-self-2
 invariant_of-self-2 g c =
     let h = held c.self.inside c.self.view_is c.self.told c.self.invariant in
     let new = rw c.as_bytes-2.ensures.value at c.insert_in-start.ensures.text in
-    let added = new ∙ inserted_last _ c.args.string.now _ h.long in
-    (omega (arith, c.insert_in-start.ensures.inside), (pushed h (holds_chars c.utf8.string) added).0)
+    let added = new ∙ inserted_last _ c.args.string.now _ h.long in (
+      omega (arith, c.insert_in-start.ensures.inside),
+      (pushed h (holds_chars c.utf8.string) added).0,
+    )
 
 pub returns : goal.returns
 returns g c =
