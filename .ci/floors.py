@@ -102,6 +102,9 @@ CALLERS = 190
 # Departures that the judge over the original crate makes, each of a row of `docs/DIFFERENCES.md`.
 DEPARTURES = 10
 
+# Lemmas and answers to goals, in the proofs of the crates and among the words of their definitions.
+PROOFS = 1_400
+
 # Functions that `docs/PROMISES.md` names, each time that it does.
 PROMISES = 158
 

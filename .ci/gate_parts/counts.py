@@ -3,16 +3,17 @@
 The sentences that state numbers stand in `.ci/stated.py`. One that is not found in its document, or
 found with another number than is counted, fails. So does a function or a clause that
 `docs/PROMISES.md` names and the sources do not have, whatever `CALLING.md` quotes of them that they do
-not say, and a departure from the original crate that has no row in `docs/DIFFERENCES.md`.
+not say, a departure from the original crate that has no row in `docs/DIFFERENCES.md`, and a line or a
+proof that is too long.
 """
 import os
 import re
 from collections import Counter
 
 from floors import (
-    BENCH_WORKLOADS, CALLS, DEPARTURES, HOSTILE_INPUTS, LINES_RUN, PAIRS, PROMISES, QUOTED, READINGS, REFUSALS,
-    SCRIPTS_RUN, STORED, TRIED)
-from gate_parts import bench_table, departures, promises, quoted
+    BENCH_WORKLOADS, CALLS, DEPARTURES, HOSTILE_INPUTS, LINES_RUN, PAIRS, PROMISES, PROOFS, QUOTED, READINGS,
+    REFUSALS, SCRIPTS_RUN, STORED, TRIED)
+from gate_parts import bench_table, departures, promises, quoted, shapes
 from gate_parts.callers import require_callers
 from gate_parts.edit_files import edits_of
 from gate_parts.options import options
@@ -186,7 +187,7 @@ def main(words):
                 wrong += 1
     print(f'{sum(map(len, STATED.values()))} sentences with numbers, '
           f'{wrong} that the tree does not bear out')
-    have_all = [promises_stand(), quotes_stand(), departures_are_rows(), not wrong]
+    have_all = [promises_stand(), quotes_stand(), departures_are_rows(), shapes_are_short(), not wrong]
     return all(have_all)
 
 
@@ -197,6 +198,15 @@ def departures_are_rows():
         raise Failure(f'{departures.JUDGE} makes {made} departures of {rows} rows, and must make {DEPARTURES}')
     print(*missing, f'{made} departures of {rows} rows, {len(missing)} that {departures.DOCUMENT} has not', sep='\n')
     return not missing
+
+
+def shapes_are_short():
+    """Whether no line of the crates and no proof is too long, and all proofs were looked at."""
+    proofs, wrong = shapes.checked()
+    if proofs < PROOFS:
+        raise Failure(f'the crates have {proofs} proofs, and must have {PROOFS}')
+    print(*wrong, f'{proofs} proofs, and {len(wrong)} lines or proofs that are too long', sep='\n')
+    return not wrong
 
 
 def promises_stand():

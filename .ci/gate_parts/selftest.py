@@ -17,7 +17,7 @@ from unittest import mock
 
 from floors import CALL_ANSWERS, PAIR_ANSWERS, READING_ANSWERS
 from gate_parts import (bench_table, call_inputs, counts, departures, hostile_inputs, pair_inputs, pictures, promises,
-                        quick, quoted, reading_inputs, said, specified, stored_lines)
+                        quick, quoted, reading_inputs, said, shapes, specified, stored_lines)
 from gate_parts.answered_lines import shortfalls
 from gate_parts.callers import promising
 from gate_parts.cases import read_cases
@@ -657,6 +657,41 @@ class Counts(unittest.TestCase):
     def test_number_that_nobody_counts(self):
         with self.assertRaises(Failure):
             self.wrong('12 bugs', '{bugs} bugs')
+
+
+class Shapes(unittest.TestCase):
+    """Of files of proofs."""
+    TEXT = ('use Rattle.toy.{word}\n-- why\npub one : {a : Nat}\n    -> Nat\none {\n  a = 1;\n}\n\n'
+            'module _ (a : Nat)\n    (b : Nat) where\n  -- why\n  pub two : Nat\n  two = a\n\n'
+            '  module _ where\n    three = b\n      where\n        four = a\n\nabbrev pub five : Nat\n')
+
+    def of(self, **files):
+        with tempfile.TemporaryDirectory() as place:
+            for name, text in files.items():
+                os.makedirs(os.path.join(place, 'crates/toy', name))
+                write_text(os.path.join(place, 'crates/toy', name, 'Toy.antt'), text)
+            return shapes.checked(place)
+
+    def test_proofs_are_told_apart(self):
+        self.assertEqual([each for each in shapes.proofs_in(self.TEXT) if each[0] not in (None, 'module')],
+                         [('one', 5), ('two', 2), ('three', 3), ('five', 1)])
+
+    def test_what_is_as_long_as_it_may_be(self):
+        line = 'one = ' + 'x' * (shapes.COLUMNS - 6) + '\n'
+        self.assertEqual(self.of(proofs=line * shapes.PROOF_LINES + 'use ' + line), (1, []))
+
+    def test_line_that_is_too_long(self):
+        for folder in ('src', 'specs', 'proofs'):
+            wrong = self.of(**{folder: 'one =\n    ' + 'x' * (shapes.COLUMNS - 3) + '\n'})[1]
+            self.assertEqual(wrong, [f'crates/toy/{folder}/Toy.antt:2: the line has more than 100 columns'])
+
+    def test_proof_that_is_too_long(self):
+        wrong = self.of(proofs='one = 1\n\n' + '    1\n' * shapes.PROOF_LINES)[1]
+        self.assertEqual(wrong, ['crates/toy/proofs/Toy.antt: one has 31 lines, and may have 30'])
+
+    def test_proofs_that_were_not_found(self):
+        with mock.patch.object(shapes, 'source_paths', lambda top: []), self.assertRaisesRegex(Failure, '0 proofs'):
+            counts.shapes_are_short()
 
 
 class BenchTable(unittest.TestCase):
