@@ -91,8 +91,10 @@ def print_lines(lines):
     for kind in sorted(lines):
         print(f'{lines[kind]:>8,}  {kind}')
     print(f'{sum(lines.values()):>8,}  the whole tree')
-    ratio = lines['library: proofs'] / lines['library: src']
-    print(f'{ratio:>8.2f}  lines of the library\'s proofs to one of its source')
+    proofs = lines['library: proofs'] / lines['library: src']
+    tests = lines['tests'] / (lines['library: src'] + lines['other crates: src'])
+    print(f'{proofs:>8.2f}  lines of the library\'s proofs to one of its source')
+    print(f'{tests:>8.2f}  lines of tests to one of source that is none')
 
 
 # What is counted, and what the documents say.
