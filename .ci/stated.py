@@ -22,6 +22,8 @@ STATED = {
         '| {run_in_place_rust} | |',
         '| `from_utf8_lossy` of 694 bytes, every tenth of them bad | {bad_694_ours} | {bad_694_original} '
         '| {bad_694_rust} | |',
+        '| `from` of 16 bytes, moved to the heap by `with_limit` (the original copies them: it has one '
+        'capacity) | {move_16_ours} | {move_16_original} | {move_16_rust} | |',
     ),
     'docs/TESTING.md': (
         '{crates} crates, the {edits_alone} edits of `must-fail/`, {tests} tests',

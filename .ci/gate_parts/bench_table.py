@@ -6,7 +6,8 @@ from gate_parts.tree import Failure, in_tree, text_of
 # The rows that the README shows, and the peers beside which it shows them, by the names that its
 # sentences in `.ci/stated.py` have for them.
 SHOWN = {'from_6': 'from 6', 'push_str_6': 'push_str 6 onto empty', 'push_30': 'push 30 chars',
-         'run_in_place': 'run, 256 commands in place', 'bad_694': 'from_utf8_lossy 694, bad'}
+         'run_in_place': 'run, 256 commands in place', 'bad_694': 'from_utf8_lossy 694, bad',
+         'move_16': 'from 16, with_limit 8 (promotes)'}
 BESIDE = {'ours': 'ours', 'original': 'original', 'rust': 'Rust `String`', 'cxx': 'libstdc++'}
 
 

@@ -8,6 +8,7 @@ pub mod Cut
 pub mod Edits
 pub mod Window
 pub mod Lawful
+pub mod Starts
 pub mod Steps
 pub mod Runs
 pub mod Each

@@ -1,6 +1,7 @@
 -- Bytes read as text: characters, and the maximal subparts between them.
-use Rattle.inlinable_string.proofs.Common.{common_steps, ◌≡◌, ℕ, zero, suc, ◌+◌, ◌-◌, ◌<◌, ◌≤◌, true, false, Bool, cond, nat_eq, List, [], ◌∷◌, ◌++◌, length, take, drop, refl, ap, sym, ◌∙◌, arith, subst, ⊎_elim, Option, Some, None, MatchOption, append-nil, append_assoc, length-append, take-append-drop, length-take, length-drop, rules, encode_utf8, IsScalar, chars, IsUtf8, is_utf8, all_scalars, encode_utf8_all, IsValidUpTo, cases_Bool, and_parts, cond-true, cond-false, nat_tests, take_at, drop_at, IsUtf8-from_is_utf8, is_utf8-from_IsUtf8, IsUtf8-encode, IsUtf8-append, length-encode, len_utf8_bounds, encode_same, scalars-chars, encodes-chars, size, char_len, subpart_len, lossy_utf8_past, lossy_utf8}
-use Rattle.inlinable_string.proofs.Text.{size-append}
+use Rattle.inlinable_string.proofs.Common.{common_steps, ◌≡◌, ℕ, zero, suc, ◌+◌, ◌-◌, ◌<◌, ◌≤◌, true, false, Bool, cond, nat_eq, List, [], ◌∷◌, ◌++◌, length, take, drop, refl, ap, sym, ◌∙◌, arith, subst, ⊎_elim, Option, Some, None, MatchOption, append-nil, append_assoc, length-append, take-append-drop, length-take, length-drop, drop-drop, rules, encode_utf8, IsScalar, chars, IsUtf8, is_utf8, all_scalars, encode_utf8_all, cases_Bool, and_parts, cond-true, cond-false, nat_tests, take_at, drop_at, IsUtf8-from_is_utf8, is_utf8-from_IsUtf8, IsUtf8-encode, IsUtf8-append, length-encode, len_utf8_bounds, encode_same, scalars-chars, encodes-chars, size, char_len, subpart_len, lossy_utf8_past, lossy_utf8}
+use Rattle.std.proofs.Math.Seq.{take-add}
+use Rattle.inlinable_string.proofs.Text.{size-append, popped-chars}
 use Rattle.inlinable_string.proofs.Window.{chars_one}
 
 -- a character c begins the bytes, and rest follows it
@@ -47,6 +48,9 @@ passed p (suc (suc (suc (suc (suc n))))) a b t f = absurd (omega arith)
 
 none_passed : (p : ℕ → Bool) → ((k : ℕ) → 0 < k → p k ≡ false) → first_passed p ≡ 0
 none_passed p f = grind (arith, common_steps)
+
+first_passes : (p : ℕ → Bool) → 0 < first_passed p → p (first_passed p) ≡ true
+first_passes p some = grind (arith, common_steps)
 
 nonempty : (bs : List ℕ) (c : ℕ) (rest : List ℕ) → Begins bs c rest → 0 < length bs
 nonempty bs c rest b = grind (arith, common_steps, positive)
@@ -132,42 +136,45 @@ pub lossy_all : (bs : List ℕ) → IsUtf8 bs → lossy_utf8 bs ≡ chars bs
 lossy_all bs u = ap lossy_utf8 (sym (append-nil bs)) ∙ lossy_valid bs [] u ∙ append-nil (chars bs)
 
 -- where none begins, U+FFFD comes, and the maximal subpart is passed over
-pub lossy_fault : (bs : List ℕ) → 0 < length bs → BeginsNone bs
+no_char : (bs : List ℕ) → 0 < length bs → char_len bs ≡ 0
     → lossy_utf8 bs ≡ 0xFFFD ∷ lossy_utf8 (drop (subpart_len bs) bs)
-lossy_fault [] h none = absurd (omega arith)
-lossy_fault (x ∷ bs) h none =
-    let zero : nat_eq (char_len (x ∷ bs)) 0 ≡ true = ap (λ n. nat_eq n 0) (len_of_none _ h none) in
-    cond-true _ _ _ zero
+no_char [] h none = absurd (omega arith)
+no_char (x ∷ bs) h none =
+    cond-true _ _ _ (ap (λ n. nat_eq n 0) none)
     ∙ ap (λ l. 0xFFFD ∷ l)
     (past (subpart_len (x ∷ bs) - 1) bs
     ∙ ap lossy_utf8 (one_less (subpart_len (x ∷ bs)) x bs (omega arith)))
 
--- behind the longest front that is UTF-8 no character begins
-pub none_behind : (bs : List ℕ) (n : ℕ) → IsValidUpTo bs n → BeginsNone (drop n bs)
-none_behind bs n v c rest b =
-    let m = n + length (encode_utf8 c) in
-    let split : bs ≡ (take n bs ++ encode_utf8 c) ++ rest = sym (take-append-drop n bs)
-    ∙ ap (λ x. take n bs ++ x) b.joined ∙ sym (append_assoc (take n bs) (encode_utf8 c) rest) in
-    let short = v.short in
-    let long : length (take n bs ++ encode_utf8 c) ≡ m = length-append (take n bs) (encode_utf8 c)
-    ∙ omega (arith, length-take n bs, short) in
-    let whole : take m bs ≡ take n bs ++ encode_utf8 c = ap (take m) split
-    ∙ take_at (take n bs ++ encode_utf8 c) rest m long in
-    v.longest m (omega (arith, positive c))
-    (subst IsUtf8 (sym whole) (IsUtf8-append _ _ v.front (IsUtf8-encode c b.scalar)))
+pub lossy_fault : (bs : List ℕ) → 0 < length bs → BeginsNone bs
+    → lossy_utf8 bs ≡ 0xFFFD ∷ lossy_utf8 (drop (subpart_len bs) bs)
+lossy_fault bs h none = no_char bs h (len_of_none bs h none)
 
--- one step over a text and the maximal subpart behind it
-pub past_fault : (bs valid after : List ℕ) (n : ℕ) → IsValidUpTo bs n → valid ≡ take n bs
-    → after ≡ drop n bs
-    → lossy_utf8 bs ≡ chars valid ++ 0xFFFD ∷ lossy_utf8 (drop (subpart_len after) after)
-past_fault bs valid after n v e d =
-    let some : 0 < length after = omega (arith, ap length d, length-drop n bs, v.short) in
-    let none : BeginsNone after = subst BeginsNone (sym d) (none_behind bs n v) in
-    let utf8 : IsUtf8 valid = subst IsUtf8 (sym e) v.front in
-    let whole : valid ++ after ≡ bs = (λ i. e i ++ d i) ∙ take-append-drop n bs in
-    sym (ap lossy_utf8 whole)
-    ∙ lossy_valid valid after utf8
-    ∙ ap (λ x. chars valid ++ x) (lossy_fault after some none)
+-- a character more behind a front that is UTF-8
+pub one_more : (bs : List ℕ) (n k : ℕ) → IsUtf8 (take n bs) → char_len (drop n bs) ≡ k → 0 < k
+    → IsUtf8 (take (n + k) bs)
+one_more bs n k u is some =
+    let more : is_utf8 (take k (drop n bs)) ≡ true =
+    ap (λ l. is_utf8 (take l (drop n bs))) (sym is)
+    ∙ first_passes (λ l. is_utf8 (take l (drop n bs))) (omega (arith, is)) in
+    subst IsUtf8 (sym (take-add n k bs)) (IsUtf8-append _ _ u (IsUtf8-from_is_utf8 _ more))
+
+-- one step over a text of n bytes and the maximal subpart of k behind it
+pub past_fault : (bs : List ℕ) (n k : ℕ) → n < length bs → IsUtf8 (take n bs)
+    → char_len (drop n bs) ≡ 0 → subpart_len (drop n bs) ≡ k
+    → lossy_utf8 bs ≡ chars (take n bs) ++ 0xFFFD ∷ lossy_utf8 (drop (n + k) bs)
+past_fault bs n k less u none is =
+    let some : 0 < length (drop n bs) = omega (arith, length-drop n bs) in
+    sym (ap lossy_utf8 (take-append-drop n bs))
+    ∙ lossy_valid (take n bs) (drop n bs) u
+    ∙ ap (λ t. chars (take n bs) ++ t)
+    (no_char (drop n bs) some none
+    ∙ ap (λ l. 0xFFFD ∷ lossy_utf8 l) (ap (λ l. drop l (drop n bs)) is ∙ drop-drop k n bs))
+
+-- the characters of bytes that end with the three of U+FFFD
+pub replaced-chars : (old new : List ℕ) → IsUtf8 old → IsUtf8 new
+    → old ≡ new ++ 0xEF ∷ 0xBF ∷ 0xBD ∷ [] → chars old ≡ chars new ++ 0xFFFD ∷ []
+unfolding lib.Utf8.encode
+replaced-chars old new u v is = popped-chars old new 0xFFFD u v is
 
 -- the bytes bs are read as the text t, and where more is left, U+FFFD and what that is read as
 abbrev pub ReadInParts : {A : Type 0} → Option A → (A → List ℕ) → List ℕ → List ℕ → Type 0

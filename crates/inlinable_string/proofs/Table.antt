@@ -19,13 +19,13 @@ later (suc k) = (0x80, 0xBF) ∷ later k
 abbrev IsRow : ℕ → ℕ → Type 0
 IsRow a k = following a ≡ (least a, most a) ∷ later k
 
-row_two : (a : ℕ) → 194 ≤ a → a < 224 → IsRow a 0
+pub row_two : (a : ℕ) → 194 ≤ a → a < 224 → IsRow a 0
 row_two a l h = grind (arith, nat_tests)
 
-row_three : (a : ℕ) → 224 ≤ a → a < 240 → IsRow a 1
+pub row_three : (a : ℕ) → 224 ≤ a → a < 240 → IsRow a 1
 row_three a l h = grind (arith, nat_tests)
 
-row_four : (a : ℕ) → 240 ≤ a → a < 245 → IsRow a 2
+pub row_four : (a : ℕ) → 240 ≤ a → a < 245 → IsRow a 2
 row_four a l h = grind (arith, nat_tests)
 
 scalar_below : (c : ℕ) → IsScalar c → c < 0x11_0000
@@ -43,10 +43,10 @@ two_later : (d e : ℕ) (rest : List ℕ) → Follows d → Follows e
     → count_in (later 2) (d ∷ e ∷ rest) ≡ 2
 two_later d e rest f g = grind (arith, common_steps)
 
-none_in : (a : ℕ) → a < 194 → following a ≡ []
+pub none_in : (a : ℕ) → a < 194 → following a ≡ []
 none_in a h = grind (arith, nat_tests)
 
-none_above : (a : ℕ) → 245 ≤ a → following a ≡ []
+pub none_above : (a : ℕ) → 245 ≤ a → following a ≡ []
 none_above a h = grind (arith, nat_tests)
 
 in_three : (a b d c : ℕ) → 224 ≤ a → a < 240 → 128 ≤ b → b < 192 → 128 ≤ d → d < 192
@@ -122,7 +122,7 @@ table_longest (b ∷ bs) (suc k) c rest h s e =
 abbrev pub BeginsCode : List ℕ → Type 0
 BeginsCode bs = (c : ℕ) × (rest : List ℕ) × IsScalar c × (encode_utf8 c ≡ bs ++ rest)
 
-is_scalar : (c : ℕ) → (c < 55296) ⊎ ((57344 ≤ c) × (c < 1114112)) → IsScalar c
+pub is_scalar : (c : ℕ) → (c < 55296) ⊎ ((57344 ≤ c) × (c < 1114112)) → IsScalar c
 is_scalar c h = grind (arith, common_steps)
 
 -- the k bytes that a row wants behind the second

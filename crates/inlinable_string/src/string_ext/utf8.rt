@@ -1,9 +1,9 @@
 //! Bytes read as text, whatever they are: the parts that are UTF-8 whole, and U+FFFD between them.
-ghost use Rattle.std.specs.Prelude.{◌≡◌, ◌<◌, ◌≤◌, ◌^◌, ◌∷◌, ◌++◌, length, IfOk, IfSome, MatchOption, IsUtf8};
+ghost use Rattle.std.specs.Prelude.{◌≡◌, ◌+◌, ◌<◌, ◌≤◌, ◌^◌, [], ◌∷◌, ◌++◌, length, take, drop, if◌then◌else◌, IfOk, IfSome, MatchOption, MatchResult, IsUtf8};
 ghost use Rattle.std.specs.Str.{chars};
 ghost use Rattle.std.specs.String.{string_bytes};
 ghost use Rattle.inlinable_string.specs.Text.{size};
-ghost use Rattle.inlinable_string.specs.Lossy.{lossy_utf8, subpart_len, count_in, following};
+ghost use Rattle.inlinable_string.specs.Lossy.{lossy_utf8, char_len, subpart_len, count_in, following};
 
 use std::alloc::{AllocError, Global};
 use std::str;
@@ -24,7 +24,7 @@ pub(super) fn lossy(alloc: Global, bytes: &[u8]) -> Result<String, AllocError>
         let Some(left) = left else {
             return Ok(made);
         };
-        made.push(char::REPLACEMENT_CHARACTER)?;
+        made.push_str("\u{FFFD}")?;
         rest = left;
     }
 }
@@ -56,55 +56,72 @@ fn split_fault(bytes: &[u8]) -> (&str, Option<&[u8]>)
     ensures utf8 { IsUtf8 result.0.now }
     ensures less { IfSome result.1 (λ left. length left.now < length bytes.now) }
 {
-    match str::from_utf8(bytes) {
-        Ok(text) => (text, None),
-        Err(fault) => {
-            let (valid, after) = bytes.split_at(fault.valid_up_to());
-            let text = unsafe { str::from_utf8_unchecked(valid) };
-            (text, Some(&after[subpart_len(after)..]))
+    let mut end = 0;
+    while end < bytes.len() {
+        match start_of(&bytes[end..]) {
+            Ok(len) => end += len,
+            Err(len) => {
+                let text = unsafe { str::from_utf8_unchecked(&bytes[..end]) };
+                return (text, Some(&bytes[end + len..]));
+            }
         }
     }
+    (unsafe { str::from_utf8_unchecked(bytes) }, None)
 }
 
-/// How many bytes the maximal subpart has that begins `bytes`.
-fn subpart_len(bytes: &[u8]) -> usize
+/// How many bytes the character has that begins `bytes`; where none does, how many the maximal
+/// subpart has.
+fn start_of(bytes: &[u8]) -> Result<usize, usize>
     requires { 0 < length bytes.now }
-    ensures value { result ≡ subpart_len bytes.now }
-    ensures positive { 0 < result }
-    ensures within { result ≤ length bytes.now }
+    ensures len { MatchResult result
+        (λ len. (char_len bytes.now ≡ len) × (0 < len))
+        (λ len. (char_len bytes.now ≡ 0) × (subpart_len bytes.now ≡ len) × (0 < len)) }
+    ensures within { MatchResult result
+        (λ len. len ≤ length bytes.now) (λ len. len ≤ length bytes.now) }
 {
-    1 + count_in(following(bytes[0]), &bytes[1..])
-}
-
-/// How many bytes at the front are in the ranges, one after the other.
-fn count_in(ranges: &[(u8, u8)], bytes: &[u8]) -> usize
-    ensures value { result ≡ count_in ranges.now bytes.now }
-    ensures within { result ≤ length bytes.now }
-{
-    let mut count = 0;
-    while count < ranges.len() && count < bytes.len() {
-        let (least, most) = ranges[count];
-        if bytes[count] < least || most < bytes[count] {
-            return count;
-        }
-        count += 1;
+    let first = bytes[0];
+    if first < 0x80 {
+        return Ok(1);
     }
-    count
+    if first < 0xC2 || 0xF4 < first {
+        return Err(1);
+    }
+    let (least, most) = second_of(first);
+    if !is_in(bytes, 1, least, most) {
+        return Err(1);
+    }
+    if first < 0xE0 {
+        return Ok(2);
+    }
+    if !is_in(bytes, 2, 0x80, 0xBF) {
+        return Err(2);
+    }
+    if first < 0xF0 {
+        return Ok(3);
+    }
+    if is_in(bytes, 3, 0x80, 0xBF) {
+        Ok(4)
+    } else {
+        Err(3)
+    }
 }
 
-/// The ranges of the bytes that may follow the first one of a character.
-fn following(first: u8) -> &'static [(u8, u8)]
-    ensures { result.now ≡ following first }
+/// Whether there is a byte at that index, and it is in the range.
+fn is_in(bytes: &[u8], index: usize, least: u8, most: u8) -> bool
+    ensures { count_in ((least, most) ∷ []) (drop index bytes.now) ≡ (if result then 1 else 0) }
+{
+    index < bytes.len() && least <= bytes[index] && bytes[index] <= most
+}
+
+/// The range of the byte behind the first one of a character that has more.
+fn second_of(first: u8) -> (u8, u8)
+    ensures { 0xC2 ≤ first → first ≤ 0xF4 → take 1 (following first) ≡ result ∷ [] }
 {
     match first {
-        0xC2..=0xDF => &[(0x80, 0xBF)],
-        0xE0 => &[(0xA0, 0xBF), (0x80, 0xBF)],
-        0xE1..=0xEC => &[(0x80, 0xBF), (0x80, 0xBF)],
-        0xED => &[(0x80, 0x9F), (0x80, 0xBF)],
-        0xEE..=0xEF => &[(0x80, 0xBF), (0x80, 0xBF)],
-        0xF0 => &[(0x90, 0xBF), (0x80, 0xBF), (0x80, 0xBF)],
-        0xF1..=0xF3 => &[(0x80, 0xBF), (0x80, 0xBF), (0x80, 0xBF)],
-        0xF4 => &[(0x80, 0x8F), (0x80, 0xBF), (0x80, 0xBF)],
-        _ => &[],
+        0xE0 => (0xA0, 0xBF),
+        0xED => (0x80, 0x9F),
+        0xF0 => (0x90, 0xBF),
+        0xF4 => (0x80, 0x8F),
+        _ => (0x80, 0xBF),
     }
 }

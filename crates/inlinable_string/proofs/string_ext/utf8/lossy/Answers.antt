@@ -1,6 +1,5 @@
 use Rattle.inlinable_string.proofs.Common.{◌++◌, [], ◌∷◌, sym, ap, ◌∙◌, append_assoc, chars, string_bytes, chars-nil, chars-append, IsUtf8-string_bytes, lossy_utf8}
-use Rattle.inlinable_string.proofs.Text.{popped-chars}
-use Rattle.inlinable_string.proofs.Subparts.{read_whole, read_on}
+use Rattle.inlinable_string.proofs.Subparts.{read_whole, read_on, replaced-chars}
 use Rattle.inlinable_string.proofs.string_ext.utf8.lossy.Goals as goal
 
 pub loop-made-init : goal.loop-made-init
@@ -27,8 +26,8 @@ loop-made-preserved c =
     c.in-Some-left.left c.in-Some-left.is c.split_fault.ensures.text in
     let pushed = ap chars c.in_ok-push_str.ensures.bytes
     ∙ chars-append old text (IsUtf8-string_bytes c.loop-made.made) in
-    let ended = popped-chars _ _ _ (IsUtf8-string_bytes c.push.new.self)
-    (IsUtf8-string_bytes c.push_str.new.self) c.in_ok-push.ensures.bytes in
+    let ended = replaced-chars _ _ (IsUtf8-string_bytes c.push_str-in-loop-made.new.self)
+    (IsUtf8-string_bytes c.push_str.new.self) c.in_ok-push_str-2.ensures.bytes in
     ap (λ t. t ++ more) (ended ∙ ap (λ t. t ++ 0xFFFD ∷ []) pushed)
     ∙ append_assoc (chars old ++ chars text) (0xFFFD ∷ []) more
     ∙ append_assoc (chars old) (chars text) (0xFFFD ∷ more)
