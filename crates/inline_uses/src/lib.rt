@@ -5,5 +5,7 @@
 pub mod editor;
 pub mod store;
 pub mod symbols;
+#[cfg(test)]
+mod tests;
 pub mod tokens;
 pub mod tree;

@@ -44,8 +44,6 @@ mod steps;
 #[cfg(test)]
 mod texts;
 #[cfg(test)]
-mod uses;
-#[cfg(test)]
 mod ways;
 #[cfg(test)]
 mod wrong_rows;

@@ -1,6 +1,6 @@
 //! Trees, and the JSON of trees.
+use crate::tree::{Fault, Tree};
 use inlinable_string::StringExt;
-use inline_uses::tree::{Fault, Tree};
 use serde_json::Value;
 use std::alloc::Global;
 use std::test::Fail;

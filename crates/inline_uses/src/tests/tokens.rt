@@ -1,6 +1,6 @@
 //! The tokens of a source.
+use crate::tokens::{Counts, Token, TooLong, count_tokens, next_token};
 use inlinable_string::InlineStringN;
-use inline_uses::tokens::{Counts, Token, TooLong, count_tokens, next_token};
 use std::test::Fail;
 
 /// The head of the file that keeps a short text in an array, as it once stood.

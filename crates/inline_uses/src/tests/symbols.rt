@@ -1,5 +1,5 @@
 //! Texts and their ids.
-use inline_uses::symbols::{Symbols, have_same_id};
+use crate::symbols::{Symbols, have_same_id};
 use std::alloc::AllocError;
 use std::test::Fail;
 use test_support::letters::LETTERS_31;

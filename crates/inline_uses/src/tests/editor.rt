@@ -1,7 +1,7 @@
 //! Lines that are typed and mended, key by key.
 ghost use Rattle.std.specs.Prelude.{◌≤◌};
 
-use inline_uses::editor::Line;
+use crate::editor::Line;
 
 /// What a key does on a line.
 #[derive(Clone, Copy)]

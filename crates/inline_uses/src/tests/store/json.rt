@@ -1,6 +1,6 @@
 //! Stores as bytes, and read back.
-use inline_uses::store::Store;
-use inline_uses::store::json::{ReadError, copied};
+use crate::store::Store;
+use crate::store::json::{ReadError, copied};
 use std::alloc::{AllocError, Global};
 use std::test::Fail;
 use test_support::letters::LETTERS_31;
