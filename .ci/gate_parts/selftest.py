@@ -708,8 +708,8 @@ class Run(InSmallRepository):
         parts = len(re.findall('^part ', text_of(os.path.join(self.place, '.ci/run')), re.MULTILINE))
         self.assertEqual(sum(bool(re.match(r' *\d+ min \d\d s  .* \.\. passed, in ', line)) for line in lines), parts)
         self.assertEqual(sum(line.endswith('  passed') for line in lines), parts)
-        self.assertNotIn('part pairs', lines)
-        self.assertIn('part pairs', text_of(os.path.join(self.place, 'out/gate.log')).splitlines())
+        self.assertNotIn('part bench', lines)
+        self.assertIn('part bench', text_of(os.path.join(self.place, 'out/gate.log')).splitlines())
 
 
 class Reading(unittest.TestCase):
