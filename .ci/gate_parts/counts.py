@@ -2,6 +2,7 @@
 
 It prints the lines by kind, and the `unsafe` blocks. A line, a file or a proof that is too long fails, and
 so does a path, a function or another name that a document has in backticks and the tree does not have.
+The first program of the README has to be that of the crate `tour`, which `rt ci` proves and runs.
 """
 import os
 import re
@@ -121,6 +122,11 @@ def missing(texts):
     return len(cited), wrong
 
 
+def has_program(texts):
+    """Whether the README shows the program of `tour`, whole."""
+    return f'```rust\n{texts["crates/tour/src/main.rt"]}```\n' in texts['README.md']
+
+
 def main(words):
     options('counts', __doc__, words)
     texts = texts_by_path()
@@ -129,5 +135,6 @@ def main(words):
     if proofs < PROOFS or cited < CITED:
         raise Failure(f'{proofs} proofs were looked at, and must be {PROOFS}; {cited} names, and must be {CITED}')
     wrong += shapes.too_long(texts)
+    wrong += [] if has_program(texts) else ['README.md: it does not have the program of crates/tour']
     print(*wrong, f'{proofs} proofs and {cited} names were looked at, {len(wrong)} faults', sep='\n')
     return not wrong
