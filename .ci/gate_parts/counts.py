@@ -14,9 +14,7 @@ from gate_parts.options import options
 from gate_parts.tree import TOP, Failure, text_of
 
 LIBRARY = 'inlinable_string'
-# Crates that only tests use.
-TEST_CRATES = ('test_support',)
-# Folders that no commit has, and endings of files that are not text.
+# Folders that no commit has.
 MADE = ('.git', 'out', '__pycache__')
 EDIT_FOLDERS = ('must-fail', 'must-fail-together', 'wrong-definitions', 'wrong-clauses')
 TEST_MODULE = re.compile(r'^#\[cfg\(test\)\]\n *mod (\w+);', re.MULTILINE)
@@ -62,7 +60,7 @@ def kind_of(path, tests):
         return parts[0] if parts[0] in ('.ci', 'replay', 'bench') else 'the rest'
     if parts[2] in EDIT_FOLDERS:
         return 'edits'
-    if parts[1] in TEST_CRATES or any(stem == test or stem.startswith(test + '/') for test in tests):
+    if parts[1] == 'test_support' or any(stem == test or stem.startswith(test + '/') for test in tests):
         return 'tests'
     if parts[2] in ('src', 'specs', 'proofs'):
         return f'{"library" if parts[1] == LIBRARY else "other crates"}: {parts[2]}'
@@ -104,9 +102,8 @@ def is_item(word, texts, words):
     if not modules:
         return name in words
     home = re.compile(rf'(^|/){modules[-1]}(/.*)?\.(rt|py|rs)$')
-    homes = [path for path in texts if home.search(path)] or [path for path in texts if path.endswith(SOURCES)]
-    return any(re.search(rf'\b{name}\b', texts[path]) for path in homes) and (
-        modules[-1] in words or any(home.search(path) for path in texts))
+    homes = [path for path in texts if home.search(path)] or (texts if modules[-1] in words else [])
+    return any(re.search(rf'\b{name}\b', texts[path]) for path in homes)
 
 
 def missing(texts):
@@ -122,19 +119,17 @@ def missing(texts):
     return len(cited), wrong
 
 
-def has_program(texts):
-    """Whether the README shows the program of `tour`, whole."""
-    return f'```rust\n{texts["crates/tour/src/main.rt"]}```\n' in texts['README.md']
-
-
 def main(words):
     options('counts', __doc__, words)
     texts = texts_by_path()
     print_lines(texts)
-    proofs, (cited, wrong) = shapes.proof_count(texts), missing(texts)
+    proofs = sum(bool(name) for path, text in texts.items() if path.endswith('.antt')
+                 for name, _ in shapes.proofs_in(text))
+    cited, wrong = missing(texts)
     if proofs < PROOFS or cited < CITED:
         raise Failure(f'{proofs} proofs were looked at, and must be {PROOFS}; {cited} names, and must be {CITED}')
-    wrong += shapes.too_long(texts)
-    wrong += [] if has_program(texts) else ['README.md: it does not have the program of crates/tour']
+    wrong += [fault for path, text in texts.items() for fault in shapes.too_long(path, text)]
+    if f'```rust\n{texts["crates/tour/src/main.rt"]}```\n' not in texts['README.md']:
+        wrong.append('README.md: it does not have the program of crates/tour')
     print(*wrong, f'{proofs} proofs and {cited} names were looked at, {len(wrong)} faults', sep='\n')
     return not wrong

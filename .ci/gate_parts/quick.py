@@ -15,15 +15,14 @@ from functools import partial
 
 from floors import QUICK_PROVED, TRIED
 from gate_parts.options import options
+from gate_parts.refusals import ENDED, TEST
 from gate_parts.tree import PROCESSORS, crate_folder, run_rt, text_of
 
 LIBRARY, PART, PROGRAM = 'inlinable_string', 'run', 'inline_script'
 # The crates whose tests run without --all.
 MAIN_TESTS = ('inline_vectors', 'inline_script')
-# A test, and what it printed.
-TEST = re.compile(r'^test \S+ (?:.*?)(ok|FAILED)$(.*?)(?=^test |\Z)', re.MULTILINE | re.DOTALL)
-ENDED = re.compile(r'^test result:', re.MULTILINE)
 PROVED = re.compile(r'^only=(\d+) proved=\1$', re.MULTILINE)
+LEFT_OUT = 'the proofs of the other crates and of all tests, and whatever must be refused or answered'
 HELD = 'this test needs the proved build'
 # Generated lists take long under the checks of `rt try`, and longer where others are at work.
 SECONDS = '600'
@@ -39,10 +38,9 @@ def library_is_proved(*words):
 
 def counted(said):
     """How many tests passed, failed, and stopped since they need the proved build."""
-    found = TEST.findall(said)
-    held = sum(how == 'FAILED' and HELD in printed for how, printed in found)
-    failed = sum(how == 'FAILED' for how, _ in found) - held + (not ENDED.search(said))
-    return sum(how == 'ok' for how, _ in found), failed, held
+    found = [(how == 'ok', HELD in printed) for _, how, printed in TEST.findall(said)]
+    passed, held = sum(is_well for is_well, _ in found), found.count((False, True))
+    return passed, len(found) - passed - held + (not ENDED.search(said)), held
 
 
 def tests_pass(crate):
@@ -68,13 +66,11 @@ def program_runs():
 
 def steps_of(is_all):
     """What is tried, the longest first, and in words what is not."""
-    crates = [crate for crate in TRIED if is_all or crate in MAIN_TESTS]
-    proof = library_is_proved if is_all else partial(library_is_proved, '--only', PART)
-    others = ', '.join(crate for crate in TRIED if crate not in crates)
-    left_out = 'the proofs of the other crates and of all tests, and whatever must be refused or answered'
-    if not is_all:
-        left_out = f'the rest of {LIBRARY}, the tests of {others} (all of this by --all); {left_out}'
-    return [proof, *(partial(tests_pass, crate) for crate in crates), program_runs], left_out
+    if is_all:
+        return [library_is_proved, *(partial(tests_pass, crate) for crate in TRIED), program_runs], LEFT_OUT
+    others = ', '.join(crate for crate in TRIED if crate not in MAIN_TESTS)
+    return ([partial(library_is_proved, '--only', PART), *(partial(tests_pass, crate) for crate in MAIN_TESTS),
+             program_runs], f'the rest of {LIBRARY}, the tests of {others} (all this by --all), {LEFT_OUT}')
 
 
 def main(words):
@@ -83,10 +79,8 @@ def main(words):
     with ThreadPoolExecutor(PROCESSORS) as pool:
         for step in as_completed([pool.submit(step) for step in steps]):
             is_step_well, told, said = step.result()
-            verdict = 'well' if is_step_well else 'NOT WELL'
-            print(f'{time.monotonic() - start:5.0f} s  {verdict}: {told}', flush=True)
-            if not is_step_well:
-                print(said)
+            print(f'{time.monotonic() - start:5.0f} s  {"well" if is_step_well else "NOT WELL"}: {told}', flush=True)
+            print(said * (not is_step_well), end='')
             is_well = is_well and is_step_well
     used = resource.getrusage(resource.RUSAGE_CHILDREN)
     print(f'{used.ru_utime + used.ru_stime:5.0f} s of processor')

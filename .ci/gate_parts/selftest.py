@@ -639,8 +639,8 @@ class Shapes(unittest.TestCase):
             '  module _ where\n    three = b\n      where\n        four = a\n\nabbrev pub five : Nat\n')
 
     def of(self, **files):
-        texts = {f'crates/toy/{name}/Toy.antt': text for name, text in files.items()}
-        return shapes.proof_count(texts), list(shapes.too_long(texts))
+        return [fault for name, text in files.items()
+                for fault in shapes.too_long(f'crates/toy/{name}/Toy.antt', text)]
 
     def test_proofs_are_told_apart(self):
         self.assertEqual([each for each in shapes.proofs_in(self.TEXT) if each[0] not in (None, 'module')],
@@ -648,15 +648,15 @@ class Shapes(unittest.TestCase):
 
     def test_what_is_as_long_as_it_may_be(self):
         line = 'one = ' + 'x' * (shapes.COLUMNS - 6) + '\n'
-        self.assertEqual(self.of(proofs=line * shapes.PROOF_LINES + 'use ' + line), (1, []))
+        self.assertEqual(self.of(proofs=line * shapes.PROOF_LINES + 'use ' + line), [])
 
     def test_line_that_is_too_long(self):
         for folder in ('src', 'specs', 'proofs'):
-            wrong = self.of(**{folder: 'one =\n    ' + 'x' * (shapes.COLUMNS - 3) + '\n'})[1]
+            wrong = self.of(**{folder: 'one =\n    ' + 'x' * (shapes.COLUMNS - 3) + '\n'})
             self.assertEqual(wrong, [f'crates/toy/{folder}/Toy.antt:2: the line has more than 100 columns'])
 
     def test_proof_that_is_too_long(self):
-        wrong = self.of(proofs='one = 1\n\n' + '    1\n' * shapes.PROOF_LINES)[1]
+        wrong = self.of(proofs='one = 1\n\n' + '    1\n' * shapes.PROOF_LINES)
         self.assertEqual(wrong, ['crates/toy/proofs/Toy.antt: one has 31 lines, and may have 30'])
 
 

@@ -6,8 +6,9 @@ is a lemma with its type or an answer to a goal, has at most 30 lines, comments 
 import re
 
 COLUMNS, FILE_LINES, PROOF_LINES = 100, 500, 30
-# Files that a reader reads: stored answers and inputs are none.
-READ = ('.rt', '.antt', '.py', '.rs', '.cpp', '.edits', '.md')
+# Files that `rt` checks, and files that a reader reads: stored answers and inputs are none.
+CHECKED = ('.rt', '.antt')
+READ = (*CHECKED, '.py', '.rs', '.cpp', '.edits', '.md')
 IMPORT = re.compile(r' *(pub )?(ghost )?use ')
 # A name, after what may stand before one.
 NAME = re.compile(r' *(?:(?:pub|abbrev|record) )*([^\s:({]+)')
@@ -34,25 +35,13 @@ def proofs_in(text):
     yield name, count
 
 
-def long_parts(path, text):
-    """In words, each line and each proof of a crate's file that is too long."""
-    for number, line in enumerate(text.splitlines(), 1):
+def too_long(path, text):
+    """In words, what is too long in a file of the tree."""
+    if path.endswith(READ) and text.count('\n') > FILE_LINES:
+        yield f'{path}: the file has more than {FILE_LINES} lines'
+    for number, line in enumerate(text.splitlines() if path.endswith(CHECKED) else (), 1):
         if len(line) > COLUMNS and not IMPORT.match(line):
             yield f'{path}:{number}: the line has more than {COLUMNS} columns'
     for name, count in proofs_in(text) if path.endswith('.antt') else ():
         if name and count > PROOF_LINES:
             yield f'{path}: {name} has {count} lines, and may have {PROOF_LINES}'
-
-
-def too_long(texts):
-    """In words, what is too long in these texts, each by its path."""
-    for path, text in texts.items():
-        if path.startswith('crates/') and path.endswith(('.rt', '.antt')):
-            yield from long_parts(path, text)
-        if path.endswith(READ) and text.count('\n') > FILE_LINES:
-            yield f'{path}: the file has more than {FILE_LINES} lines'
-
-
-def proof_count(texts):
-    """How many proofs these texts have."""
-    return sum(bool(name) for path, text in texts.items() if path.endswith('.antt') for name, _ in proofs_in(text))

@@ -8,46 +8,31 @@ import os
 import re
 import shutil
 import subprocess
+from glob import glob
 
 from gate_parts.options import options
 from gate_parts.rooms import copies
-from gate_parts.tree import Failure, crate_folder, crates_with
+from gate_parts.tree import Failure, crate_folder, crates_with, text_of, write_text
 
 # A function that is done, and the line before the first.
 CHECKED = re.compile(r'^checked (\S+), \d+ of \d+$|^so far: 0 of')
 BEFORE = 'before the first function'
-TICKS = os.sysconf('SC_CLK_TCK')
 
 
-def processes():
-    """By id, each process of the machine: its parent, and its ticks with those of its ended children."""
-    found = {}
-    for name in filter(str.isdigit, os.listdir('/proc')):
-        try:
-            with open(f'/proc/{name}/stat', encoding='utf-8', errors='replace') as reading:
-                fields = reading.read().rpartition(')')[2].split()
-        except OSError:  # it has ended
-            continue
-        found[int(name)] = int(fields[1]), sum(map(int, fields[11:15]))
-    return found
-
-
-def processor_seconds(process):
-    """What a process and all that it started have taken so far."""
-    each, below = processes(), {process}
-    for _ in each:
-        more = {one for one, (parent, _) in each.items() if parent in below} - below
-        if not more:
-            break
-        below |= more
-    return sum(each[one][1] for one in below if one in each) / TICKS
+def ticks(process):
+    """What a process and all that it started have taken of the processor so far."""
+    try:
+        own = text_of(f'/proc/{process}/stat').rpartition(')')[2].split()[11:15]
+        started = [child for path in glob(f'/proc/{process}/task/*/children') for child in text_of(path).split()]
+    except OSError:  # it has ended, and is in the ticks of what started it
+        return 0
+    return sum(map(int, own)) + sum(map(ticks, started))
 
 
 def forget(folder):
     """Has a check of a copied crate begin from nothing: its text is like no other's, and nothing is kept."""
     root = next(path for path in (f'{folder}/src/lib.rt', f'{folder}/src/main.rt') if os.path.exists(path))
-    with open(root, 'a', encoding='utf-8') as writing:
-        writing.write('// timed\n')
+    write_text(root, text_of(root) + '// timed\n')
     shutil.rmtree(f'{folder}/out', ignore_errors=True)
     os.makedirs(f'{folder}/out/incremental')
 
@@ -57,11 +42,9 @@ def timed(folder, words):
     costs, last = {}, 0
     with subprocess.Popen(['rt', 'check', '--jobs', '1', '--progress', *words], cwd=folder, encoding='utf-8',
                           errors='replace', stdout=subprocess.PIPE, stderr=subprocess.STDOUT) as check:
-        for line in check.stdout:
-            found = CHECKED.match(line)
-            if found:
-                now = processor_seconds(check.pid)
-                costs[found[1] or BEFORE], last = now - last, now
+        for found in filter(None, map(CHECKED.match, check.stdout)):
+            now = ticks(check.pid) / os.sysconf('SC_CLK_TCK')
+            costs[found[1] or BEFORE], last = now - last, now
     return costs
 
 
