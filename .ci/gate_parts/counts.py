@@ -128,7 +128,7 @@ def main(words):
     cited, wrong = missing(texts)
     if proofs < PROOFS or cited < CITED:
         raise Failure(f'{proofs} proofs were looked at, and must be {PROOFS}; {cited} names, and must be {CITED}')
-    wrong += [fault for path, text in texts.items() for fault in shapes.too_long(path, text)]
+    wrong += shapes.too_long(texts)
     if f'```rust\n{texts["crates/tour/src/main.rt"]}```\n' not in texts['README.md']:
         wrong.append('README.md: it does not have the program of crates/tour')
     print(*wrong, f'{proofs} proofs and {cited} names were looked at, {len(wrong)} faults', sep='\n')

@@ -639,8 +639,7 @@ class Shapes(unittest.TestCase):
             '  module _ where\n    three = b\n      where\n        four = a\n\nabbrev pub five : Nat\n')
 
     def of(self, **files):
-        return [fault for name, text in files.items()
-                for fault in shapes.too_long(f'crates/toy/{name}/Toy.antt', text)]
+        return list(shapes.too_long({f'crates/toy/{name}/Toy.antt': text for name, text in files.items()}))
 
     def test_proofs_are_told_apart(self):
         self.assertEqual([each for each in shapes.proofs_in(self.TEXT) if each[0] not in (None, 'module')],

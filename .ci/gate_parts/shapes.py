@@ -35,13 +35,14 @@ def proofs_in(text):
     yield name, count
 
 
-def too_long(path, text):
-    """In words, what is too long in a file of the tree."""
-    if path.endswith(READ) and text.count('\n') > FILE_LINES:
-        yield f'{path}: the file has more than {FILE_LINES} lines'
-    for number, line in enumerate(text.splitlines() if path.endswith(CHECKED) else (), 1):
-        if len(line) > COLUMNS and not IMPORT.match(line):
-            yield f'{path}:{number}: the line has more than {COLUMNS} columns'
-    for name, count in proofs_in(text) if path.endswith('.antt') else ():
-        if name and count > PROOF_LINES:
-            yield f'{path}: {name} has {count} lines, and may have {PROOF_LINES}'
+def too_long(texts):
+    """In words, what is too long in these files of the tree, each by its path."""
+    for path, text in texts.items():
+        if path.endswith(READ) and text.count('\n') > FILE_LINES:
+            yield f'{path}: the file has more than {FILE_LINES} lines'
+        for number, line in enumerate(text.splitlines() if path.endswith(CHECKED) else (), 1):
+            if len(line) > COLUMNS and not IMPORT.match(line):
+                yield f'{path}:{number}: the line has more than {COLUMNS} columns'
+        for name, count in proofs_in(text) if path.endswith('.antt') else ():
+            if name and count > PROOF_LINES:
+                yield f'{path}: {name} has {count} lines, and may have {PROOF_LINES}'
