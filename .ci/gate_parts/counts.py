@@ -97,13 +97,13 @@ def is_path(word, document, texts):
 
 
 def is_item(word, texts, words):
-    """Whether a source has the name, and if a module is named with it, whether that module has it."""
+    """Whether a source has the name, and if modules are named with it, a file of the last that has files."""
     *modules, name = word.split('::')
-    if not modules:
-        return name in words
-    home = re.compile(rf'(^|/){modules[-1]}(/.*)?\.(rt|py|rs)$')
-    homes = [path for path in texts if home.search(path)] or (texts if modules[-1] in words else [])
-    return any(re.search(rf'\b{name}\b', texts[path]) for path in homes)
+    for module in reversed([each for each in modules if each.islower()]):
+        homes = [text for path, text in texts.items() if module in re.split('[/.]', path)]
+        if homes:
+            return any(re.search(rf'\b{name}\b', text) for text in homes)
+    return name in words and (not modules or modules[-1] in words)
 
 
 def missing(texts):
