@@ -99,20 +99,14 @@ WRONG_DEFINITIONS = {'inlinable_string': 143, 'script_language': 101}
 WRONG_CLAUSES = 5
 CALLERS = 190
 
-# Departures that the judge over the original crate makes, each of a row of `docs/DIFFERENCES.md`.
-DEPARTURES = 10
-
 # Lemmas and answers to goals, in the proofs of the crates and among the words of their definitions.
 PROOFS = 1_400
 
-# Functions that `docs/PROMISES.md` names, each time that it does.
-PROMISES = 158
+# Paths and names in backticks that the documents cite.
+CITED = 400
 
-# Rows of data that each picture of `docs/` is drawn from.
-PICTURES = {'array': 8, 'ways': 23, 'bench': 16, 'gate': 12}
-
-# What `CALLING.md` quotes of the sources: fences, clauses, words, laws, and laws with a caller's line.
-QUOTED = {'blocks': 23, 'clauses': 231, 'words': 50, 'laws': 71, 'cited': 66}
+# Functions of the library that `gate quick` proves.
+QUICK_PROVED = 37
 
 # By crate, for `gate quick`: tests that must pass without being proved, and how many at most may say
 # that they need the proved build.

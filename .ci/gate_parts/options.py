@@ -8,11 +8,14 @@ from gate_parts.tree import PROCESSORS
 SEED = '20251122'
 
 KNOWN = {
+    'crate': {'metavar': 'CRATE'},
     'crates': {'nargs': '*', 'metavar': 'CRATE'},
     'programs': {'nargs': '*', 'metavar': 'PROGRAM'},
     'judge': {'metavar': 'JUDGE'},
     'family': {'choices': ('readings', 'pairs', 'calls')},
     'what': {'choices': ('digests', 'values')},
+    '--only': {'default': '', 'metavar': 'PATH'},
+    '--test': {'action': 'store_true'},
     '--named': {'default': '', 'metavar': 'WORD'},
     '--jobs': {'type': int, 'default': PROCESSORS, 'metavar': 'N'},
     '--seed': {'default': SEED},

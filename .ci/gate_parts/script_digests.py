@@ -12,7 +12,6 @@ from gate_parts.generated import generated_case
 from gate_parts.language import answer
 from gate_parts.programs import difference
 from gate_parts.quick_runs import QuickRuns
-from gate_parts.specified import check_words
 from gate_parts.stored import path_of
 
 
@@ -28,7 +27,6 @@ def scripts_from(seed, first, count=STEP):
 
 def digests_from(programs, start):
     """The digest of a thousand scripts, and of what each program answers to them."""
-    check_words()
     scripts, answers = sha256(), [sha256() for _ in programs]
     with QuickRuns() as runs:
         for case in scripts_from(*start):

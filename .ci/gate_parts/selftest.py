@@ -16,12 +16,10 @@ from collections import Counter
 from unittest import mock
 
 from floors import CALL_ANSWERS, PAIR_ANSWERS, READING_ANSWERS
-from gate_parts import (bench_table, call_inputs, counts, departures, hostile_inputs, pair_inputs, pictures, promises,
-                        quick, quoted, reading_inputs, said, shapes, specified, stored_lines)
+from gate_parts import call_inputs, hostile_inputs, pair_inputs, quick, reading_inputs, said, shapes, stored_lines
 from gate_parts.answered_lines import shortfalls
 from gate_parts.callers import promising
 from gate_parts.cases import read_cases
-from gate_parts.counts import misstatements
 from gate_parts.definitions import Reach, cite_copies
 from gate_parts.edit_files import Change, Edit, read_edits, texts_with
 from gate_parts.edits import refused_by
@@ -44,8 +42,7 @@ READINGS, READINGS_OF_EACH, READING_KINDS, READING_ANSWERS = {'values': 40, 'dig
 PAIRS, PAIRS_OF_EACH, PAIR_KINDS, PAIR_WORDS, PAIR_ANSWERS = {'values': 40, 'digests': 4_000}, 0, (), (), ()
 CALLS, CALLS_OF_EACH, CALL_KINDS, CALL_WORDS, CALL_ANSWERS = {'values': 60, 'digests': 4_000}, 0, (), (), ()
 HOSTILE_INPUTS, HOSTILE_ACCEPTED_PART, HOSTILE_OF_EACH, HOSTILE_REPLIES, HOSTILE_FAULTS = 1, 0, 0, (), ()
-WRONG_DEFINITIONS, WRONG_CLAUSES, CALLERS, PROMISES, DEPARTURES = {'toy': 1}, 1, 1, 0, 0
-PICTURES = {'array': 8, 'ways': 23, 'gate': 12}
+WRONG_DEFINITIONS, WRONG_CLAUSES, CALLERS = {'toy': 1}, 1, 1
 BENCH_WORKLOADS, BENCH_TEXTS = 2, {'One': 2, 'Two': 1}
 '''
 SOURCE = '''pub const LIMIT: usize = 1;
@@ -383,11 +380,6 @@ class Replay(InSmallRepository):
         self.write('.ci/floors.py', FLOORS.replace("'digests': 0", "'digests': 1000"))
         self.assert_fails('has 0 digests, and must have 1', 'replay', self.program)
 
-    def test_words_that_are_drawn_are_those_of_the_rules(self):
-        specified.check_words()
-        with mock.patch.dict(specified.LINES, {'popped': (1, None)}), self.assertRaises(Failure):
-            specified.check_words()
-
     def test_file_that_is_cut(self):
         self.write('replay/a.cases', CASES.format('a').partition('case a_2')[0])
         self.assert_fails('has 1 cases, and must have 2', 'replay', self.program)
@@ -640,25 +632,6 @@ class Hostile(unittest.TestCase):
         self.assertEqual(tally.different['program'], 1)
 
 
-class Counts(unittest.TestCase):
-    def wrong(self, text, sentence='{tests} tests of `rt`'):
-        return list(misstatements(text, sentence, {'tests': 1128}))
-
-    def test_number_that_is_counted(self):
-        self.assertEqual(self.wrong('It has 1,128 tests\n    of `rt`.'), [])
-
-    def test_number_that_is_not(self):
-        for text in ('1,129 tests of `rt`', '11,128 tests of `rt`', '1,128 tests of `rt`, and 128 tests of `rt`'):
-            self.assertEqual(len(self.wrong(text)), 1, text)
-
-    def test_sentence_that_has_gone(self):
-        self.assertEqual(len(self.wrong('1,128 tests')), 1)
-
-    def test_number_that_nobody_counts(self):
-        with self.assertRaises(Failure):
-            self.wrong('12 bugs', '{bugs} bugs')
-
-
 class Shapes(unittest.TestCase):
     """Of files of proofs."""
     TEXT = ('use Rattle.toy.{word}\n-- why\npub one : {a : Nat}\n    -> Nat\none {\n  a = 1;\n}\n\n'
@@ -666,11 +639,7 @@ class Shapes(unittest.TestCase):
             '  module _ where\n    three = b\n      where\n        four = a\n\nabbrev pub five : Nat\n')
 
     def of(self, **files):
-        with tempfile.TemporaryDirectory() as place:
-            for name, text in files.items():
-                os.makedirs(os.path.join(place, 'crates/toy', name))
-                write_text(os.path.join(place, 'crates/toy', name, 'Toy.antt'), text)
-            return shapes.checked(place)
+        return list(shapes.too_long({f'crates/toy/{name}/Toy.antt': text for name, text in files.items()}))
 
     def test_proofs_are_told_apart(self):
         self.assertEqual([each for each in shapes.proofs_in(self.TEXT) if each[0] not in (None, 'module')],
@@ -678,139 +647,17 @@ class Shapes(unittest.TestCase):
 
     def test_what_is_as_long_as_it_may_be(self):
         line = 'one = ' + 'x' * (shapes.COLUMNS - 6) + '\n'
-        self.assertEqual(self.of(proofs=line * shapes.PROOF_LINES + 'use ' + line), (1, []))
+        self.assertEqual(self.of(proofs=line * shapes.PROOF_LINES + 'use ' + line), [])
 
     def test_line_that_is_too_long(self):
         for folder in ('src', 'specs', 'proofs'):
-            wrong = self.of(**{folder: 'one =\n    ' + 'x' * (shapes.COLUMNS - 3) + '\n'})[1]
+            wrong = self.of(**{folder: 'one =\n    ' + 'x' * (shapes.COLUMNS - 3) + '\n'})
             self.assertEqual(wrong, [f'crates/toy/{folder}/Toy.antt:2: the line has more than 100 columns'])
 
     def test_proof_that_is_too_long(self):
-        wrong = self.of(proofs='one = 1\n\n' + '    1\n' * shapes.PROOF_LINES)[1]
+        wrong = self.of(proofs='one = 1\n\n' + '    1\n' * shapes.PROOF_LINES)
         self.assertEqual(wrong, ['crates/toy/proofs/Toy.antt: one has 31 lines, and may have 30'])
 
-    def test_proofs_that_were_not_found(self):
-        with mock.patch.object(shapes, 'source_paths', lambda top: []), self.assertRaisesRegex(Failure, '0 proofs'):
-            counts.shapes_are_short()
-
-
-class BenchTable(unittest.TestCase):
-    """The rows of the bench that the README shows."""
-    HEAD = '| workload | ours | original | Rust `String` | libstdc++ |'
-    SHOWN = mock.patch.object(bench_table, 'SHOWN', {'read': 'read 6'})
-
-    def shown(self, *lines):
-        with self.SHOWN:
-            return bench_table.shown(bench_table.rows_of('\n'.join(lines)))
-
-    def test_half_is_rounded_up(self):
-        self.assertEqual(self.shown(self.HEAD, '| read 6 | 1,018.5 | 20.4 | 13.0 |  |'),
-                         {'read_ours': 1019, 'read_original': 20, 'read_rust': 13})
-
-    def test_row_that_is_missing(self):
-        with self.assertRaisesRegex(Failure, 'has no row for read 6'):
-            self.shown(self.HEAD, '| read 30 | 18.5 | 20.4 | 13.0 |  |')
-
-    def test_table_that_is_missing(self):
-        with self.assertRaisesRegex(Failure, 'has no table of workloads'):
-            self.shown('| read 6 | 18.5 | 20.4 | 13.0 |  |')
-
-    def test_cell_that_is_no_number(self):
-        with self.assertRaisesRegex(Failure, 'few is no number'):
-            self.shown(self.HEAD, '| read 6 | few | 20.4 | 13.0 |  |')
-
-
-class Quoted(unittest.TestCase):
-    """Of a source with one function, and of the tables of the tree."""
-    SOURCE = ('/// Adds.\n    pub fn add(&mut self, x: u8) -> Result<u8, Full>\n        requires { a (x) }\n'
-              '        ensures sum { b }\n\n        // Why.\n        ensures err { c\n            → d };\n}\n')
-    WHOLE = 'pub fn add(&mut self, x: u8) -> Result<u8, Full>\n    requires { a (x) }\n'
-    LAST = '    ensures sum { b }\n    ensures err { c → d };'
-
-    def is_right(self, item, source=SOURCE):
-        return not list(quoted.block_faults('add.rt', item, source))
-
-    def test_whole_contract(self):
-        self.assertTrue(self.is_right(self.WHOLE + self.LAST))
-
-    def test_clauses_left_out_are_said_to_be(self):
-        for item in (self.WHOLE + '    ..\n    ensures err { c → d };', self.WHOLE + '    ..'):
-            self.assertTrue(self.is_right(item), item)
-        for item in (self.WHOLE + '    ensures err { c → d };', self.WHOLE.rstrip(),
-                     self.WHOLE + self.LAST + '\n    ..', self.WHOLE + '    ..\n' + self.LAST):
-            self.assertFalse(self.is_right(item), item)
-
-    def test_quote_that_is_cut(self):
-        for item in (self.WHOLE + '    ensures sum { b }\n    ensures err { c', 'fn add(&mut self, x: u8)',
-                     'pub fn add(&mut self, x: u8)', self.WHOLE.replace('a (x)', 'a') + self.LAST,
-                     self.WHOLE + self.LAST.replace('→ d', ''), '..'):
-            self.assertFalse(self.is_right(item), item)
-
-    def test_clause_that_the_source_has_otherwise(self):
-        for changed in (self.SOURCE.replace('→ d', '→ e'), self.SOURCE.replace('ensures sum { b }\n', ''),
-                        self.SOURCE.replace('requires { a (x) }', 'requires { a (x) }\n requires { z }'),
-                        self.SOURCE.replace('→ d }', '→ d }\n ensures more { z }')):
-            self.assertFalse(self.is_right(self.WHOLE + self.LAST, changed), changed)
-
-    def test_fence_that_names_no_file(self):
-        for head in ('', ' no/file.rt'):
-            blocks, clauses, faults = quoted.quoted_faults(f'```rust{head}\nensures a\n```\n')
-            self.assertEqual((blocks, clauses, len(faults)), (1, 1, 1))
-
-    def test_document_as_it_is_and_shorter(self):
-        text = text_of(in_tree(quoted.DOCUMENT))
-        for faults_of in (quoted.quoted_faults, quoted.word_faults, quoted.law_faults):
-            self.assertEqual(faults_of(text)[-1], [])
-        for old, new in (('the UTF-8 of a text', 'the UTF-16 of a text'), ('| `HasRoom` |', '| `HasRooms` |'),
-                         ('`policy`) | the characters', '`place`) | the characters')):
-            self.assertIn(old, text)
-            self.assertNotEqual(quoted.word_faults(text.replace(old, new))[-1], [], old)
-        for old, new in (('`places_are_boundaries();` in', '`places_are();` in'), ('A cut of the text is', 'A part of the text is'),
-                         ('| `run::runs_join` |', '| `run::runs_part` |')):
-            self.assertIn(old, text)
-            self.assertNotEqual(quoted.law_faults(text.replace(old, new))[-1], [], old)
-        with mock.patch.dict(counts.QUOTED, {'clauses': 10_000}), mock.patch('builtins.print') as printed:
-            self.assertFalse(counts.quotes_stand())
-        self.assertIn('must have 10000', ' '.join(map(str, printed.call_args[0])))
-
-
-class Pictures(InSmallRepository):
-    def setUp(self):
-        super().setUp()
-        shutil.copytree(in_tree('docs'), os.path.join(self.place, 'docs'))
-        shutil.copytree(in_tree('crates/inlinable_string/src'), os.path.join(self.place, 'crates/inlinable_string/src'))
-        self.write('bench/README.md', text_of(in_tree('bench', 'README.md')))
-
-    def test_pictures_as_they_are_drawn(self):
-        self.assert_passes('pictures')
-
-    def test_picture_that_is_another_or_gone(self):
-        for name in pictures.DRAWN:
-            text = text_of(in_tree('docs', name + '.svg'))
-            self.changed(f'docs/{name}.svg', '<text ', '<text  ')
-            self.assert_fails(f'docs/{name}.svg is not what is drawn', 'pictures')
-            os.remove(os.path.join(self.place, 'docs', name + '.svg'))
-            self.assert_fails(f'docs/{name}.svg is not what is drawn', 'pictures')
-            self.write(f'docs/{name}.svg', text)
-
-    def test_data_that_are_fewer(self):
-        self.changed('docs/pictures/array.rows', 'push_str "s" | 0 | "the longest word"\n', '')
-        self.assert_fails('array has 7 rows, and must have 8', 'pictures')
-
-    def test_data_that_the_rule_or_the_sources_do_not_bear_out(self):
-        self.changed('docs/pictures/array.rows', 'remove 8 | 1 |', 'remove 8 | 2 |')
-        self.assert_fails('after remove 8 the text is "longest word" from 1', 'pictures', '--draw')
-        self.changed('docs/pictures/array.rows', 'remove 8 | 2 |', 'remove 8 | 1 |')
-        self.changed('docs/pictures/ways.rows', 'shrink_to_fit | at most N', 'shrink | at most N')
-        self.assert_fails("not in the sources ['shrink']", 'pictures', '--draw')
-
-    def test_workload_that_the_bench_lost(self):
-        self.changed('bench/README.md', '| eq 30 |', '| eq 31 |')
-        self.assert_fails('bench/README.md has no row for eq 30', 'pictures', '--draw')
-
-    def test_part_of_which_nothing_is_told(self):
-        self.changed('.ci/run', 'part .ci/gate pairs\n', 'part .ci/gate pairs\npart .ci/gate others\n')
-        self.assert_fails('has no row for others', 'pictures')
 
 
 class Quick(unittest.TestCase):
@@ -860,8 +707,8 @@ class Run(InSmallRepository):
         parts = len(re.findall('^part ', text_of(os.path.join(self.place, '.ci/run')), re.MULTILINE))
         self.assertEqual(sum(bool(re.match(r' *\d+ min \d\d s  .* \.\. passed, in ', line)) for line in lines), parts)
         self.assertEqual(sum(line.endswith('  passed') for line in lines), parts)
-        self.assertNotIn('part pairs', lines)
-        self.assertIn('part pairs', text_of(os.path.join(self.place, 'out/gate.log')).splitlines())
+        self.assertNotIn('part bench', lines)
+        self.assertIn('part bench', text_of(os.path.join(self.place, 'out/gate.log')).splitlines())
 
 
 class Reading(unittest.TestCase):
@@ -940,21 +787,6 @@ class Reading(unittest.TestCase):
             cite_copies(place, 'toy', 'above', ['Word'])
             self.assertEqual(text_of(path), 'Rattle.above.specs.Word.{word} Rattle.toy.specs.declared.a '
                                             'Rattle.toy.specs.Words.{b}')
-
-    def test_promises_name_what_stands(self):
-        text = ('| Promise | Carried by |\n|---|---|\n| the `text` | `push` (`text`, `len`), `inline_runs` |\n'
-                '| none | `pop`, `push` (`err`) |\n')
-        known = {'push': [{'text'}, {'text', 'len', 'room'}]}
-        self.assertEqual([(each.function, each.clauses) for each in promises.named_in(text)],
-                         [('push', {'text', 'len'}), ('pop', set()), ('push', {'err'})])
-        self.assertEqual(list(promises.wrong_names(text, known)),
-                         ['docs/PROMISES.md: there is no function pop', 'docs/PROMISES.md: no push has the clauses err'])
-
-    def test_departures_are_rows(self):
-        source = 'enum D {\n    One,\n    Two,\n}\nOne => "a row",\nTwo => {\n    "another \\\n     row"\n}\n'
-        self.assertEqual(departures.departures_in(source), (['One', 'Two'], ['a row', 'another row']))
-        self.assertEqual(departures.missing_rows(source, '| The crate |\n|---|\n| a row | here |\n'), ['another row'])
-        self.assertEqual(departures.missing_rows(source, '| a row | here |\n| another row | here |\n'), [])
 
     def test_open_goals_of_a_row(self):
         text = ('note: src/worked/room.rt:1:1: it is not proved that what the function ensures holds when it returns '
