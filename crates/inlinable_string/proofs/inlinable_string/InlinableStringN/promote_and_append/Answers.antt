@@ -1,6 +1,6 @@
 use Rattle.inlinable_string.proofs.Common.{ap, ◌∙◌, ◌++◌, chars, chars-append}
 use Rattle.inlinable_string.proofs.Text.{size-pushed_str}
-use Rattle.inlinable_string.proofs.inlinable_string.InlinableStringN.promote_appending.Goals as goal
+use Rattle.inlinable_string.proofs.inlinable_string.InlinableStringN.promote_and_append.Goals as goal
 
 pub returns-clause-text : goal.returns-clause-text
 returns-clause-text g c =

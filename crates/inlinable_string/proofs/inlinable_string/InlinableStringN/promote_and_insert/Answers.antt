@@ -1,9 +1,9 @@
 use Rattle.inlinable_string.proofs.Text.{holds, holds_chars, boundary, size-spliced_str}
 use Rattle.inlinable_string.proofs.Window.{inserted}
-use Rattle.inlinable_string.proofs.inlinable_string.InlinableStringN.promote.Goals as goal
+use Rattle.inlinable_string.proofs.inlinable_string.InlinableStringN.promote_and_insert.Goals as goal
 
-pub spliced-requires : goal.spliced-requires
-spliced-requires g c =
+pub insert_to_heap-requires : goal.insert_to_heap-requires
+insert_to_heap-requires g c =
     boundary (holds c.as_str.utf8 c.as_str.ensures.value) (rw c.in-Inline.is at c.requires.place)
 
 pub returns-clause-text : goal.returns-clause-text
