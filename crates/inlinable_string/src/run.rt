@@ -11,11 +11,14 @@ ghost use Rattle.inlinable_string.specs.Step.{IsStep};
 
 use crate::inline_string::ReplaceError;
 use crate::string_ext::StringExt;
+use bodies::{execute_body, insert_str_body, push_str_body, run_body, step_body};
 
+mod bodies;
+mod dynamic;
 mod each;
 mod laws;
-mod over_dyn;
 
+pub use dynamic::run_dyn;
 pub use each::run_each;
 pub use laws::{
     a_second_run_goes_on, bad_places_are_no_places, cut_decides_places,
@@ -27,7 +30,6 @@ pub use laws::{
     short_runs_are_short_at_each_command, short_runs_never_ask, texts_are_told_by_their_bytes,
     truncations_are_cuts, unrefused_runs_are_edits,
 };
-pub use over_dyn::run_dyn;
 
 /// What can be asked of a text. A place is a byte offset; one that is no character boundary is
 /// answered `BadPlace`.
@@ -79,76 +81,6 @@ pub enum Reply {
     NoMemory,
 }
 
-/// What a command does to a text, of a type of its own or behind a `dyn`. A place is tested before
-/// anything that can ask for memory. Two arms go by functions, since a `&str` out of a variant is
-/// known to be text only as an argument.
-macro_rules! reply_to_command {
-    ($text:ident, $command:ident, $push_str:ident, $insert_str:ident) => {
-        match $command {
-            Command::Push(ch) => match $text.push(ch) {
-                Ok(()) => Reply::Done,
-                Err(_) => Reply::NoMemory,
-            },
-            Command::PushStr(string) => $push_str($text, string),
-            Command::Insert(idx, ch) => {
-                if $text.is_char_boundary(idx) {
-                    match $text.insert(idx, ch) {
-                        Ok(()) => Reply::Done,
-                        Err(_) => Reply::NoMemory,
-                    }
-                } else {
-                    Reply::BadPlace
-                }
-            }
-            Command::InsertStr(idx, string) => $insert_str($text, idx, string),
-            Command::Truncate(new_len) => {
-                if $text.is_char_boundary(new_len) {
-                    $text.truncate(new_len);
-                    Reply::Done
-                } else {
-                    Reply::BadPlace
-                }
-            }
-            Command::Pop => match $text.pop() {
-                Some(last) => Reply::Char(last),
-                None => Reply::NoChar,
-            },
-            Command::Remove(idx) => {
-                if !$text.is_char_boundary(idx) {
-                    Reply::BadPlace
-                } else if idx < $text.len() {
-                    Reply::Char($text.remove(idx))
-                } else {
-                    Reply::BadPlace
-                }
-            }
-            Command::Clear => {
-                $text.clear();
-                Reply::Done
-            }
-            Command::ReplaceBytes(bytes) => match $text.replace_bytes(bytes) {
-                Ok(()) => Reply::Done,
-                Err(ReplaceError::WrongLength) => Reply::WrongLength,
-                Err(ReplaceError::NotUtf8) => Reply::NotUtf8,
-            },
-            Command::Reserve(additional) => match $text.reserve(additional) {
-                Ok(()) => Reply::Done,
-                Err(_) => Reply::NoMemory,
-            },
-            Command::ReserveExact(additional) => match $text.reserve_exact(additional) {
-                Ok(()) => Reply::Done,
-                Err(_) => Reply::NoMemory,
-            },
-            Command::ShrinkToFit => match $text.shrink_to_fit() {
-                Ok(()) => Reply::Done,
-                Err(_) => Reply::NoMemory,
-            },
-        }
-    };
-}
-
-pub(crate) use reply_to_command;
-
 /// Gives each command in turn to the text, and writes the reply to each, in the same order.
 ///
 /// A command that is refused leaves the text as it was, and the commands after it are given all
@@ -171,38 +103,30 @@ pub fn run<S: StringExt>(text: &mut S, commands: &[Command], replies: &mut [Repl
         ≤ (S.state text.new).capacity }
     ensures policy { (S.state text.new).policy ≡ (S.state text.old).policy }
 {
-    let _ = text.len();
-    for (i, command) in commands.iter().enumerate() {
-        replies[i] = step(text, *command);
-    }
+    run_body!(text, commands, replies, step)
 }
 
-/// Gives one command.
+/// Executes one command.
 fn step<S: StringExt>(text: &mut S, command: Command) -> Reply
     ensures { IsStep (S.state text.old) command.entry result (S.state text.new) }
 {
-    let reply = reply_to(text, command);
-    // The laws of the text as it is now.
-    let _ = text.len();
-    reply
+    step_body!(text, command, execute)
 }
 
-/// Gives one command; that the text is lawful after it is left to the caller.
-fn reply_to<S: StringExt>(text: &mut S, command: Command) -> Reply
+/// Executes one command. The caller shows that the new state is lawful.
+#[tactic(auto, using(crate::proofs::Steps::outcomes))]
+fn execute<S: StringExt>(text: &mut S, command: Command) -> Reply
     ensures { IsLawful (S.state text.new)
         → IsStep (S.state text.old) command.entry result (S.state text.new) }
 {
-    reply_to_command!(text, command, push_str, insert_str)
+    execute_body!(text, command, push_str, insert_str)
 }
 
 fn push_str<S: StringExt>(text: &mut S, string: &str) -> Reply
     ensures { IsLawful (S.state text.new)
         → IsStep (S.state text.old) (Command.PushStr string.entry) result (S.state text.new) }
 {
-    match text.push_str(string) {
-        Ok(()) => Reply::Done,
-        Err(_) => Reply::NoMemory,
-    }
+    push_str_body!(text, string)
 }
 
 fn insert_str<S: StringExt>(text: &mut S, idx: usize, string: &str) -> Reply
@@ -210,12 +134,5 @@ fn insert_str<S: StringExt>(text: &mut S, idx: usize, string: &str) -> Reply
         → IsStep (S.state text.old) (Command.InsertStr idx string.entry) result
         (S.state text.new) }
 {
-    if text.is_char_boundary(idx) {
-        match text.insert_str(idx, string) {
-            Ok(()) => Reply::Done,
-            Err(_) => Reply::NoMemory,
-        }
-    } else {
-        Reply::BadPlace
-    }
+    insert_str_body!(text, idx, string)
 }

@@ -6,7 +6,8 @@ ghost use Rattle.inlinable_string.specs.Edit.{text_after};
 ghost use Rattle.inlinable_string.specs.Run.{LegalReplies, storage_after, credit_after};
 ghost use Rattle.inlinable_string.specs.Step.{IsStep};
 
-use super::{Command, Reply, reply_to_command};
+use super::bodies::{execute_body, insert_str_body, push_str_body, run_body, step_body};
+use super::{Command, Reply};
 use crate::inline_string::ReplaceError;
 use crate::string_ext::StringExt;
 
@@ -29,50 +30,35 @@ pub fn run_dyn(text: &mut dyn StringExt, commands: &[Command], replies: &mut [Re
         ≤ (state text.new).capacity }
     ensures policy { (state text.new).policy ≡ (state text.old).policy }
 {
-    let _ = text.len();
-    for (i, command) in commands.iter().enumerate() {
-        replies[i] = step_dyn(text, *command);
-    }
+    run_body!(text, commands, replies, step_dyn)
 }
 
-/// Gives one command.
+/// Executes one command.
 fn step_dyn(text: &mut dyn StringExt, command: Command) -> Reply
     ensures { IsStep (state text.old) command.entry result (state text.new) }
 {
-    let reply = reply_to_dyn(text, command);
-    // The laws of the text as it is now.
-    let _ = text.len();
-    reply
+    step_body!(text, command, execute_dyn)
 }
 
-/// Gives one command; that the text is lawful after it is left to the caller.
-fn reply_to_dyn(text: &mut dyn StringExt, command: Command) -> Reply
+/// Executes one command. The caller shows that the new state is lawful.
+#[tactic(auto, using(crate::proofs::Steps::outcomes))]
+fn execute_dyn(text: &mut dyn StringExt, command: Command) -> Reply
     ensures { IsLawful (state text.new)
         → IsStep (state text.old) command.entry result (state text.new) }
 {
-    reply_to_command!(text, command, push_str_dyn, insert_str_dyn)
+    execute_body!(text, command, push_str_dyn, insert_str_dyn)
 }
 
 fn push_str_dyn(text: &mut dyn StringExt, string: &str) -> Reply
     ensures { IsLawful (state text.new)
         → IsStep (state text.old) (Command.PushStr string.entry) result (state text.new) }
 {
-    match text.push_str(string) {
-        Ok(()) => Reply::Done,
-        Err(_) => Reply::NoMemory,
-    }
+    push_str_body!(text, string)
 }
 
 fn insert_str_dyn(text: &mut dyn StringExt, idx: usize, string: &str) -> Reply
     ensures { IsLawful (state text.new)
         → IsStep (state text.old) (Command.InsertStr idx string.entry) result (state text.new) }
 {
-    if text.is_char_boundary(idx) {
-        match text.insert_str(idx, string) {
-            Ok(()) => Reply::Done,
-            Err(_) => Reply::NoMemory,
-        }
-    } else {
-        Reply::BadPlace
-    }
+    insert_str_body!(text, idx, string)
 }
