@@ -2,7 +2,6 @@ pub mod Text
 pub mod Utf16
 pub mod Lossy
 pub mod Cells
-pub mod Errors
 pub mod State
 pub mod Values
 pub mod Joins

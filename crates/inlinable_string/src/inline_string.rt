@@ -2,11 +2,10 @@
 //!
 //! Use [`InlineStringN`] where no text is longer than the limit, or where a longer one is to be
 //! refused; where a longer one is to be kept, use [`crate::InlinableStringN`].
-ghost use Rattle.std.specs.Prelude.{◌≡◌, ⊤, ℕ, ◌+◌, ◌-◌, ◌≤◌, ◌<◌, ◌↔◌, List, ◌++◌, [], ◌∷◌, length, drop, replicate, encode_utf8, IsTrue, true, OnOk, OnErr, Err, Some, MatchOption, MatchResult, IsUtf8, codes};
+ghost use Rattle.std.specs.Prelude.{◌≡◌, ⊤, ℕ, ◌+◌, ◌-◌, ◌≤◌, ◌<◌, ◌↔◌, List, ◌++◌, [], ◌∷◌, length, drop, replicate, encode_utf8, IsTrue, true, OnOk, OnErr, Err, Some, MatchOption, MatchResult, IsUtf8, if◌then◌else◌, codes};
 ghost use Rattle.std.specs.Bool.{OnTrue, OnFalse};
 ghost use Rattle.std.specs.Str.{all_scalars, chars, IsCharBoundary};
 ghost use Rattle.inlinable_string.specs.Text.{bytes_of, size, IsCut, IsPlace, IsSplice, IsRemoval};
-ghost use Rattle.inlinable_string.specs.Errors.{replacement_message};
 
 use crate::cells::{insert_byte, insert_in, remove_in, write_at, write_front};
 use std::alloc::AllocError;
@@ -52,7 +51,10 @@ pub enum ReplaceError {
 impl Error for ReplaceError {}
 
 impl fmt::Display for ReplaceError {
-    ghost output = { λ error. Some (replacement_message error) };
+    ghost use Rattle.inlinable_string.specs.declared.inline_string.ReplaceError.TheVariants.{NotUtf8};
+
+    ghost output = { λ error. Some (if ⟦<ReplaceError as PartialEq>⟧.eq error NotUtf8
+        then codes "the bytes are not UTF-8" else codes "the bytes are not as many as the text's") };
 
     fn fmt<W: fmt::Write>(&self, f: &mut fmt::Formatter<W>) -> fmt::Result {
         match self {

@@ -16,20 +16,10 @@ use bodies::{execute_body, insert_str_body, push_str_body, run_body, step_body};
 mod bodies;
 mod dynamic;
 mod each;
-mod laws;
 
+pub use crate::laws::{reserved_pushes_never_fail, runs_join, short_runs_never_ask};
 pub use dynamic::run_dyn;
 pub use each::run_each;
-pub use laws::{
-    a_second_run_goes_on, bad_places_are_no_places, cut_decides_places,
-    each_reply_is_legal_in_its_turn, each_text_has_its_own_run, edits_are_done_at_places,
-    growths_add_their_bytes, insertions_are_splices, outcomes_are_told_by_reply_and_text,
-    pop_takes_off_the_last_character, refusals_change_nothing, refusals_determine_the_run,
-    remove_is_a_removal, remove_undoes_insert, replacement_has_the_bytes,
-    reserved_pushes_never_fail, runs_join, short_runs_are_edits,
-    short_runs_are_short_at_each_command, short_runs_never_ask, texts_are_told_by_their_bytes,
-    truncations_are_cuts, unrefused_runs_are_edits,
-};
 
 /// What can be asked of a text. A place is a byte offset; one that is no character boundary is
 /// answered `BadPlace`.

@@ -8,7 +8,6 @@ ghost use Rattle.inlinable_string.specs.State.{TextState, IsLawful, IsSameText, 
 use crate::inline_string::ReplaceError;
 use std::alloc::{AllocError, Global};
 
-pub mod laws;
 mod make;
 mod std_string;
 mod utf16;
