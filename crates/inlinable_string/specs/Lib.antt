@@ -3,7 +3,9 @@ pub mod Utf16
 pub mod Lossy
 pub mod Cells
 pub mod State
+pub mod StringValues
 pub mod Values
+pub mod BoxableValues
 pub mod Joins
 pub mod Edit
 pub mod Run

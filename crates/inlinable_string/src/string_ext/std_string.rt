@@ -1,5 +1,5 @@
 //! std's `String` as a text that can be edited: it lies on the heap always, the empty one too.
-ghost use Rattle.inlinable_string.specs.Values.{heap_policy, string_state};
+ghost use Rattle.inlinable_string.specs.StringValues.{heap_policy, string_state};
 
 use super::{Storage, StringExt, StringMake};
 use crate::inline_string::ReplaceError;
