@@ -1,5 +1,5 @@
-//! Text that lies inline while it has at most `N` bytes, and goes to the heap when it outgrows
-//! them.
+//! A text that is stored inline while it has at most `N` bytes, and moves to the heap when it
+//! outgrows them.
 ghost use Rattle.std.specs.Prelude.{◌≡◌, ◌+◌, ◌≤◌, ◌++◌, [], ◌∷◌, length, IfOk, IsOk, OnOk, OnErr};
 ghost use Rattle.inlinable_string.specs.Text.{size};
 ghost use Rattle.inlinable_string.specs.State.{IsSameText, HasRoom, HasInlineRoom, storage_with_room};
@@ -23,7 +23,7 @@ mod promotion;
 pub type InlinableString = InlinableStringN<INLINE_STRING_CAPACITY>;
 
 /// A UTF-8 text of any length: in the value itself, or on the heap once a growth has passed `N`
-/// bytes. It does not come back when it is cut.
+/// bytes. Shortening it does not move it back.
 ///
 /// Each variant keeps the allocator, so that growths need none.
 #[derive(Drop)]
@@ -42,15 +42,15 @@ impl<const N: usize> StringExt for InlinableStringN<N> {
     #[inline]
     fn push(&mut self, ch: char) -> Result<(), AllocError> {
         if !ch.is_ascii() {
-            return self.push_slowly(ch);
+            return self.push_general(ch);
         }
         match self {
             InlinableStringN::Heap(text, _) => StringExt::push(text, ch),
             InlinableStringN::Inline(text, _) => {
-                if text.push_behind(ch) {
+                if text.try_push_ascii(ch) {
                     return Ok(());
                 }
-                self.push_slowly(ch)
+                self.push_general(ch)
             }
         }
     }
@@ -143,6 +143,8 @@ impl<const N: usize> StringExt for InlinableStringN<N> {
         }
     }
 
+    // No `#[inline]`: with `String`'s `pop` out of line, a loop of pops would test the storage each
+    // time.
     fn pop(&mut self) -> Option<char> {
         match self {
             InlinableStringN::Heap(text, _) => StringExt::pop(text),
@@ -216,7 +218,7 @@ impl<const N: usize> InlinableStringN<N> {
     /// of an ASCII character behind an inline text pays nothing for it.
     #[cold]
     #[inline(never)]
-    fn push_slowly(&mut self, ch: char) -> Result<(), AllocError>
+    fn push_general(&mut self, ch: char) -> Result<(), AllocError>
         ensures text { OnOk result ((inlinable_state N self.new).text
             ≡ (inlinable_state N self.old).text ++ ch ∷ []) }
         ensures len { OnOk result (size (inlinable_state N self.new).text
@@ -241,7 +243,7 @@ impl<const N: usize> InlinableStringN<N> {
     }
 }
 
-/// The copy lies where the text does, and inline it is not refused.
+/// The copy is stored as the text is. Copying an inline text cannot fail.
 impl<const N: usize> Clone for InlinableStringN<N> {
     ghost use Rattle.inlinable_string.specs.declared.string_ext.Storage.TheVariants.{Inline};
 

@@ -1,7 +1,7 @@
 //! Lists of commands, each with its reply.
 //!
-//! What they do to a text is a function of a list of characters, of a table that says where the
-//! text lies, and of the places at which memory was refused, whatever the text's type.
+//! What they do to a text is a function of a list of characters, of a table that gives its storage,
+//! and of the commands whose allocation failed, whatever the text's type.
 ghost use Rattle.std.specs.Prelude.{◌≡◌, ◌+◌, ◌≤◌, length};
 ghost use Rattle.inlinable_string.specs.Text.{size};
 ghost use Rattle.inlinable_string.specs.State.{IsLawful};
@@ -21,8 +21,8 @@ pub use crate::laws::{reserved_pushes_never_fail, runs_join, short_runs_never_as
 pub use dynamic::run_dyn;
 pub use each::run_each;
 
-/// What can be asked of a text. A place is a byte offset; one that is no character boundary is
-/// answered `BadPlace`.
+/// An edit of a text. A place is a byte offset; the reply to one that is no character boundary is
+/// `BadPlace`.
 #[derive(Clone, Copy)]
 pub enum Command<'a> {
     /// Appends a character.
@@ -41,18 +41,18 @@ pub enum Command<'a> {
     Remove(usize),
     /// Empties the text.
     Clear,
-    /// Overwrites the text with bytes, which must be as many as it has, and UTF-8.
+    /// Overwrites the text with bytes, which must have its length and be UTF-8.
     ReplaceBytes(&'a [u8]),
-    /// Makes room for so many bytes more.
+    /// Reserves capacity for at least `n` more bytes.
     Reserve(usize),
-    /// Makes room for so many bytes more, and for no others where that can be helped.
+    /// Reserves the minimum capacity for `n` more bytes.
     ReserveExact(usize),
-    /// Gives back room that the text does not need.
+    /// Shrinks the capacity.
     ShrinkToFit,
 }
 
-/// What is answered to a command. Every reply but `Done` and `Char` leaves the text and its
-/// storage as they were.
+/// The reply to a command. With every reply except `Done` and `Char`, the text and its storage are
+/// unchanged.
 #[derive(Clone, Copy, Debug, PartialEq, Eq)]
 pub enum Reply {
     /// The command was carried out.
@@ -63,28 +63,28 @@ pub enum Reply {
     NoChar,
     /// The place is inside a character or past the end, or no character begins there.
     BadPlace,
-    /// The bytes are as many as those of the text, but are not UTF-8.
+    /// The bytes have the text's length, but are not UTF-8.
     NotUtf8,
-    /// The bytes are not as many as those of the text.
+    /// The lengths differ.
     WrongLength,
-    /// Memory was refused.
+    /// The allocation failed.
     NoMemory,
 }
 
-/// Gives each command in turn to the text, and writes the reply to each, in the same order.
+/// Executes each command in turn, and writes the reply to each, in the same order.
 ///
-/// A command that is refused leaves the text as it was, and the commands after it are given all
-/// the same. It takes no memory of its own. The slices must have the same length.
+/// A refused command changes nothing, and the run continues. `run` itself never allocates. The
+/// slices must have the same length.
 pub fn run<S: StringExt>(text: &mut S, commands: &[Command], replies: &mut [Reply])
     requires { length replies.old ≡ length commands.now }
 
-    // The text is that of one list of characters, and lies where the placement table says.
+    // The text is that of one list of characters, stored where the placement table says.
     ensures text { (S.state text.new).text
         ≡ text_after (S.state text.old).text commands.now replies.new }
     ensures storage { (S.state text.new).storage
         ≡ storage_after (S.state text.old) commands.now replies.new }
 
-    // Each reply is that of `edit`, or want of memory to a command that is not free of it.
+    // Each reply is that of `edit`, or `NoMemory`, to a command that may allocate.
     ensures replies { LegalReplies (S.state text.old) commands.now replies.new }
 
     // A next run starts with no less credit than this one ended with.

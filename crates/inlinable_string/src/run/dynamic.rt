@@ -11,17 +11,17 @@ use super::{Command, Reply};
 use crate::inline_string::ReplaceError;
 use crate::string_ext::StringExt;
 
-/// Gives each command in turn to the text, and writes the reply to each, as [`super::run`] does.
+/// Executes each command in turn, and writes the reply to each, as [`super::run`] does.
 pub fn run_dyn(text: &mut dyn StringExt, commands: &[Command], replies: &mut [Reply])
     requires { length replies.old ≡ length commands.now }
 
-    // The text is that of one list of characters, and lies where the placement table says.
+    // The text is that of one list of characters, stored where the placement table says.
     ensures text { (state text.new).text
         ≡ text_after (state text.old).text commands.now replies.new }
     ensures storage { (state text.new).storage
         ≡ storage_after (state text.old) commands.now replies.new }
 
-    // Each reply is that of `edit`, or want of memory to a command that is not free of it.
+    // Each reply is that of `edit`, or `NoMemory`, to a command that may allocate.
     ensures replies { LegalReplies (state text.old) commands.now replies.new }
 
     // A next run starts with no less credit than this one ended with.

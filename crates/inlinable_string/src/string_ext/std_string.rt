@@ -1,4 +1,7 @@
-//! std's `String` as a text that can be edited: it lies on the heap always, the empty one too.
+//! std's `String` as a text that can be edited: it is on the heap always, the empty one too.
+//!
+//! Growths and moves stay out of line (`#[inline(never)]`), so that a call on a text that may be
+//! inline stays small.
 ghost use Rattle.inlinable_string.specs.StringValues.{heap_policy, string_state};
 
 use super::{Storage, StringExt, StringMake};

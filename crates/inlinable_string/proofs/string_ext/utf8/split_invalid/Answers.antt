@@ -1,6 +1,6 @@
 use Rattle.inlinable_string.proofs.Common.{arith, ap, sym, ◌∙◌, ◌+◌, ◌++◌, ◌∷◌, length, length-drop, take_rest, take_all, subst, chars, lossy_utf8, IsUtf8, char_len, subpart_len}
 use Rattle.inlinable_string.proofs.Subparts.{lossy_all, one_more, past_fault}
-use Rattle.inlinable_string.proofs.string_ext.utf8.split_fault.Goals as goal
+use Rattle.inlinable_string.proofs.string_ext.utf8.split_invalid.Goals as goal
 
 pub loop-end-preserved : goal.loop-end-preserved
 loop-end-preserved c =

@@ -1,5 +1,5 @@
 use Rattle.inlinable_string.proofs.Common.{◌-◌, ◌≤◌, length, take, IsUtf8}
-use Rattle.inlinable_string.proofs.string_ext.utf8.split_fault.Given as goal
+use Rattle.inlinable_string.proofs.string_ext.utf8.split_invalid.Given as goal
 
 -- what was passed over is UTF-8
 abbrev pub invariant-loop-end : goal.invariant-loop-end
