@@ -1,6 +1,6 @@
 //! Texts from bytes and from UTF-16, and back to bytes: code over the trait makes a `String`, a
 //! [`crate::InlinableStringN`] or a text of one's own.
-ghost use Rattle.std.specs.Prelude.{if◌then◌else◌, codes, ◌≡◌, ◌≤◌, ◌↔◌, [], Some, IsTrue, IfOk, IfErr, IsOk, Err, MatchResult, IsUtf8};
+ghost use Rattle.std.specs.Prelude.{◌≡◌, ◌≤◌, ◌↔◌, if◌then◌else◌, codes, [], Some, IsTrue, IfOk, IfErr, IsOk, Err, MatchResult, IsUtf8};
 ghost use Rattle.std.specs.Str.{chars};
 ghost use Rattle.std.specs.String.{from_utf8_error_vec};
 ghost use Rattle.std.specs.Cow.{cow_str_bytes, IsBorrowedStr};
