@@ -1,5 +1,8 @@
-//! std's `String` as a text that can be edited: it lies on the heap always, the empty one too.
-ghost use Rattle.inlinable_string.specs.Values.{heap_policy, string_state};
+//! std's `String` as a text that can be edited: it is on the heap always, the empty one too.
+//!
+//! Growths and moves stay out of line (`#[inline(never)]`), so that a call on a text that may be
+//! inline stays small.
+ghost use Rattle.inlinable_string.specs.StringValues.{heap_policy, string_state};
 
 use super::{Storage, StringExt, StringMake};
 use crate::inline_string::ReplaceError;
