@@ -3,7 +3,8 @@ ghost use Rattle.std.specs.Prelude.{◌≡◌, ◌∷◌, [], List, ℕ, true, f
 ghost use Rattle.std.specs.Str.{all_scalars};
 ghost use Rattle.inlinable_string.specs.Text.{size};
 ghost use Rattle.inlinable_string.specs.State.{TextState, IsLawful, IsSameText, HasRoom, HasInlineRoom, is_inline, storage_with_room, storage_when_shrunk, storage_when_made};
-ghost use Rattle.inlinable_string.specs.Values.{heap_policy, inlinable_policy};
+ghost use Rattle.inlinable_string.specs.StringValues.{heap_policy};
+ghost use Rattle.inlinable_string.specs.Values.{inlinable_policy};
 ghost use Rattle.inline_model.specs.Worked.{inline_text, heap_text, heap_only_text};
 
 use inlinable_string::Storage;
