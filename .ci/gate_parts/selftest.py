@@ -31,9 +31,9 @@ EDITS, MUST_FAIL, WRONG_DEFINITIONS, WRONG_CLAUSES, CALLERS = {'toy': 1}, {'toy'
 REFUSALS = {'toy': (2, 3)}
 BENCH_WORKLOADS, BENCH_TEXTS = 1, {'One': 1, 'Two': 1}
 '''
-# As many as the gate tries at least: whoever lowers a floor lowers its number here too.
-LEAST = {'EDITS': 150, 'MUST_FAIL': 25, 'WRONG_DEFINITIONS': 200}
-LEAST_REFUSALS = 100
+# As much as the floors say at least, in all: whoever lowers one further lowers its number here too.
+LEAST = {'EDITS': 150, 'MUST_FAIL': 25, 'WRONG_DEFINITIONS': 200, 'WRONG_CLAUSES': 5, 'CALLERS': 80, 'REFUSALS': 100,
+         'BENCH_WORKLOADS': 70, 'BENCH_TEXTS': 150}
 SOURCE = '''pub const LIMIT: usize = 1;
 
 /// One, as a caller wants it.
@@ -329,8 +329,9 @@ class Refusals(InSmallRepository):
 class Floors(unittest.TestCase):
     def test_no_floor_is_lowered_unseen(self):
         for name, least in LEAST.items():
-            self.assertGreaterEqual(sum(getattr(floors, name).values()), least, name)
-        self.assertGreaterEqual(sum(met for _, met in floors.REFUSALS.values()), LEAST_REFUSALS)
+            floor = getattr(floors, name)
+            each = floor.values() if isinstance(floor, dict) else [floor]
+            self.assertGreaterEqual(sum(one[-1] if isinstance(one, tuple) else one for one in each), least, name)
 
 
 class Bench(InSmallRepository):
