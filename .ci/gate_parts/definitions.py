@@ -29,7 +29,7 @@ from gate_parts.options import options
 from gate_parts.rooms import changed, copies, require_proof
 from gate_parts.row_copies import File, Files, Row, add_files, add_row, row_of
 from gate_parts.said import ill_formed, is_proved, open_goals
-from gate_parts.tree import TOP, Failure, crate_folder, crates_with
+from gate_parts.tree import TOP, Failure, crate_folder, crates_with, with_those_below
 
 FOLDER = 'wrong-definitions'
 # How many are tried in one check: what it prints should be readable where one is not refused.
@@ -151,8 +151,8 @@ def tried_all(library, edits, jobs):
               for files in (Files(library, crate) for crate in crates)}
     tasks = [(files, batch) for files, own in trials.items() for batch in batches(own)]
     print(f'{library}: {len(edits)} wrong definitions in {len(tasks)} checks', flush=True)
-    if crates != [library]:
-        require_proof(TOP, library, jobs)
+    for below in sorted(set().union(*(with_those_below([crate]) - {crate} for crate in crates))):
+        require_proof(TOP, below, jobs)
     rooms = SimpleQueue()
     with copies([library, *crates], min(jobs, len(tasks))) as places:
         for files, own in trials.items():
