@@ -10,9 +10,7 @@ ghost use Rattle.inlinable_string.specs.Text.{bytes_of};
 ghost use Rattle.inlinable_string.specs.State.{IsSameText};
 ghost use Rattle.inlinable_string.specs.Values.{inlinable_state};
 
-use inlinable_string::laws::compared::{
-    equality_inline_is_that_of_texts, equality_is_that_of_texts, order_is_that_of_the_bytes,
-};
+use inlinable_string::laws::{equality_is_that_of_texts, order_is_that_of_the_bytes};
 use inlinable_string::{InlinableString, InlinableStringN, InlineStringN, Storage, StringExt};
 use std::alloc::{AllocError, AllocFailed};
 use std::cmp::Ordering;
@@ -39,7 +37,7 @@ pub fn is_same<const N: usize>(a: &InlinableStringN<N>, b: &InlinableStringN<N>)
 pub fn is_same_inline<const N: usize>(a: &InlineStringN<N>, b: &InlineStringN<N>) -> bool
     ensures { IsTrue result ↔ (a.now ≡ b.now) }
 {
-    equality_inline_is_that_of_texts::<N>();
+    equality_is_that_of_texts::<N>();
     let _ = a.len();
     a == b
 }

@@ -4,7 +4,7 @@ ghost use Rattle.std.specs.Prelude.{◌≡◌, ℕ, ◌+◌, ◌≤◌, ◌<◌,
 ghost use Rattle.std.specs.Str.{chars};
 ghost use Rattle.inlinable_string.specs.Text.{size, cut, IsCut, IsPlace, IsSplice, IsRemoval};
 ghost use Rattle.inlinable_string.specs.State.{IsSameText};
-ghost use Rattle.inlinable_string.specs.Values.{string_state};
+ghost use Rattle.inlinable_string.specs.StringValues.{string_state};
 
 use inlinable_string::laws::{
     cuts_are_at_places, cuts_are_cuts_of_bytes, places_are_boundaries, steps_are_over_characters,

@@ -3,7 +3,8 @@ ghost use Rattle.std.specs.Prelude.{◌≡◌, ◌+◌, ◌*◌, ◌≤◌, ◌<
 ghost use Rattle.std.specs.Str.{chars};
 ghost use Rattle.inlinable_string.specs.Text.{size};
 ghost use Rattle.inlinable_string.specs.State.{IsSameText, HasRoom};
-ghost use Rattle.inlinable_string.specs.Values.{inlinable_state, string_state};
+ghost use Rattle.inlinable_string.specs.StringValues.{string_state};
+ghost use Rattle.inlinable_string.specs.Values.{inlinable_state};
 
 use inlinable_string::inline_string::NotEnoughSpaceError;
 use inlinable_string::laws::splices_at_the_ends;

@@ -4,7 +4,8 @@
 ghost use Rattle.std.specs.Prelude.{◌≡◌, ◌≤◌, ◌⊎◌, ◌↔◌, [], ◌∷◌, length, IfOk, IsTrue, Err};
 ghost use Rattle.inlinable_string.specs.Text.{size};
 ghost use Rattle.inlinable_string.specs.Utf16.{units_of};
-ghost use Rattle.inlinable_string.specs.Values.{inlinable_state, string_state};
+ghost use Rattle.inlinable_string.specs.StringValues.{string_state};
+ghost use Rattle.inlinable_string.specs.Values.{inlinable_state};
 
 use crate::editor::Line;
 use crate::makes::Names;

@@ -8,8 +8,7 @@ ghost use Rattle.inlinable_string.specs.State.{IsSameText, HasRoom, storage_when
 ghost use Rattle.inlinable_string.specs.Joins.{text_of_strs};
 ghost use Rattle.inlinable_string.specs.Values.{inlinable_policy, inlinable_state};
 
-use inlinable_string::laws::borrowed::loops_go_over_the_text;
-use inlinable_string::laws::printed::writing_in_calls_appends;
+use inlinable_string::laws::{loops_go_over_the_text, writing_appends};
 use inlinable_string::{InlinableString, InlinableStringN, InlineStringN, StringExt};
 use std::alloc::{AllocError, Global};
 use std::fmt::{self, Write};
@@ -126,7 +125,7 @@ pub fn write_pair<const N: usize>(
     ensures { OnOk result (bytes_of (inlinable_state N text.new).text
         ≡ bytes_of (inlinable_state N text.old).text ++ name.now ++ 61 ∷ bytes_of value.now) }
 {
-    writing_in_calls_appends::<N>();
+    writing_appends::<N>();
     write!(text, "{name}={value}")
 }
 

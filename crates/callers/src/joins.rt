@@ -2,7 +2,8 @@
 ghost use Rattle.std.specs.Prelude.{◌≡◌, ◌+◌, ◌++◌, [], ◌∷◌, IfOk, OnOk, OnErr};
 ghost use Rattle.std.specs.Str.{chars};
 ghost use Rattle.inlinable_string.specs.State.{IsSameText};
-ghost use Rattle.inlinable_string.specs.Values.{inlinable_state, string_state};
+ghost use Rattle.inlinable_string.specs.StringValues.{string_state};
+ghost use Rattle.inlinable_string.specs.Values.{inlinable_state};
 
 use inlinable_string::{InlinableStringN, InlineStringN, StringExt, StringMake};
 use std::alloc::{AllocError, Global};

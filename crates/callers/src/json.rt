@@ -7,7 +7,7 @@ ghost use Rattle.inlinable_string.specs.Text.{bytes_of};
 ghost use Rattle.inlinable_string.specs.Values.{inlinable_state};
 
 use inlinable_string::inline_json::JsonError;
-use inlinable_string::inline_json::laws::json_gives_the_text_back;
+use inlinable_string::laws::json_gives_the_text_back;
 use inlinable_string::{InlinableString, InlinableStringN, StringExt};
 use serde_json::Value;
 use std::alloc::{AllocError, Global};

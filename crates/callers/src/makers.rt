@@ -10,10 +10,9 @@ ghost use Rattle.inlinable_string.specs.Lossy.{subpart_len, lossy_utf8};
 ghost use Rattle.inlinable_string.specs.State.{storage_when_made};
 ghost use Rattle.inlinable_string.specs.Values.{inlinable_policy, inlinable_state};
 
-use inlinable_string::laws::bytes_of_parts;
-use inlinable_string::string_ext::laws::{
-    a_character_is_read, a_subpart_is_replaced, bytes_give_the_text_back, paired_units_are_a_text,
-    units_of_a_text_are_paired, utf8_is_read_as_it_is, utf16_is_read_as_it_is,
+use inlinable_string::laws::{
+    bytes_give_the_text_back, bytes_of_parts, lossy_reading_is_by_parts, paired_units_are_texts,
+    utf16_is_read_as_it_is,
 };
 use inlinable_string::{
     InlinableString, InlinableStringN, InlineStringN, Storage, StringExt, StringMake, Utf16Error,
@@ -42,7 +41,7 @@ pub fn accent<S: StringMake + Drop>(alloc: Global) -> Result<S, Utf16Error>
     ensures text { IfOk result (λ made. (S.state made).text ≡ 0xE9 ∷ []) }
     ensures paired { ¬ (result ≡ Err Utf16Error.Unpaired) }
 {
-    units_of_a_text_are_paired();
+    paired_units_are_texts();
     S::from_utf16(alloc, &[0xE9])
 }
 
@@ -64,7 +63,7 @@ pub fn same_name<S: StringMake + Drop>(
     ensures text { IfOk result (λ made. (S.state made).text ≡ (S.state name.now).text) }
     ensures paired { ¬ (result ≡ Err Utf16Error.Unpaired) }
 {
-    units_of_a_text_are_paired();
+    paired_units_are_texts();
     utf16_is_read_as_it_is();
     let _ = name.len();
     S::from_utf16(alloc, units)
@@ -119,7 +118,7 @@ pub fn shown<'a>(alloc: Global, bytes: &'a [u8]) -> Result<CowStr<'a>, AllocErro
 pub fn shown_as_it_is<'a>(alloc: Global, bytes: &'a [u8]) -> Result<CowStr<'a>, AllocError>
     ensures { IsUtf8 bytes.now → IfOk result (λ read. cow_str_bytes read ≡ bytes.now) }
 {
-    utf8_is_read_as_it_is();
+    lossy_reading_is_by_parts();
     bytes_of_parts();
     InlinableString::from_utf8_lossy(alloc, bytes)
 }
@@ -131,7 +130,7 @@ pub fn shown_behind<'a>(alloc: Global, bytes: &'a [u8]) -> Result<CowStr<'a>, Al
     ensures { IfOk result (λ read. cow_str_bytes read
         ≡ bytes_of (0xFFFD ∷ lossy_utf8 (drop (subpart_len bytes.now) bytes.now))) }
 {
-    a_subpart_is_replaced();
+    lossy_reading_is_by_parts();
     InlinableString::from_utf8_lossy(alloc, bytes)
 }
 
@@ -140,7 +139,7 @@ pub fn shown_from<'a>(alloc: Global, bytes: &'a [u8]) -> Result<CowStr<'a>, Allo
     ensures { (c : ℕ) (rest : List ℕ) → IsScalar c → bytes.now ≡ encode_utf8 c ++ rest
         → IfOk result (λ read. cow_str_bytes read ≡ bytes_of (c ∷ lossy_utf8 rest)) }
 {
-    a_character_is_read();
+    lossy_reading_is_by_parts();
     InlinableString::from_utf8_lossy(alloc, bytes)
 }
 
@@ -149,7 +148,7 @@ pub fn log_line_of_text(alloc: Global, units: &[u16]) -> Result<InlinableString,
     ensures { ¬ (HasUnpaired units.now) → IfOk result
         (λ line. units_of (inlinable_state 30 line).text ≡ units.now) }
 {
-    paired_units_are_a_text();
+    paired_units_are_texts();
     InlinableString::from_utf16_lossy(alloc, units)
 }
 

@@ -2,7 +2,8 @@
 ghost use Rattle.std.specs.Prelude.{◌≡◌, ◌+◌, ◌≤◌, ◌<◌, ◌++◌, [], ◌∷◌, length, IsTrue, IfOk, OnOk, IfSome, IfNone};
 ghost use Rattle.std.specs.Str.{chars};
 ghost use Rattle.inlinable_string.specs.State.{HasRoom, storage_when_made};
-ghost use Rattle.inlinable_string.specs.Values.{inlinable_policy, inlinable_state, string_state};
+ghost use Rattle.inlinable_string.specs.StringValues.{string_state};
+ghost use Rattle.inlinable_string.specs.Values.{inlinable_policy, inlinable_state};
 
 use inlinable_string::{InlinableStringN, InlineStringN, Storage, StringMake};
 use std::alloc::{AllocError, Global};

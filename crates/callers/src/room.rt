@@ -3,7 +3,7 @@
 ghost use Rattle.std.specs.Prelude.{◌≡◌, ◌+◌, ◌≤◌, ◌<◌, ◌++◌, [], ◌∷◌, length, IsTrue, IfOk, OnOk, OnErr};
 ghost use Rattle.std.specs.Str.{chars};
 ghost use Rattle.inlinable_string.specs.State.{IsSameText, HasRoom};
-ghost use Rattle.inlinable_string.specs.Values.{string_state};
+ghost use Rattle.inlinable_string.specs.StringValues.{string_state};
 
 use inlinable_string::{StringExt, StringMake};
 use std::alloc::{AllocError, Global};

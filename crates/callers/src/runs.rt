@@ -6,11 +6,11 @@ ghost use Rattle.inlinable_string.specs.State.{HasInlineRoom};
 ghost use Rattle.inlinable_string.specs.Run.{EachRun};
 ghost use Rattle.inlinable_string.specs.Values.{inlinable_state};
 
-use inlinable_string::laws::sizes_of_parts;
-use inlinable_string::run::{
-    Command, Reply, each_text_has_its_own_run, edits_are_done_at_places,
-    pop_takes_off_the_last_character, reserved_pushes_never_fail, run, run_dyn, run_each,
+use inlinable_string::laws::{
+    each_text_has_its_own_run, edits_are_done_at_places, pop_takes_off_the_last_character,
+    reserved_pushes_never_fail, sizes_of_parts,
 };
+use inlinable_string::run::{Command, Reply, run, run_dyn, run_each};
 use inlinable_string::{InlinableString, Storage, StringExt};
 use std::alloc::{AllocError, Global};
 

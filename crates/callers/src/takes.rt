@@ -2,7 +2,8 @@
 ghost use Rattle.std.specs.Prelude.{◌≡◌, ◌≢◌, ℕ, ◌+◌, ◌-◌, ◌≤◌, ◌<◌, ◌↔◌, List, ◌++◌, [], ◌∷◌, length, IsTrue, IfOk, OnOk, OnErr, Some, IfNone, IfSome, MatchOption, slice_index};
 ghost use Rattle.inlinable_string.specs.Text.{bytes_of, size};
 ghost use Rattle.inlinable_string.specs.State.{IsSameText};
-ghost use Rattle.inlinable_string.specs.Values.{inlinable_state, string_state};
+ghost use Rattle.inlinable_string.specs.StringValues.{string_state};
+ghost use Rattle.inlinable_string.specs.Values.{inlinable_state};
 
 use inlinable_string::{InlinableString, InlinableStringN, InlineStringN, StringExt};
 use std::alloc::AllocError;
