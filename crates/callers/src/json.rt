@@ -42,11 +42,3 @@ pub fn name(alloc: Global, value: &Value) -> Result<Option<InlinableString>, All
         Err(JsonError::NoMemory) => Err(AllocError),
     }
 }
-
-/// A field for a document.
-pub fn field(text: &InlinableString) -> Result<Value, AllocError>
-    ensures { IfOk result
-        (λ value. view value ≡ string (bytes_of (inlinable_state 30 text.now).text)) }
-{
-    text.to_json()
-}

@@ -1,5 +1,5 @@
 //! Texts from bytes and from UTF-16, and taken apart again.
-ghost use Rattle.std.specs.Prelude.{◌≡◌, ℕ, ◌≤◌, ◌<◌, ◌↔◌, List, [], ◌∷◌, ◌++◌, length, drop, IfOk, IfErr, IfSome, IfNone, IsOk, Err, IsUtf8, true, IsSome};
+ghost use Rattle.std.specs.Prelude.{◌≡◌, ℕ, ◌≤◌, ◌<◌, ◌↔◌, List, ◌∷◌, ◌++◌, length, drop, IfOk, IfErr, IfSome, IfNone, IsOk, Err, IsUtf8, IsSome};
 ghost use Rattle.std.specs.Char.{IsScalar, encode_utf8};
 ghost use Rattle.std.specs.Str.{chars, StartsWithNoChar};
 ghost use Rattle.std.specs.String.{string_bytes};
@@ -16,7 +16,7 @@ use inlinable_string::string_ext::laws::{
     units_of_a_text_are_paired, utf8_is_read_as_it_is, utf16_is_read_as_it_is,
 };
 use inlinable_string::{
-    InlinableString, InlinableStringN, InlineStringN, Storage, StringExt, StringMake, Utf16Error,
+    InlinableString, InlinableStringN, InlineStringN, Storage, StringMake, Utf16Error,
 };
 use std::alloc::{AllocError, Global};
 use std::borrow::CowStr;
@@ -37,20 +37,15 @@ pub fn file_name<S: StringMake + Drop>(
     }
 }
 
-/// "é" by its one unit.
-pub fn accent<S: StringMake + Drop>(alloc: Global) -> Result<S, Utf16Error>
-    ensures text { IfOk result (λ made. (S.state made).text ≡ 0xE9 ∷ []) }
-    ensures paired { ¬ (result ≡ Err Utf16Error.Unpaired) }
-{
-    units_of_a_text_are_paired();
-    S::from_utf16(alloc, &[0xE9])
-}
-
-/// A line of a log, whatever its units are, to be printed; a short one lies on the heap too.
+/// A line of a log, whatever its units are, to be printed; a short one lies on the heap too. Where
+/// no unit is unpaired, they are those of the line.
 pub fn log_line(alloc: Global, units: &[u16]) -> Result<InlinableStringN<16>, AllocError>
     ensures text { IfOk result (λ line. (inlinable_state 16 line).text ≡ lossy_utf16 units.now) }
+    ensures paired { ¬ (HasUnpaired units.now)
+        → IfOk result (λ line. units_of (inlinable_state 16 line).text ≡ units.now) }
     ensures storage { IfOk result (λ line. (inlinable_state 16 line).storage ≡ Storage.Heap) }
 {
+    paired_units_are_a_text();
     InlinableStringN::from_utf16_lossy(alloc, units)
 }
 
@@ -94,30 +89,12 @@ pub fn through_bytes<S: StringMake + Drop>(alloc: Global, text: S) -> Result<S, 
     Ok(unsafe { S::from_utf8_unchecked(alloc, bytes) })
 }
 
-/// The bytes of a text and of a word behind it, or nothing where memory is refused.
-pub fn bytes_with<S: StringMake + Drop>(text: S, word: &str) -> Option<Vec<u8>>
-    ensures { IfSome result (λ bytes. bytes.items ≡ bytes_of (S.state text).text ++ word.now) }
-{
-    bytes_of_parts();
-    let mut text = text;
-    match text.push_str(word) {
-        Ok(()) => text.into_bytes().ok(),
-        Err(AllocError) => None,
-    }
-}
-
 /// Bytes to be printed: they are copied only where they are not UTF-8.
 pub fn shown<'a>(alloc: Global, bytes: &'a [u8]) -> Result<CowStr<'a>, AllocError>
     ensures text { IfOk result (λ read. cow_str_bytes read ≡ bytes_of (lossy_utf8 bytes.now)) }
     ensures borrowed { IfOk result (λ read. IsBorrowedStr read ↔ IsUtf8 bytes.now) }
+    ensures utf8 { IsUtf8 bytes.now → IfOk result (λ read. cow_str_bytes read ≡ bytes.now) }
     ensures granted { IsUtf8 bytes.now → IsOk result }
-{
-    InlinableString::from_utf8_lossy(alloc, bytes)
-}
-
-/// The same of bytes that may be a text: those that are one are shown as they are.
-pub fn shown_as_it_is<'a>(alloc: Global, bytes: &'a [u8]) -> Result<CowStr<'a>, AllocError>
-    ensures { IsUtf8 bytes.now → IfOk result (λ read. cow_str_bytes read ≡ bytes.now) }
 {
     utf8_is_read_as_it_is();
     bytes_of_parts();
@@ -142,15 +119,6 @@ pub fn shown_from<'a>(alloc: Global, bytes: &'a [u8]) -> Result<CowStr<'a>, Allo
 {
     a_character_is_read();
     InlinableString::from_utf8_lossy(alloc, bytes)
-}
-
-/// A line of a log whose units may all be paired: then they are those of the line.
-pub fn log_line_of_text(alloc: Global, units: &[u16]) -> Result<InlinableString, AllocError>
-    ensures { ¬ (HasUnpaired units.now) → IfOk result
-        (λ line. units_of (inlinable_state 30 line).text ≡ units.now) }
-{
-    paired_units_are_a_text();
-    InlinableString::from_utf16_lossy(alloc, units)
 }
 
 /// A key, which takes no memory where it is short.

@@ -4,7 +4,7 @@ ghost use Rattle.inlinable_string.specs.Text.{bytes_of, size};
 ghost use Rattle.inlinable_string.specs.State.{HasRoom};
 ghost use Rattle.inlinable_string.specs.Values.{inlinable_state};
 
-use inlinable_string::{InlinableStringN, InlineStringN, Storage, StringExt};
+use inlinable_string::{InlinableStringN, Storage, StringExt};
 
 /// The capacity is never below the length: only `capacity` is asked.
 pub fn upper_bound<S: StringExt>(text: &S) -> usize
@@ -22,27 +22,12 @@ pub fn lies_inline(text: &dyn StringExt) -> bool
     text.storage() == Storage::Inline
 }
 
-/// The length is within the capacity: only `len` is asked.
-pub fn length_of<S: StringExt>(text: &S) -> usize
-    ensures size { result ≡ size (S.state text.now).text }
-    ensures within { result ≤ (S.state text.now).capacity }
-{
-    text.len()
-}
-
 /// How many bytes more have room.
 pub fn spare<S: StringExt>(text: &S) -> usize
     ensures exact { size (S.state text.now).text + result ≡ (S.state text.now).capacity }
     ensures room { HasRoom (S.state text.now) result }
 {
     text.capacity() - text.len()
-}
-
-/// What is left of an array.
-pub fn left<const N: usize>(text: &InlineStringN<N>) -> usize
-    ensures { size text.now + result ≡ N }
-{
-    N - text.len()
 }
 
 /// The last byte, if there is one: the bytes are as many as the length says.
@@ -53,14 +38,6 @@ pub fn last_byte<S: StringExt>(text: &S) -> Option<u8>
 {
     let (last, _) = text.as_bytes().split_last()?;
     Some(*last)
-}
-
-/// Whether the first text has more bytes.
-pub fn is_longer<S: StringExt, T: StringExt>(first: &S, second: &T) -> bool
-    ensures { IsTrue result
-        ↔ (size (T.state second.now).text < size (S.state first.now).text) }
-{
-    second.len() < first.len()
 }
 
 /// Whether a text is empty, wherever it lies.
