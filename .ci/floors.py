@@ -5,7 +5,7 @@ counts, with the reason.
 """
 
 # Edits in `must-fail-together/`, by crate.
-EDITS = {'inlinable_string': 220, 'inline_model': 34, 'inline_uses': 26, 'script_language': 51}
+EDITS = {'inlinable_string': 220, 'inline_model': 20, 'inline_uses': 22, 'script_language': 34}
 
 # By crate: requests for memory refused one after the other, and how often a test met one.
 REFUSALS = {'inline_refusals': (4, 106), 'inline_script': (7, 55)}
@@ -93,7 +93,7 @@ HOSTILE_FAULTS = ('bad argument', 'read fault', 'input too long', 'input is not 
                   'bad command', 'write fault')
 
 # Edits in `wrong-definitions/`, by crate.
-WRONG_DEFINITIONS = {'inlinable_string': 143, 'script_language': 101}
+WRONG_DEFINITIONS = {'inlinable_string': 143, 'script_language': 90}
 
 # Edits in `wrong-clauses/`, and public functions of `callers` that promise something.
 WRONG_CLAUSES = 5
