@@ -5,7 +5,7 @@ ghost use Rattle.inlinable_string.specs.Values.{inlinable_state};
 
 use inlinable_string::{InlinableStringN, InlineString, Storage, StringExt};
 
-/// Sets a token of at most thirty bytes. No memory is asked for.
+/// Sets a token of at most thirty bytes. It asks for no memory.
 pub fn set_token(buffer: &mut InlineString, token: &str)
     requires { length token.now ≤ 30 }
     ensures { buffer.new ≡ chars token.now }

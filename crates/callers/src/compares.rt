@@ -66,7 +66,7 @@ pub fn copied_inline<const N: usize>(text: &InlineStringN<N>) -> InlineStringN<N
     copy
 }
 
-/// The price of what has this name. The key is made on the stack, so no memory is asked for.
+/// The price of what has this name. The key is made on the stack, so it asks for no memory.
 pub fn price_of(prices: &BTreeMap<InlineStringN<16>, u32>, name: &str) -> Option<u32>
     ensures too_long { 16 < length name.now → result ≡ None }
     ensures value { length name.now ≤ 16 → result

@@ -1,5 +1,4 @@
-//! Cuts and insertions at places that are tested first: `is_char_boundary` is the test, of the text
-//! or of its `as_str()`.
+//! Cuts and insertions at places: `is_char_boundary` tests them, of the text or of its `as_str()`.
 ghost use Rattle.std.specs.Prelude.{◌≡◌, ◌+◌, ◌≤◌, ◌<◌, ◌↔◌, ◌++◌, [], ◌∷◌, IsTrue, IfOk, OnErr, length, IsSome, IfNone, IfSome};
 ghost use Rattle.std.specs.Str.{chars};
 ghost use Rattle.inlinable_string.specs.Text.{size, cut, IsPlace, IsSplice, IsRemoval};
@@ -105,7 +104,7 @@ pub fn has_cut<S: StringExt>(text: &S, place: usize) -> bool
     text.is_char_boundary(place)
 }
 
-/// The last character, and what stands before it.
+/// The last character, and the text before it.
 pub fn split_last<S: StringExt>(text: &S) -> Option<(&str, char)>
     ensures { IfSome result (λ parts.
         (S.state text.now).text ≡ chars parts.0.now ++ parts.1 ∷ []) }

@@ -24,7 +24,7 @@ pub fn strip_extension(name: &mut dyn StringExt)
     }
 }
 
-/// Keeps at most so many bytes, and no part of a character.
+/// Keeps at most `most` bytes, and no part of a character.
 pub fn shorten<S: StringExt>(text: &mut S, most: usize)
     ensures short { size (S.state text.new).text ≤ most }
     ensures front { (rest : List ℕ) × ((S.state text.old).text ≡ (S.state text.new).text ++ rest) }

@@ -82,7 +82,7 @@ pub fn letters_of<'a, const N: usize>(word: &'a InlineStringN<N>) -> Chars<'a>
     word.into_iter()
 }
 
-/// A name with an ending, or the name back as it was.
+/// A name with an ending, or the name back, unchanged.
 pub fn with_ending<const N: usize>(
     name: InlinableStringN<N>,
     ending: &str,

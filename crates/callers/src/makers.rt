@@ -21,7 +21,7 @@ use inlinable_string::{
 use std::alloc::{AllocError, Global};
 use std::borrow::CowStr;
 
-/// A file name as Windows gives it, or none where it is no text; want of memory apart.
+/// A file name as Windows gives it, or none where it is no text; refused memory is an error.
 pub fn file_name<S: StringMake + Drop>(
     alloc: Global,
     units: &[u16],
@@ -37,8 +37,8 @@ pub fn file_name<S: StringMake + Drop>(
     }
 }
 
-/// A line of a log, whatever its units are, to be printed; a short one lies on the heap too. Where
-/// no unit is unpaired, they are those of the line.
+/// A line of a log, whatever its units are, to be printed. A short one is on the heap too. Where no
+/// unit is unpaired, they are those of the line.
 pub fn log_line(alloc: Global, units: &[u16]) -> Result<InlinableStringN<16>, AllocError>
     ensures text { IfOk result (λ line. (inlinable_state 16 line).text ≡ lossy_utf16 units.now) }
     ensures paired { ¬ (HasUnpaired units.now)
@@ -77,7 +77,7 @@ pub fn body(alloc: Global, bytes: Vec<u8>) -> Result<InlinableStringN<16>, Vec<u
     }
 }
 
-/// A text goes through its bytes and comes back, or stays as it was where memory is refused.
+/// A text goes through its bytes and comes back, or stays unchanged where memory is refused.
 pub fn through_bytes<S: StringMake + Drop>(alloc: Global, text: S) -> Result<S, S>
     ensures ok { IfOk result (λ made. (S.state made).text ≡ (S.state text).text) }
     ensures heap { IfOk result (λ made. (S.state made).storage ≡ Storage.Heap) }
@@ -112,7 +112,7 @@ pub fn shown_behind<'a>(alloc: Global, bytes: &'a [u8]) -> Result<CowStr<'a>, Al
     InlinableString::from_utf8_lossy(alloc, bytes)
 }
 
-/// Bytes that may begin with a character: it is read, and then what stands behind it.
+/// Bytes that may begin with a character: it is read, and then the bytes behind it.
 pub fn shown_from<'a>(alloc: Global, bytes: &'a [u8]) -> Result<CowStr<'a>, AllocError>
     ensures { (c : ℕ) (rest : List ℕ) → IsScalar c → bytes.now ≡ encode_utf8 c ++ rest
         → IfOk result (λ read. cow_str_bytes read ≡ bytes_of (c ∷ lossy_utf8 rest)) }
@@ -149,7 +149,7 @@ pub fn word<const N: usize>(word: &str) -> Option<InlineStringN<N>>
     }
 }
 
-/// A text that has become short goes into an array; a longer one comes back as it was.
+/// A text that has become short goes into an array; a longer one comes back unchanged.
 pub fn settled<const N: usize>(
     text: InlinableStringN<N>,
 ) -> Result<InlineStringN<N>, InlinableStringN<N>>

@@ -15,7 +15,7 @@ pub fn empty<S: StringMake + Drop>(alloc: Global) -> S
     S::new(alloc)
 }
 
-/// A text with room for so many bytes.
+/// A text with room for `room` bytes.
 pub fn with_room<S: StringMake + Drop>(alloc: Global, room: usize) -> Result<S, AllocError>
     ensures room { IfOk result (λ made. HasRoom (S.state made) room) }
     ensures policy { IfOk result (λ made. (S.state made).policy ≡ S.policy) }

@@ -1,5 +1,4 @@
-//! Bytes in the place of a text's, as many as it has: each of the three answers, and what it
-//! leaves.
+//! Bytes in the place of a text's, of the same length: the three answers, and what each leaves.
 ghost use Rattle.std.specs.Prelude.{◌≡◌, ◌≢◌, length, map, codes, OnOk, OnErr, IsUtf8};
 ghost use Rattle.std.specs.Char.{to_ascii_uppercase};
 ghost use Rattle.inlinable_string.specs.Text.{bytes_of, size};

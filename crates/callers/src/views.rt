@@ -1,4 +1,4 @@
-//! Views: what a caller knows once it has asked for a length, for a capacity or for the storage.
+//! Views: what a length, a capacity or the storage tells a caller.
 ghost use Rattle.std.specs.Prelude.{◌≡◌, ℕ, ◌+◌, ◌≤◌, ◌<◌, ◌↔◌, List, ◌++◌, [], ◌∷◌, IsTrue, IfNone, IfSome};
 ghost use Rattle.inlinable_string.specs.Text.{bytes_of, size};
 ghost use Rattle.inlinable_string.specs.State.{HasRoom};
@@ -6,14 +6,14 @@ ghost use Rattle.inlinable_string.specs.Values.{inlinable_state};
 
 use inlinable_string::{InlinableStringN, Storage, StringExt};
 
-/// The capacity is never below the length: only `capacity` is asked.
+/// The capacity is never below the length: `capacity` alone tells it.
 pub fn upper_bound<S: StringExt>(text: &S) -> usize
     ensures { size (S.state text.now).text ≤ result }
 {
     text.capacity()
 }
 
-/// An inline text has its limit's room: only `storage` is asked.
+/// An inline text has its limit's room: `storage` alone tells it.
 pub fn lies_inline(text: &dyn StringExt) -> bool
     ensures when { IsTrue result ↔ ((state text.now).storage ≡ Storage.Inline) }
     ensures room { IsTrue result → (state text.now).capacity ≡ (state text.now).policy.limit }
@@ -30,7 +30,7 @@ pub fn spare<S: StringExt>(text: &S) -> usize
     text.capacity() - text.len()
 }
 
-/// The last byte, if there is one: the bytes are as many as the length says.
+/// The last byte, if there is one.
 pub fn last_byte<S: StringExt>(text: &S) -> Option<u8>
     ensures none { IfNone result (size (S.state text.now).text ≡ 0) }
     ensures last { IfSome result

@@ -1,4 +1,4 @@
-//! All or nothing: a growth of several parts that is refused leaves the text as it was.
+//! All or nothing: a growth of several parts that is refused leaves the text unchanged.
 ghost use Rattle.std.specs.Prelude.{◌≡◌, ◌+◌, ◌≤◌, ◌↔◌, ◌++◌, ◌∷◌, length, IsOk, OnOk, OnErr};
 ghost use Rattle.std.specs.Str.{chars};
 ghost use Rattle.inlinable_string.specs.Text.{size};
