@@ -103,7 +103,7 @@ CALLERS = 104
 DEPARTURES = 10
 
 # Lemmas and answers to goals, in the proofs of the crates and among the words of their definitions.
-PROOFS = 1_400
+PROOFS = 1_390
 
 # Functions that `docs/PROMISES.md` names, each time that it does.
 PROMISES = 158
