@@ -82,7 +82,7 @@ pub fn replace_by_run<S: StringExt>(text: &mut S, bytes: &[u8]) -> Reply
     replies[0]
 }
 
-/// Adds a character by a run: the text has as many bytes more as the character.
+/// Adds a character by a run: the text grows by the bytes of the character.
 pub fn grow_by_run<S: StringExt>(text: &mut S, ch: char) -> Reply
     ensures { result ≡ Reply.Done
         → size (S.state text.new).text ≡ size (S.state text.old).text + size (ch ∷ []) }
@@ -140,7 +140,7 @@ pub fn run_of_short_steps(text: &mut InlinableString, commands: &[Command], repl
     short_run(text, commands, replies);
 }
 
-/// Any run: where no reply is want of memory, the text is that of edits.
+/// Any run: where no reply is `NoMemory`, the text is that of edits.
 pub fn whole_run<S: StringExt>(text: &mut S, commands: &[Command], replies: &mut [Reply])
     requires { length replies.old ≡ length commands.now }
     ensures edits { ¬ (Contains replies.new Reply.NoMemory) → (S.state text.new).text

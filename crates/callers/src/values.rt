@@ -3,9 +3,9 @@
 ghost use Rattle.std.specs.Prelude.{◌≡◌, ◌≤◌, ◌↔◌, [], ◌∷◌, length, codes, IfOk, IfSome, IsSome};
 ghost use Rattle.std.specs.Str.{chars};
 ghost use Rattle.std.specs.String.{string_bytes};
-ghost use Rattle.inlinable_string.specs.Text.{bytes_of, size};
-ghost use Rattle.inlinable_string.specs.Values.{inlinable_state};
+ghost use Rattle.inlinable_string.specs.Text.{size};
 ghost use Rattle.inlinable_string.specs.BoxableValues.{boxable_state};
+ghost use Rattle.inlinable_string.specs.Values.{inlinable_state};
 
 use inlinable_string::inline_string::NotEnoughSpaceError;
 use inlinable_string::{BoxableString, InlinableString, InlineStringN};
@@ -39,16 +39,6 @@ pub fn boxable(text: InlinableString) -> BoxableString
     ensures { boxable_state result ≡ inlinable_state 30 text }
 {
     BoxableString::from(text)
-}
-
-/// What a text in an array prints.
-pub fn shown_inline<const N: usize>(
-    alloc: Global,
-    text: &InlineStringN<N>,
-) -> Result<String, AllocError>
-    ensures { IfOk result (λ made. string_bytes made ≡ bytes_of text.now) }
-{
-    format!(in alloc; "{text}")
 }
 
 /// What a refused growth prints.

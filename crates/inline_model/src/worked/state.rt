@@ -15,12 +15,6 @@ pub fn room_for_30_bytes_is_made_inline()
     ensures heap { storage_when_made (inlinable_policy 30) 31 ≡ Storage.Heap }
 {}
 
-/// Where none may lie inline, room for none is made there, and room for one on the heap.
-pub fn room_for_one_byte_is_made_on_the_heap()
-    ensures inline { storage_when_made (inlinable_policy 0) 0 ≡ Storage.Inline }
-    ensures heap { storage_when_made (inlinable_policy 0) 1 ≡ Storage.Heap }
-{}
-
 /// Under a policy that has no text inline, room for any number of bytes is made on the heap.
 pub fn heap_texts_are_made_on_the_heap()
     ensures policy { (n : ℕ) → storage_when_made heap_policy n ≡ Storage.Heap }
