@@ -118,7 +118,7 @@ QUOTED = {'blocks': 23, 'clauses': 231, 'words': 50, 'laws': 71, 'cited': 66}
 # that they need the proved build.
 # The longest come first.
 TRIED = {'inline_runs': (22, 6), 'inline_vectors': (91, 36), 'inline_refusals': (41, 0), 'inline_script': (23, 3),
-         'inline_uses': (13, 4), 'inlinable_string': (14, 0), 'side_by_side': (4, 0)}
+         'inline_uses': (13, 4), 'inlinable_string': (6, 0), 'side_by_side': (4, 0)}
 
 # Workloads of the bench, and on how many of them each type of text is run.
 BENCH_WORKLOADS = 74
