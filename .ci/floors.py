@@ -8,7 +8,7 @@ counts, with the reason.
 EDITS = {'inlinable_string': 220, 'inline_model': 34, 'inline_uses': 26, 'script_language': 51}
 
 # By crate: requests for memory refused one after the other, and how often a test met one.
-REFUSALS = {'inline_refusals': (4, 106), 'inline_script': (7, 55)}
+REFUSALS = {'inline_refusals': (7, 140)}
 
 # The stored cases of the files in `replay/`, and the scripts whose answers are kept as digests: all of them.
 STORED = {'named.cases': 258, 'drawn.cases': 63, 'digests': 100_000}
@@ -117,7 +117,7 @@ QUOTED = {'blocks': 23, 'clauses': 231, 'words': 50, 'laws': 71, 'cited': 66}
 # By crate, for `gate quick`: tests that must pass without being proved, and how many at most may say
 # that they need the proved build.
 # The longest come first.
-TRIED = {'inline_runs': (22, 6), 'inline_vectors': (91, 36), 'inline_refusals': (41, 0), 'inline_script': (23, 3),
+TRIED = {'inline_runs': (22, 6), 'inline_vectors': (91, 36), 'inline_refusals': (31, 0), 'inline_script': (10, 2),
          'inline_uses': (13, 4), 'inlinable_string': (6, 0), 'side_by_side': (4, 0)}
 
 # Workloads of the bench, and on how many of them each type of text is run.
