@@ -9,7 +9,7 @@ MUST_FAIL = {'inlinable_string': 29}
 EDITS = {'inlinable_string': 155, 'inline_model': 20, 'inline_uses': 22, 'script_language': 34}
 
 # By crate: requests for memory refused one after the other, and how often a test met one.
-REFUSALS = {'inline_refusals': (4, 106), 'inline_script': (7, 55)}
+REFUSALS = {'inline_refusals': (7, 140)}
 
 # The stored cases of the files in `replay/`, and the scripts whose answers are kept as digests: all of them.
 STORED = {'named.cases': 258, 'drawn.cases': 63, 'digests': 100_000}
@@ -112,8 +112,8 @@ QUICK_PROVED = 37
 # By crate, for `gate quick`: tests that must pass without being proved, and how many at most may say
 # that they need the proved build.
 # The longest come first.
-TRIED = {'inline_runs': (22, 6), 'inline_vectors': (91, 36), 'inline_refusals': (41, 0), 'inline_script': (23, 3),
-         'inline_uses': (13, 4), 'inlinable_string': (14, 0), 'side_by_side': (4, 0)}
+TRIED = {'inline_runs': (22, 6), 'inline_vectors': (91, 36), 'inline_refusals': (31, 0), 'inline_script': (10, 2),
+         'inline_uses': (13, 4), 'inlinable_string': (6, 0), 'side_by_side': (4, 0)}
 
 # Workloads of the bench, and on how many of them each type of text is run.
 BENCH_WORKLOADS = 74
