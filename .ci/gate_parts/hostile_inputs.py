@@ -4,8 +4,9 @@ Each maker of an input takes `draw`, the case's random numbers, and `word`, its 
 """
 from gate_parts.cases import STREAMS, Case
 from gate_parts.draw import Draw
-from gate_parts.good_scripts import (CHARS, LINES, a_char, a_string, good_lines, good_script, in_digits,
-                          line_of, nearly_utf8, written)
+from gate_parts.characters import CHARS, a_char, a_string
+from gate_parts.encodings import nearly_utf8
+from gate_parts.good_scripts import LINES, good_lines, good_script, in_digits, line_of, written
 from gate_parts.language import GREATEST, MOST_BYTES, STARTS, Text, Undecided, answer, width
 
 WRONG_WORDS = [
@@ -182,12 +183,10 @@ WRONG, STREAMED = 3, 8
 
 
 def drawn(draw, name):
-    case, word = Case(name), draw.choice(list(STARTS))
+    word = draw.choice(list(STARTS))
     words = draw.choice(WRONG_WORDS) if draw.chance(WRONG) else [word]
-    case.words = [each if isinstance(each, bytes) else each.encode() for each in words]
-    case.io = draw.choice(STREAMS) if draw.chance(STREAMED) else ''
-    case.input = draw.weighted(INPUTS)(draw, word)
-    return case
+    io = draw.choice(STREAMS) if draw.chance(STREAMED) else ''
+    return Case(name, words, draw.weighted(INPUTS)(draw, word), io)
 
 
 def hostile_case(seed, number):

@@ -10,16 +10,12 @@ SEED = '20251122'
 KNOWN = {
     'crates': {'nargs': '*', 'metavar': 'CRATE'},
     'programs': {'nargs': '*', 'metavar': 'PROGRAM'},
-    'judge': {'metavar': 'JUDGE'},
-    'family': {'choices': ('readings', 'pairs', 'calls')},
-    'what': {'choices': ('digests', 'values')},
     '--named': {'default': '', 'metavar': 'WORD'},
     '--jobs': {'type': int, 'default': PROCESSORS, 'metavar': 'N'},
     '--seed': {'default': SEED},
-    '--first': {'type': int, 'default': 0, 'metavar': 'N'},
-    '--thousands': {'type': int, 'default': 1, 'metavar': 'N'},
+    '--lines': {'type': int, 'default': 0, 'metavar': 'N'},
     '--count': {'type': int, 'default': HOSTILE_INPUTS},
-    '--all': {'action': 'store_true'},
+    '--store': {'action': 'store_true'},
     '--draw': {'action': 'store_true'},
 }
 
