@@ -43,42 +43,26 @@ def short(draw, word):
     return '\n'.join(good_lines(draw, word, draw.randint(1, 8))).encode() + draw.choice((b'', b'\n'))
 
 
+def spoilt(draw, word):
+    """With bytes left out, doubled, put in or cut off at a place, or with lines exchanged."""
+    data = short(draw, word)
+    at, size = draw.randint(0, len(data)), draw.choice((1, 1, 1, 2, 40))
+    if draw.chance(10):
+        lines = data.split(b'\n')
+        one, other = draw.randrange(len(lines)), draw.randrange(len(lines))
+        lines[one], lines[other] = lines[other], lines[one]
+        return b'\n'.join(lines)
+    more = (b' ', b'0', b'\n', b'\r', b'\0', b'\xef\xbb\xbf', draw.randbytes(1), nearly_utf8(draw, 1))
+    return draw.choice((data[:at] + data[at + size:], data[:at] + data[at:at + size] + data[at:],
+                        data[:at] + draw.choice(more) + data[at:], data[:at]))
+
+
 def flipped(draw, word):
+    """With some bits of its bytes changed."""
     data = bytearray(short(draw, word))
     for _ in range(draw.choice((1, 1, 2, 5))):
         data[draw.randrange(len(data))] ^= 1 << draw.randrange(8)
     return bytes(data)
-
-
-def without_bytes(draw, word):
-    data = short(draw, word)
-    at = draw.randrange(len(data))
-    return data[:at] + data[at + draw.choice((1, 1, 1, 2, 4)):]
-
-
-def with_bytes_twice(draw, word):
-    data = short(draw, word)
-    at = draw.randrange(len(data))
-    return data[:at] + data[at:at + draw.choice((1, 1, 1, 2, 40))] + data[at:]
-
-
-def with_more_bytes(draw, word):
-    data = short(draw, word)
-    at = draw.randint(0, len(data))
-    more = (b' ', b'0', b'\n', b'\r', b'\0', b'\xef\xbb\xbf', draw.randbytes(1), nearly_utf8(draw, 1))
-    return data[:at] + draw.choice(more) + data[at:]
-
-
-def exchanged(draw, word):
-    lines = short(draw, word).split(b'\n')
-    a, b = draw.randrange(len(lines)), draw.randrange(len(lines))
-    lines[a], lines[b] = lines[b], lines[a]
-    return b'\n'.join(lines)
-
-
-def cut_off(draw, word):
-    data = short(draw, word)
-    return data[:draw.randint(0, len(data))]
 
 
 # Lines that are bad, or look as if they were, in a script that is good.
@@ -175,8 +159,7 @@ def at_limit(draw, word):
 
 # How often each comes beside the others.
 INPUTS = {
-    random_bytes: 3, random_few_bytes: 2, random_text: 3, almost_text: 5, good_script: 22, flipped: 8,
-    without_bytes: 5, with_bytes_twice: 4, with_more_bytes: 6, exchanged: 3, cut_off: 4,
+    random_bytes: 3, random_few_bytes: 2, random_text: 3, almost_text: 5, good_script: 22, flipped: 8, spoilt: 22,
     odd_number: 12, odd_digits: 7, odd_line: 10, odd_character: 3, at_limit: 5}
 # Of a hundred cases.
 WRONG, STREAMED = 3, 8
