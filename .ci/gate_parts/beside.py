@@ -9,6 +9,7 @@ input must be refused.
     .ci/gate beside JUDGE --store >replay/digests   makes the digests
     .ci/gate beside --lines 7                       prints the lines of the digest that stands there seventh
 """
+import re
 from collections import Counter
 from functools import partial
 from hashlib import sha256
@@ -18,6 +19,8 @@ from floors import BESIDE, BESIDE_NAMES, BESIDE_OF_EACH
 from gate_parts.call_inputs import MAKERS, calls_line, script_line
 from gate_parts.cases import Case
 from gate_parts.draw import check_draws
+from gate_parts.good_scripts import LINES
+from gate_parts.language import ARGUMENTS
 from gate_parts.options import SEED, options
 from gate_parts.programs import chosen, on_all_processors, run
 from gate_parts.tree import Failure, in_tree, text_of
@@ -25,6 +28,7 @@ from gate_parts.tree import Failure, in_tree, text_of
 STEP = 1000
 DRAWN = {'calls': calls_line, 'script': script_line}
 DIGESTS = in_tree('replay', 'digests')
+WORDS = in_tree('crates', 'script_language', 'src', 'line.rt')
 # Lines that are no input, behind one that is.
 NO_INPUT = (
     '', 'calls', 'calls ', 'calls InlineString', 'calls InlineString ', 'calls Text pop', 'Calls String pop',
@@ -141,9 +145,17 @@ def shortfalls(tally, names=BESIDE_NAMES, of_each=BESIDE_OF_EACH):
             yield f'{tally[name]} are `{name}`, and at least {of_each} must be'
 
 
+def check_words(source):
+    """Fails where the program, the model and what draws scripts do not have the same words of commands."""
+    words = set(re.findall(r'^ +"(\w+)" =>', source, re.MULTILINE))
+    if not words == set(ARGUMENTS) == set(LINES):
+        raise Failure(f'not all of {WORDS}, language.py and good_scripts.py have the words {" ".join(sorted(words))}')
+
+
 def is_beside(builds, digests):
     """Whether each build, a name and a path, answers all as it must, and whether there is enough of each sort."""
     check_draws()
+    check_words(text_of(WORDS))
     failed, tally = failed_digests(builds, digests)
     for name, path in builds.items():
         wrong = taken(path)

@@ -99,6 +99,9 @@ def on_digests(folder):
         yield what, failed(right) == 1
     program(folder, LINES.replace('status = 2', 'status = 0'))
     yield 'lines that are no input, with the status 0', len(beside.taken(builds['stand-in'])) == len(beside.NO_INPUT)
+    words = text_of(beside.WORDS)
+    yield 'the words of the commands', not fails(beside.check_words, words)
+    yield 'a word more', fails(beside.check_words, words.replace('"pop" =>', '"pop" => None,\n        "peek" =>'))
     yield 'enough of each sort', not list(beside.shortfalls(tally, ('String pop none',), 10))
     for what, names, of_each in (('too few', ('String pop none',), 10 ** 6), ('none of a sort', ('String flies',), 1),
                                  ('a floor of nothing', ('String pop none',), 0), ('no floor', (), 1)):
