@@ -18,11 +18,10 @@ from typing import NamedTuple
 from floors import BESIDE, BESIDE_NAMES, BESIDE_OF_EACH
 from gate_parts.call_inputs import MAKERS, calls_line, script_line
 from gate_parts.cases import Case
-from gate_parts.draw import check_draws
 from gate_parts.good_scripts import LINES
 from gate_parts.language import ARGUMENTS
 from gate_parts.options import SEED, options
-from gate_parts.programs import chosen, on_all_processors, run
+from gate_parts.programs import chosen, all_runs, run
 from gate_parts.tree import Failure, in_tree, text_of
 
 STEP = 1000
@@ -54,7 +53,8 @@ def starts(held):
 def stored(path=DIGESTS, held=None):
     """The digests of a file, which must be of all that is held."""
     try:
-        digests = [Digest(kind, int(first), *both) for kind, first, *both in map(str.split, text_of(path).splitlines())]
+        rows = map(str.split, text_of(path).splitlines())
+        digests = [Digest(kind, int(first), *both) for kind, first, *both in rows]
     except (TypeError, ValueError) as error:
         raise Failure(f'{path}: not a line of digests ({error})')
     wanted = starts(held or BESIDE)
@@ -114,7 +114,7 @@ def failed_digests(builds, digests):
     """How many digests each build fails, and what there is of each sort. Each that fails is printed."""
     failed, tally = dict.fromkeys(builds, 0), Counter()
     work = partial(answered, list(builds.values()))
-    for digest, (lines, answers, names) in zip(digests, on_all_processors(work, [each[:2] for each in digests])):
+    for digest, (lines, answers, names) in zip(digests, all_runs(work, [each[:2] for each in digests])):
         if lines != digest.lines:
             raise Failure(f'{digest.kind} from {digest.first}: not the lines that the judge answered, since what '
                           'draws them was changed: make the digests again')
@@ -154,7 +154,6 @@ def check_words(source):
 
 def is_beside(builds, digests):
     """Whether each build, a name and a path, answers all as it must, and whether there is enough of each sort."""
-    check_draws()
     check_words(text_of(WORDS))
     failed, tally = failed_digests(builds, digests)
     for name, path in builds.items():
@@ -177,6 +176,6 @@ def main(words):
     if not given.store:
         return is_beside(builds, stored())
     work = partial(answered, list(builds.values()))
-    for start, (lines, answers, _) in zip(starts(BESIDE), on_all_processors(work, starts(BESIDE))):
+    for start, (lines, answers, _) in zip(starts(BESIDE), all_runs(work, starts(BESIDE))):
         print(*start, lines, *answers)
     return True

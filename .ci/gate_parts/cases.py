@@ -15,7 +15,7 @@ MOST_TOLD = 1000
 class Case:
     """The words are strings or bytes; `io` is one of the streams, or empty."""
     name: str
-    words: list
+    words: list = ()
     input: bytes = b''
     io: str = ''
     output: bytes = b''

@@ -18,10 +18,9 @@ from functools import partial
 from floors import (HOSTILE_ACCEPTED_PART, HOSTILE_FAULTS, HOSTILE_INPUTS, HOSTILE_OF_EACH, HOSTILE_REPLIES,
                     NAMED_CASES)
 from gate_parts.cases import difference, named_cases
-from gate_parts.draw import check_draws
 from gate_parts.hostile_inputs import hostile_case
 from gate_parts.options import options
-from gate_parts.programs import chosen, on_all_processors, run
+from gate_parts.programs import chosen, all_runs, run
 from gate_parts.tree import Failure
 
 # So many differences are printed, the first; the others are counted alone.
@@ -55,12 +54,11 @@ def shortfalls(ends, replies, of_each=HOSTILE_OF_EACH, part=HOSTILE_ACCEPTED_PAR
 
 def are_right(builds, cases, seed, count):
     """Whether each build, a name and a path, does as it must on the cases and on so many inputs of a seed."""
-    check_draws()
     if not cases or count < 1:
         raise Failure('nothing is compared')
     programs, ends, replies = list(builds.values()), Counter(), Counter()
-    wrong = list(on_all_processors(partial(differences, programs), cases, 8))
-    for found, end, kinds in on_all_processors(partial(tried, programs, seed), range(count), 8):
+    wrong = list(all_runs(partial(differences, programs), cases, 8))
+    for found, end, kinds in all_runs(partial(tried, programs, seed), range(count), 8):
         wrong.append(found)
         ends[end] += 1
         replies += kinds

@@ -87,7 +87,7 @@ def feed_in_parts(pipe, data):
     os.close(pipe)
 
 
-def on_all_processors(work, items, at_once=1):
+def all_runs(work, items, at_once=1):
     """What `work` answers of each item, in order."""
     with Pool(PROCESSORS) as pool:
         yield from pool.imap(work, items, at_once)

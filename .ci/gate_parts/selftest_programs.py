@@ -94,7 +94,7 @@ def on_digests(folder):
     for what, fault in (('a wrong answer to one line', 'answer += "0" * (line is lines[-1])'),
                         ('no last line', 'if line is lines[-1]: break'),
                         ('a wrong status', 'status = 3'),
-                        ('another end than its own', 'if line is lines[-1]: sys.stdout.flush(); import os; os.abort()')):
+                        ('a crash', 'if line is lines[-1]: sys.stdout.flush(); import os; os.abort()')):
         program(folder, LINES, fault)
         yield what, failed(right) == 1
     program(folder, LINES.replace('status = 2', 'status = 0'))
@@ -124,7 +124,8 @@ def on_scripts(folder):
                         ('no output', "case.output = b''"),
                         ('a wrong status of what is refused', 'case.status = case.status and 3 - case.status'),
                         ('a wrong status of what is accepted', 'case.status = case.status or 3'),
-                        ('a failed write that is not told', 'os.path.isfile("/dev/fd/1") or os.dup2(os.open("/dev/null", 1), 1)')):
+                        ('a failed write that is not told',
+                         'os.path.isfile("/dev/fd/1") or os.dup2(os.open("/dev/null", 1), 1)')):
         program(folder, SCRIPT, fault)
         yield what, not right()
     program(folder, SCRIPT, 'case.status = 0 if case.status == 1 else case.status')
