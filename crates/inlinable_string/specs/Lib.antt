@@ -11,4 +11,4 @@ pub mod Edit
 pub mod Run
 pub mod Step
 pub mod Laws
-pub mod States
+pub mod WellFormed

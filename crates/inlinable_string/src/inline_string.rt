@@ -8,6 +8,7 @@ ghost use Rattle.std.specs.Str.{all_scalars, chars, IsCharBoundary};
 ghost use Rattle.inlinable_string.specs.Text.{bytes_of, size, IsCut, IsPlace, IsSplice, IsRemoval};
 
 use crate::cells::{insert_byte, insert_in, remove_in, write_at, write_front};
+use crate::well_formed::text_in;
 use std::alloc::AllocError;
 use std::error::Error;
 use std::marker::Model;
@@ -333,7 +334,7 @@ impl<const N: usize> InlineStringN<N> {
         if bytes.len() != self.len {
             return Err(ReplaceError::WrongLength);
         }
-        let Ok(string) = str::from_utf8(bytes) else {
+        let Some(string) = text_in(bytes) else {
             return Err(ReplaceError::NotUtf8);
         };
         write_at(&mut self.bytes[..], self.start, string.as_bytes());

@@ -9,7 +9,6 @@ use crate::inline_string::ReplaceError;
 use std::alloc::{AllocError, Global};
 
 mod make;
-mod states;
 mod std_string;
 mod utf16;
 mod utf8;

@@ -11,11 +11,12 @@ ghost use Rattle.inlinable_string.specs.State.{Policy, storage_when_made};
 ghost use Rattle.inlinable_string.specs.declared.string_ext.make.Utf16Error.TheVariants.{NoMemory};
 
 use super::{Storage, StringExt, utf8, utf16};
+use crate::well_formed::text_in;
 use std::alloc::{AllocError, Global};
 use std::borrow::CowStr;
 use std::error::Error;
+use std::fmt;
 use std::string::FromUtf8Error;
-use std::{fmt, str};
 
 /// Why units of UTF-16 did not become a text.
 #[derive(Clone, Copy, Debug, PartialEq, Eq)]
@@ -101,7 +102,7 @@ pub trait StringMake: StringExt {
         ensures borrowed { IfOk result (λ read. IsBorrowedStr read ↔ IsUtf8 v.now) }
         ensures granted { IsUtf8 v.now → IsOk result }
     {
-        if let Ok(text) = str::from_utf8(v) {
+        if let Some(text) = text_in(v) {
             return Ok(CowStr::Borrowed(text));
         }
         Ok(CowStr::Owned(utf8::lossy(alloc, v)?))

@@ -6,8 +6,8 @@ ghost use Rattle.inlinable_string.specs.StringValues.{heap_policy, string_state}
 
 use super::{Storage, StringExt, StringMake};
 use crate::inline_string::ReplaceError;
+use crate::well_formed::{string_from, text_in};
 use std::alloc::{AllocError, Global};
-use std::str;
 use std::string::FromUtf8Error;
 
 impl StringExt for String {
@@ -67,7 +67,7 @@ impl StringExt for String {
         if bytes.len() != self.len() {
             return Err(ReplaceError::WrongLength);
         }
-        let Ok(string) = str::from_utf8(bytes) else {
+        let Some(string) = text_in(bytes) else {
             return Err(ReplaceError::NotUtf8);
         };
         self.clear();
@@ -108,7 +108,7 @@ impl StringMake for String {
     }
 
     fn from_utf8(_alloc: Global, vec: Vec<u8>) -> Result<Self, FromUtf8Error> {
-        String::from_utf8(vec)
+        string_from(vec)
     }
 
     unsafe fn from_utf8_unchecked(_alloc: Global, bytes: Vec<u8>) -> Self {

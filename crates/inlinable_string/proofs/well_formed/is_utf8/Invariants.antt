@@ -1,7 +1,7 @@
 use Rattle.std.proofs.Common.{length}
-use Rattle.inlinable_string.specs.States.{state_of}
-use Rattle.inlinable_string.proofs.States.{IsReadTo}
-use Rattle.inlinable_string.proofs.string_ext.states.is_utf8.Given as goal
+use Rattle.inlinable_string.specs.WellFormed.{state_of}
+use Rattle.inlinable_string.proofs.WellFormed.{IsReadTo}
+use Rattle.inlinable_string.proofs.well_formed.is_utf8.Given as goal
 
 abbrev pub invariant-loop-rest : goal.invariant-loop-rest
 invariant-loop-rest l = IsReadTo l.bytes l.rest (state_of l.bits)

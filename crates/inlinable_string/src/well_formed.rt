@@ -1,7 +1,11 @@
 //! A test for UTF-8 that looks at each byte once, without a branch on it.
-ghost use Rattle.std.specs.Prelude.{◌≡◌, ◌↔◌, IsTrue, IsUtf8, slice_index};
+ghost use Rattle.std.specs.Prelude.{◌≡◌, ◌↔◌, IsTrue, IsUtf8, IfOk, IfErr, IsOk, MatchOption, slice_index};
 ghost use Rattle.std.specs.Str.{IsAscii};
-ghost use Rattle.inlinable_string.specs.States.{is_state, state_of, Leads};
+ghost use Rattle.std.specs.String.{string_vec, from_utf8_error_vec};
+ghost use Rattle.inlinable_string.specs.WellFormed.{is_state, state_of, Leads};
+
+use std::str;
+use std::string::FromUtf8Error;
 
 // A row has six bits for each state, the first state lowest: where the six bits of the next state
 // begin. The states, in octal: 00 between characters; 06, 14, 22 before one, two, three bytes of
@@ -72,6 +76,31 @@ pub(crate) fn is_utf8(bytes: &[u8]) -> bool
         rest = behind;
     }
     read(bits, rest) & 63 == 0
+}
+
+/// The bytes as text; `None` where they are not UTF-8.
+pub(crate) fn text_in(bytes: &[u8]) -> Option<&str>
+    ensures { MatchOption result
+        (¬ (IsUtf8 bytes.now)) (λ text. (text.now ≡ bytes.now) × IsUtf8 bytes.now) }
+{
+    if is_utf8(bytes) {
+        Some(unsafe { str::from_utf8_unchecked(bytes) })
+    } else {
+        None
+    }
+}
+
+/// The text of these bytes, which is made of the vector itself.
+pub(crate) fn string_from(bytes: Vec<u8>) -> Result<String, FromUtf8Error>
+    ensures ok { IfOk result (λ made. string_vec made ≡ bytes) }
+    ensures err { IfErr result (λ error. from_utf8_error_vec error ≡ bytes) }
+    ensures succeeds { IsUtf8 bytes.items → IsOk result }
+{
+    if is_utf8(bytes.as_slice()) {
+        Ok(unsafe { String::from_utf8_unchecked(bytes) })
+    } else {
+        String::from_utf8(bytes)
+    }
 }
 
 /// The state behind the bytes, from the one before them, each in the six low bits.

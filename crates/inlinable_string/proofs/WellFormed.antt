@@ -2,10 +2,10 @@
 use Rattle.inlinable_string.proofs.Common.{common_steps, ◌≡◌, ◌↔◌, inl, inr, ℕ, zero, suc, ◌+◌, ◌-◌, ◌*◌, ◌/◌, ◌%◌, ◌<◌, ◌≤◌, Bool, true, false, List, [], ◌∷◌, ◌++◌, length, take, drop, refl, ap, sym, ◌∙◌, arith, subst, ⊎_elim, IsAscii, IsUtf8, IsUtf8-append, IsUtf8-encode, encode_utf8, encode_utf8_all, append-nil, take_all, take_more, length-encode, len_utf8_bounds, nil_from_length, eqb-true, take-append-drop, drop_at, append_assoc, ◌==◌, if◌then◌else◌, nat_lt, nat_eq, cases_lt, cases_Bool, cond-true, cond-false, and_parts, nat_tests, ltb-true, lt-ltb, le-ltb, slice_index, following, count_in, char_len}
 use Rattle.std.specs.Int.{is_in_range}
 use Rattle.std.specs.Prelude.{◌&&◌, ◌^◌}
-use Rattle.inlinable_string.specs.States.{Follows, nothing, ranges_of, is_state, state_of, Leads}
+use Rattle.inlinable_string.specs.WellFormed.{Follows, nothing, ranges_of, is_state, state_of, Leads}
 use Rattle.std.proofs.lemmas.Str.{IsUtf8-nil}
 use Rattle.std.proofs.str.Laws.{one}
-use Rattle.inlinable_string.specs.declared.string_ext.states.TheConstants.{ROWS}
+use Rattle.inlinable_string.specs.declared.well_formed.TheConstants.{ROWS}
 use Rattle.inlinable_string.proofs.Subparts.{Begins, len_of_char, one_more}
 use Rattle.inlinable_string.proofs.Table.{is_scalar, none_in}
 use Rattle.inlinable_string.proofs.Starts.{fills, filled, rowless}

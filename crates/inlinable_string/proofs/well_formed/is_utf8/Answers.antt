@@ -1,5 +1,5 @@
-use Rattle.inlinable_string.proofs.States.{read_block, read_to_end, ascii_block, is_text}
-use Rattle.inlinable_string.proofs.string_ext.states.is_utf8.Goals as goal
+use Rattle.inlinable_string.proofs.WellFormed.{read_block, read_to_end, ascii_block, is_text}
+use Rattle.inlinable_string.proofs.well_formed.is_utf8.Goals as goal
 
 pub loop-rest-preserved-then-bits-ne0 : goal.loop-rest-preserved-then-bits-ne0
 loop-rest-preserved-then-bits-ne0 c =

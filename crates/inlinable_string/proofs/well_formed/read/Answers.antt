@@ -1,5 +1,5 @@
-use Rattle.inlinable_string.proofs.States.{read_one, read_whole}
-use Rattle.inlinable_string.proofs.string_ext.states.read.Goals as goal
+use Rattle.inlinable_string.proofs.WellFormed.{read_one, read_whole}
+use Rattle.inlinable_string.proofs.well_formed.read.Goals as goal
 
 pub loop-byte-preserved : goal.loop-byte-preserved
 loop-byte-preserved c =
