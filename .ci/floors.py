@@ -71,7 +71,7 @@ WRONG_CLAUSES = 5
 CALLERS = 103
 
 # Lemmas and answers to goals, in the proofs of the crates and among the words of their definitions.
-PROOFS = 1_390
+PROOFS = 1_300
 
 # Paths and names in backticks that the documents cite.
 CITED = 400

@@ -20,9 +20,10 @@ none_follows : (s : List ℕ) → Follows nothing s → ⊥
 none_follows [] f = f
 none_follows (b ∷ s) f = grind (arith, nat_tests, f.0)
 
--- bytes that fill the ranges, with text behind them
+-- bytes that fill the ranges, with text after them
 counted : (ranges : List (ℕ × ℕ)) (s : List ℕ) → Follows ranges s
-    → (count_in ranges s ≡ length ranges) × IsUtf8 (drop (length ranges) s) × (length ranges ≤ length s)
+    → (count_in ranges s ≡ length ranges) × IsUtf8 (drop (length ranges) s)
+    × (length ranges ≤ length s)
 counted [] s f = (refl, f, omega arith)
 counted (r ∷ ranges) [] f = absurd f
 counted (r ∷ ranges) (b ∷ s) f =
@@ -44,7 +45,7 @@ follows (r ∷ ranges) (b ∷ s) all u =
     absurd (omega (arith, all, none)))
     (cases_Bool (is_in_range r.0 r.1 b))
 
--- text that is not empty is a character with text behind it
+-- text that is not empty is a character with text after it
 first : (b : ℕ) (s : List ℕ) → IsUtf8 (b ∷ s)
     → (c : ℕ) × (rest : List ℕ) × Begins (b ∷ s) c rest × IsUtf8 rest
 first b s ([], (scalars, is)) = let none = ap length is in absurd (omega (arith, none))
@@ -52,7 +53,7 @@ first b s (c ∷ cs, (scalars, is)) =
     let p = and_parts _ _ scalars in
     (c, encode_utf8_all cs, record { scalar = p.0; joined = sym is }, (cs, (p.1, refl)))
 
--- what is behind the first byte of a character, by the row of that byte
+-- what is after the first byte of a character, by the row of that byte
 behind : (b : ℕ) (s : List ℕ) (c : ℕ) (rest : List ℕ) → Begins (b ∷ s) c rest
     → (count_in (following b) s ≡ length (following b)) × (drop (length (following b)) s ≡ rest)
 behind b s c rest begins =
@@ -228,7 +229,8 @@ read_one from bs i bits row read within byte is =
           let both = step (ranges_of n) b s in
           let before = read.rest (b ∷ s) in
           let one_more : take (i + 1) bs ++ s ≡ take i bs ++ b ∷ s =
-          ap (λ front. front ++ s) (take_more bs i 0 within) ∙ append_assoc (take i bs) (b ∷ []) s in (
+          ap (λ front. front ++ s) (take_more bs i 0 within)
+          ∙ append_assoc (take i bs) (b ∷ []) s in (
             (λ u. subst (λ ranges. Follows ranges s) (sym to.1)
                 (both.0 (before.0 (subst (Follows (ranges_of from)) one_more u)))),
             (λ f. subst (Follows (ranges_of from)) (sym one_more)
@@ -240,14 +242,15 @@ pub read_whole : (from : ℕ) (bs : List ℕ) (i to : ℕ) → IsRead from bs i 
     → Leads from bs to
 read_whole from bs i to read all = subst (λ l. Leads from l to) (take_all i bs all) read
 
--- bytes behind others
+-- bytes after others
 pub leads_on : (from between to : ℕ) (bs cs : List ℕ) → Leads from bs between
     → Leads between cs to → Leads from (bs ++ cs) to
 leads_on from between to bs cs one other = record {
   known = other.known;
   rest = λ s.
       let joined = append_assoc bs cs s in (
-        (λ u. (other.rest s).0 ((one.rest (cs ++ s)).0 (subst (Follows (ranges_of from)) joined u))),
+        (λ u. (other.rest s).0
+            ((one.rest (cs ++ s)).0 (subst (Follows (ranges_of from)) joined u))),
         (λ f. subst (Follows (ranges_of from)) (sym joined)
             ((one.rest (cs ++ s)).1 ((other.rest s).1 f))),
       );
@@ -282,7 +285,8 @@ ascii_leads (b ∷ bs) is =
       rest = λ s.
           let both = step [] b (bs ++ s) in (
             (λ u. (rest.rest s).0 (subst (λ ranges. Follows ranges (bs ++ s)) none (both.0 u))),
-            (λ f. both.1 (subst (λ ranges. Follows ranges (bs ++ s)) (sym none) ((rest.rest s).1 f))),
+            (λ f. both.1
+                (subst (λ ranges. Follows ranges (bs ++ s)) (sym none) ((rest.rest s).1 f))),
           );
     }
 

@@ -55,7 +55,8 @@ impl fmt::Display for ReplaceError {
     ghost use Rattle.inlinable_string.specs.declared.inline_string.ReplaceError.TheVariants.{NotUtf8};
 
     ghost output = { λ error. Some (if ⟦<ReplaceError as PartialEq>⟧.eq error NotUtf8
-        then codes "the bytes are not UTF-8" else codes "the bytes are not as many as the text's") };
+        then codes "the bytes are not UTF-8"
+        else codes "the bytes are not as many as the text's") };
 
     fn fmt<W: fmt::Write>(&self, f: &mut fmt::Formatter<W>) -> fmt::Result {
         match self {
@@ -131,8 +132,8 @@ impl<const N: usize> InlineStringN<N> {
         self.push_general(ch)
     }
 
-    /// Appends `ch` if it is ASCII and there is room after the text: the usual push, in which nothing
-    /// moves. Else returns false and changes nothing.
+    /// Appends `ch` if it is ASCII and there is room after the text: the usual push, in which
+    /// nothing moves. Else returns false and changes nothing.
     #[inline]
     pub(crate) fn try_push_ascii(&mut self, ch: char) -> bool
         ensures fits { OnTrue result (size self.old + size (ch ∷ []) ≤ N) }

@@ -133,8 +133,8 @@ pub trait StringExt {
         ensures inline_granted { HasInlineRoom (state self.old) additional → IsOk result }
         ensures policy { (state self.new).policy ≡ (state self.old).policy };
 
-    /// Shrinks the capacity. A heap text of at most `limit` bytes moves back inline if its type does
-    /// that, which cannot fail.
+    /// Shrinks the capacity. A heap text of at most `limit` bytes moves back inline if its type
+    /// does that, which cannot fail.
     fn shrink_to_fit(&mut self) -> Result<(), AllocError>
         ensures text { (state self.new).text ≡ (state self.old).text }
         ensures storage { OnOk result

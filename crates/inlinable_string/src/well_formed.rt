@@ -59,26 +59,26 @@ const ROWS: &[u64] = &[
     FOUR, AT_F4, BAD, BAD, BAD, BAD, BAD, BAD, BAD, BAD, BAD, BAD, BAD,
 ];
 
-/// How many bytes are looked at together.
+/// The bytes that are tested for ASCII together.
 const LANES: usize = 16;
 
-/// Whether the bytes are UTF-8.
+/// Returns whether the bytes are UTF-8.
 pub(crate) fn is_utf8(bytes: &[u8]) -> bool
     ensures { IsTrue result ↔ IsUtf8 bytes.now }
 {
     let mut bits = 0;
     let mut rest = bytes;
     while LANES <= rest.len() {
-        let (block, behind) = rest.split_at(LANES);
+        let (block, after) = rest.split_at(LANES);
         if bits & 63 != 0 || !is_ascii(block) {
             bits = read(bits, block);
         }
-        rest = behind;
+        rest = after;
     }
     read(bits, rest) & 63 == 0
 }
 
-/// The bytes as text; `None` where they are not UTF-8.
+/// Returns the bytes as text, or `None` if they are not UTF-8.
 pub(crate) fn text_in(bytes: &[u8]) -> Option<&str>
     ensures { MatchOption result
         (¬ (IsUtf8 bytes.now)) (λ text. (text.now ≡ bytes.now) × IsUtf8 bytes.now) }
@@ -90,7 +90,7 @@ pub(crate) fn text_in(bytes: &[u8]) -> Option<&str>
     }
 }
 
-/// The text of these bytes, which is made of the vector itself.
+/// Returns the text of these bytes, in the same allocation.
 pub(crate) fn string_from(bytes: Vec<u8>) -> Result<String, FromUtf8Error>
     ensures ok { IfOk result (λ made. string_vec made ≡ bytes) }
     ensures err { IfErr result (λ error. from_utf8_error_vec error ≡ bytes) }
@@ -103,7 +103,7 @@ pub(crate) fn string_from(bytes: Vec<u8>) -> Result<String, FromUtf8Error>
     }
 }
 
-/// The state behind the bytes, from the one before them, each in the six low bits.
+/// Returns the state after the bytes, from the one before them, each in the six low bits.
 #[inline(always)]
 fn read(bits: u64, bytes: &[u8]) -> u64
     requires { IsTrue (is_state (state_of bits)) }
@@ -116,7 +116,7 @@ fn read(bits: u64, bytes: &[u8]) -> u64
     state
 }
 
-/// The row of a byte.
+/// Returns the row of a byte.
 #[inline(always)]
 fn row_of(byte: u8) -> u64
     ensures { result ≡ slice_index ROWS.now byte }
@@ -124,8 +124,8 @@ fn row_of(byte: u8) -> u64
     ROWS[usize::from(byte)]
 }
 
-/// Whether each byte is of ASCII.
-// No byte ends the loop, so that several are tested at a time.
+/// Returns whether each byte is ASCII.
+// No early exit, so that the loop is vectorized.
 #[inline(always)]
 fn is_ascii(bytes: &[u8]) -> bool
     ensures { IsTrue result ↔ IsAscii bytes.now }

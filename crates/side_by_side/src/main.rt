@@ -1,7 +1,8 @@
 //! Prints what the library answers to each line of standard input.
 //!
-//! A line is `calls`, the type of a text, and a word for each call ([`calls`]); or `script`, the word
-//! of a text of the script language, and the digits of a script ([`scripts`]). The answer is one line.
+//! A line is `calls`, the type of a text, and a word for each call ([`calls`]); or `script`, the
+//! word of a text of the script language, and the digits of a script ([`scripts`]). The answer is
+//! one line.
 #![tactic(auto)]
 
 mod calls;

@@ -1,5 +1,5 @@
-//! A line of a script: the word of its text, and its digits. The answer is the status that the program
-//! `inline_script` ends with, and the digits of what it prints.
+//! A line of a script: the word of its text, and its digits. The answer is the status that the
+//! program `inline_script` ends with, and the digits of what it prints.
 
 use crate::digits::{bytes_of, push_digits};
 use crate::fault::LineFault;

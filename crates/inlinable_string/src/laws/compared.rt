@@ -31,8 +31,8 @@ pub fn equality_is_that_of_texts<const N: usize>()
         ↔ ((inlinable_state N s).text ≡ (inlinable_state N t).text) }
 {}
 
-/// Texts are ordered by their bytes, a prefix before the whole, whatever their storage. The order is
-/// total, and `Equal` exactly for the same bytes.
+/// Texts are ordered by their bytes, a prefix before the whole, whatever their storage. The order
+/// is total, and `Equal` exactly for the same bytes.
 pub fn order_is_that_of_the_bytes<const N: usize>()
     ensures inline_value { (s t : List ℕ) → ⟦<InlineStringN<N> as Ord>⟧.cmp s t
         ≡ slice_cmp nat_cmp (bytes_of s) (bytes_of t) }

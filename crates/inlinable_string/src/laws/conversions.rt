@@ -14,8 +14,8 @@ use crate::string_ext::Utf16Error;
 use std::alloc::AllocError;
 use std::str::FromStr;
 
-/// `parse`, and `try_from` of a `&str`, a character or a text of any storage, make a text in an array
-/// exactly where the bytes fit. The last hands its text back where they do not.
+/// `parse`, and `try_from` of a `&str`, a character or a text of any storage, make a text in an
+/// array exactly where the bytes fit. The last hands its text back where they do not.
 pub fn conversions_succeed_where_it_fits<'a, const N: usize>()
     ensures parsed { (bytes t : List ℕ)
         → ⟦<InlineStringN<N> as FromStr>⟧.from_str_gives bytes (Ok t)

@@ -48,7 +48,8 @@ pub fn truncations_are_cuts()
         ↔ ((rest : List ℕ) × IsCut t p v rest) }
 {}
 
-/// An insertion or a `Truncate` is carried out exactly at a place; elsewhere the reply is `BadPlace`.
+/// An insertion or a `Truncate` is carried out exactly at a place; elsewhere the reply is
+/// `BadPlace`.
 pub fn edits_are_done_at_places()
     ensures insert_done { (t : List ℕ) (p c : ℕ)
         → (reply_of (edit t (Command.Insert p c)) ≡ Reply.Done) ↔ IsPlace t p }

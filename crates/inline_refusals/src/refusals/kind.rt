@@ -34,7 +34,8 @@ pub fn wrong_row(
     }
 }
 
-/// Asserts that no row is wrong. Each call of `asking` makes one request, those of `free` make none.
+/// Asserts that no row is wrong. Each call of `asking` makes one request, those of `free` make
+/// none.
 pub fn assert_rows(
     rt: &(impl Abort + Print),
     alloc: Global,

@@ -57,8 +57,8 @@ fn answer_again(
     answer_to(alloc, &words, lines, room)
 }
 
-/// Runs a script. What it prints comes first of the outputs, and then what it prints where a request
-/// of its run is refused.
+/// Runs a script. What it prints comes first of the outputs, and then what it prints where a
+/// request of its run is refused.
 fn assert_prints(
     rt: &(impl Abort + Print),
     alloc: Global,

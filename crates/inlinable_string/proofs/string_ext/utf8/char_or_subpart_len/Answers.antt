@@ -33,7 +33,8 @@ returns-then-not-byte_in_range-2-clause-len c =
     let row = row_is _ _ c.if-first-lt194.false c.if-first-gt244.false
     (c.second_byte_range-least.ensures c.if-first-lt194.false c.if-first-gt244.false) in
     let two = second _ _ row.k c.requires row.is c.if-not-byte_in_range.ensures in
-    let cut = no_later _ 1 row.k two (row.more c.if-first-lt224.false) c.if-not-byte_in_range-2.ensures in
+    let cut = no_later _ 1 row.k two (row.more c.if-first-lt224.false)
+    c.if-not-byte_in_range-2.ensures in
     (cut.0, cut.1, omega arith)
 
 pub returns-then-first-lt240-clause-len : goal.returns-then-first-lt240-clause-len
@@ -41,7 +42,8 @@ returns-then-first-lt240-clause-len c =
     let row = row_is _ _ c.if-first-lt194.false c.if-first-gt244.false
     (c.second_byte_range-least.ensures c.if-first-lt194.false c.if-first-gt244.false) in
     let two = second _ _ row.k c.requires row.is c.if-not-byte_in_range.ensures in
-    let three = later _ 1 row.k two (row.more c.if-first-lt224.false) c.if-not-byte_in_range-2.ensures in
+    let three = later _ 1 row.k two (row.more c.if-first-lt224.false)
+    c.if-not-byte_in_range-2.ensures in
     let none = row.three c.if-first-lt240.true in
     (complete _ 2 _ three (omega arith) (omega (arith, none)), omega arith)
 
@@ -50,7 +52,8 @@ returns-then-byte_in_range-clause-len c =
     let row = row_is _ _ c.if-first-lt194.false c.if-first-gt244.false
     (c.second_byte_range-least.ensures c.if-first-lt194.false c.if-first-gt244.false) in
     let two = second _ _ row.k c.requires row.is c.if-not-byte_in_range.ensures in
-    let three = later _ 1 row.k two (row.more c.if-first-lt224.false) c.if-not-byte_in_range-2.ensures in
+    let three = later _ 1 row.k two (row.more c.if-first-lt224.false)
+    c.if-not-byte_in_range-2.ensures in
     let most = row.four c.if-first-lt240.false in
     let more : 0 < row.k - 1 = omega (arith, most) in
     let four = later _ 2 _ three more c.if-byte_in_range.ensures in
@@ -61,7 +64,8 @@ returns-else-byte_in_range-clause-len c =
     let row = row_is _ _ c.if-first-lt194.false c.if-first-gt244.false
     (c.second_byte_range-least.ensures c.if-first-lt194.false c.if-first-gt244.false) in
     let two = second _ _ row.k c.requires row.is c.if-not-byte_in_range.ensures in
-    let three = later _ 1 row.k two (row.more c.if-first-lt224.false) c.if-not-byte_in_range-2.ensures in
+    let three = later _ 1 row.k two (row.more c.if-first-lt224.false)
+    c.if-not-byte_in_range-2.ensures in
     let most = row.four c.if-first-lt240.false in
     let cut = no_later _ 2 _ three (omega (arith, most)) c.if-byte_in_range.ensures in
     (cut.0, cut.1, omega arith)
