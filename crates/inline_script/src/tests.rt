@@ -29,6 +29,8 @@ fn words(alloc: Global, texts: &[&str]) -> Result<Vec<String>, Fail> {
 /// What is wrong after a script.
 #[derive(Clone, Copy, Debug, PartialEq)]
 enum Wrong {
+    /// The row has too few parts.
+    Row,
     Answer,
     Output,
 }
@@ -67,8 +69,16 @@ fn assert_outcome<R: Read>(
 /// its storage stand between bars.
 fn wrong_row(rt: &impl AllocGlobal, row: &str) -> Result<Option<Wrong>, Fail> {
     let mut parts = row.split('|');
-    let mut part = || parts.next().unwrap_or("no such part");
-    let (word, lines, replies, text, storage) = (part(), part(), part(), part(), part());
+    let (first, second, third) = (parts.next(), parts.next(), parts.next());
+    let (Some(word), Some(lines), Some(replies), Some(text), Some(storage)) = (
+        first,
+        second,
+        third,
+        parts.next(),
+        parts.next(),
+    ) else {
+        return Ok(Some(Wrong::Row));
+    };
     let len = text.len();
     let output = format!(in rt.alloc(); "{replies}text {text}\nlength {len}\nstorage {storage}\n")?;
     wrong_after(

@@ -124,7 +124,7 @@ fn verdict_from_new(
 }
 
 /// Asserts that at most one request was refused, and that the plain program agrees. Says so where
-/// one was refused: it may be the plain program's own, which then is made again.
+/// one of the run was refused. It may be the plain program's own, which then is made again.
 fn assert_agrees(
     rt: &(impl Abort + Print),
     alloc: Global,
@@ -134,22 +134,17 @@ fn assert_agrees(
 ) -> Result<(), Fail> {
     let refused = refused_in(replies, ample);
     assert!(rt; refused.is_some(), "{replies:?}");
-    let mut refusals = Refusals {
-        has_met: refused == Some(true),
-    };
+    let has_met = refused == Some(true);
     let verdict = match verdict_from_new(alloc, policy, commands, replies, end) {
         Ok(verdict) => verdict,
         Err(AllocError) => {
-            assert!(rt;
-                refusals.meet(),
-                "allocation failure with no request refused"
-            );
+            assert!(rt; !has_met, "allocation failure with no request refused");
             let again = verdict_from_new(alloc, policy, commands, replies, end);
             again.expect(rt, "one request is refused at most")
         }
     };
     assert_eq!(rt; verdict, Verdict::Agrees, "{replies:?}");
-    super::tell(rt, &refusals)
+    super::tell(rt, &Refusals { has_met })
 }
 
 /// Gives all commands to a new text.
