@@ -1,6 +1,4 @@
 //! The tests and the examples of the crate `inlinable_string`, with the values that it gives.
-use crate::compared::{OrderRow, wrong_order};
-use crate::printed::{PrintRow, WriteRow, wrong_array_write, wrong_print, wrong_write};
 use crate::steps::{List, assert_each, assert_repeated_everywhere};
 use crate::texts::LONG;
 use inlinable_string::run::Command::{
@@ -8,10 +6,6 @@ use inlinable_string::run::Command::{
     ShrinkToFit, Truncate,
 };
 use inlinable_string::run::Reply::{Char, Done, NoChar};
-use inlinable_string::{InlinableString, InlineString, StringExt};
-use std::cmp::Ordering::{Equal, Greater};
-use std::fmt::{self, Write};
-use test_support::letters::LETTERS_30;
 use test_support::step::Step;
 use test_support::step::Where::{AsMade, OnHeap, Shrunk};
 
@@ -113,32 +107,6 @@ fn a_small_text_becomes_a_large_one(rt: HostRuntime) {
     assert_each(&rt, rt.alloc(), OUTGROWN);
 }
 
-/// The same by `write!`.
-const WRITTEN: &[WriteRow] = &[("", "small", "small"), ("small", LONG, SMALL_AND_LONG)];
-
-#[test]
-fn a_small_text_is_written_into_a_text_and_then_a_large_one(rt: HostRuntime) {
-    let wrong = [
-        wrong_write(&rt, rt.alloc(), WRITTEN),
-        wrong_array_write(&rt, WRITTEN),
-    ];
-    assert!(&rt; wrong == [None; 2], "{wrong:?}");
-}
-
-#[test]
-fn thirty_letters_are_written_into_an_array_and_no_more(rt: HostRuntime) {
-    let mut text = InlineString::new();
-    let mut written = 0usize;
-    for _ in 0..30 {
-        if write!(text, "a").is_ok() {
-            written = written.saturating_add(1);
-        }
-    }
-    let one_more = write!(text, "a");
-    assert!(&rt; written == 30 && one_more == Err(fmt::Error));
-    assert!(&rt; text.as_str() == LETTERS_30);
-}
-
 #[test]
 fn thirty_one_letters_are_pushed_or_inserted(rt: HostRuntime) {
     assert_repeated_everywhere(&rt, rt.alloc(), Push('a'), "a", 31);
@@ -160,38 +128,4 @@ const SHRUNK: &[List] = &[
 #[test]
 fn a_shrunk_text_has_the_room_that_it_needs(rt: HostRuntime) {
     assert_each(&rt, rt.alloc(), SHRUNK);
-}
-
-const ORDERED: &[OrderRow] = &[("foo", "bar", Greater), ("foo", "foo", Equal)];
-
-const PRINTED: &[PrintRow] = &[
-    ("he", "he|      he|he  |**he**| he|", "\"he\""),
-    (
-        "hello world",
-        "hello world|hello world|hello world|hello world|hello world|",
-        "\"hello world\"",
-    ),
-    (
-        "hello world hello world hello world",
-        "hello world hello world hello world|hello world hello world hello world|\
-            hello world hello world hello world|hello world hello world hello world|\
-            hello world hello world hello world|",
-        "\"hello world hello world hello world\"",
-    ),
-];
-
-#[test]
-fn texts_are_ordered_and_printed(rt: HostRuntime) {
-    let wrong = [
-        wrong_order(&rt, rt.alloc(), ORDERED),
-        wrong_print(&rt, rt.alloc(), PRINTED),
-    ];
-    assert!(&rt; wrong == [None; 2], "{wrong:?}");
-}
-
-#[test]
-fn a_text_of_from_str_is_that_of_from(rt: HostRuntime) {
-    let by_from_str = InlinableString::from_str(rt.alloc(), "foo").expect(&rt, "memory");
-    let by_from = InlinableString::from(rt.alloc(), "foo").expect(&rt, "memory");
-    assert!(&rt; by_from_str == by_from && by_from_str.eq_str("foo"));
 }
