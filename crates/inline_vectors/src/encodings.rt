@@ -116,11 +116,13 @@ fn bytes_are_a_text_or_read_with_a_sign_for_each_part_that_is_no_character(rt: H
     assert_makers(&rt, rt.alloc(), KINDS, Ample, BYTES);
 }
 
-/// An unpaired surrogate comes before any request; bytes of a text are taken over, given back and
-/// borrowed without memory.
 #[test]
-fn readers_are_refused_where_they_request_memory(rt: HostRuntime) {
+fn an_unpaired_surrogate_comes_before_any_request_for_memory(rt: HostRuntime) {
     assert_makers(&rt, rt.alloc(), KINDS, Held, UNITS);
+}
+
+#[test]
+fn bytes_of_a_text_are_taken_over_given_back_and_borrowed_without_memory(rt: HostRuntime) {
     assert_makers(&rt, rt.alloc(), KINDS, Held, BYTES);
 }
 

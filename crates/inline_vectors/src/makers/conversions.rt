@@ -27,7 +27,6 @@ const TEXTS: &[TextRow] = &[
     (0, "a", Heap),
     (0, "𝄞", Heap),
     (0, LETTERS_31, Heap),
-    (0, TEN_CLEFS, Heap),
     (4, "", Inline),
     (4, "a", Inline),
     (4, "abcd", Inline),
@@ -42,7 +41,6 @@ const TEXTS: &[TextRow] = &[
     (8, "123456789", Heap),
     (8, "aaaaa€", Inline),
     (8, "aaaaaa€", Heap),
-    (8, TEN_CLEFS, Heap),
     (30, "", Inline),
     (30, "foo", Inline),
     (30, "hello", Inline),
@@ -52,6 +50,11 @@ const TEXTS: &[TextRow] = &[
     (30, LETTERS_31, Heap),
     (30, "aaaaaaaaaaaaaaaaaaaaaaaaaa𝄞", Inline),
     (30, "aaaaaaaaaaaaaaaaaaaaaaaaaaa𝄞", Heap),
+];
+
+const OF_40_BYTES: &[TextRow] = &[
+    (0, TEN_CLEFS, Heap),
+    (8, TEN_CLEFS, Heap),
     (30, TEN_CLEFS, Heap),
 ];
 
@@ -205,21 +208,25 @@ pub fn wrong_text(
     None
 }
 
-fn assert_texts(rt: &impl Abort, alloc: Global, memory: Memory) {
-    let wrong = wrong_text(rt, alloc, memory, TEXTS);
+fn assert_texts(rt: &impl Abort, alloc: Global, memory: Memory, rows: &[TextRow]) {
+    let wrong = wrong_text(rt, alloc, memory, rows);
     assert!(rt; wrong.is_none(), "{wrong:?}");
 }
 
 #[test]
 fn a_text_is_made_of_another_inline_where_it_fits(rt: HostRuntime) {
-    assert_texts(&rt, rt.alloc(), Ample);
+    assert_texts(&rt, rt.alloc(), Ample, TEXTS);
+    assert_texts(&rt, rt.alloc(), Ample, OF_40_BYTES);
 }
 
-/// With one block of 40 bytes, the C library refuses 41.
 #[test]
-fn a_text_that_fits_inline_is_made_without_memory_and_a_longer_one_requests_it_once(
-    rt: HostRuntime,
-) {
-    assert_texts(&rt, rt.alloc(), Held);
-    assert_texts(&rt, rt.alloc(), OneBlock(40));
+fn a_text_that_fits_inline_is_made_without_memory_and_a_longer_one_is_refused(rt: HostRuntime) {
+    assert_texts(&rt, rt.alloc(), Held, TEXTS);
+    assert_texts(&rt, rt.alloc(), Held, OF_40_BYTES);
+}
+
+/// The C library keeps the block for requests of 25 to 40 bytes, and refuses 41.
+#[test]
+fn a_text_that_does_not_fit_inline_requests_memory_once(rt: HostRuntime) {
+    assert_texts(&rt, rt.alloc(), OneBlock(40), OF_40_BYTES);
 }
