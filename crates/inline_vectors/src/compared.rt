@@ -1,6 +1,8 @@
 //! Equality, order and hashes of texts that were made in different ways, and their copies.
-use crate::held::all_memory;
-use crate::texts::{is_lying, is_text};
+use crate::held::Memory::{self, Ample, Held};
+use crate::held::hold;
+use crate::makers::grants;
+use crate::texts::is_lying;
 use crate::ways::{array_texts, inlinable_texts};
 use inlinable_string::{InlinableString, InlineString, Storage, StringExt, StringMake};
 use std::alloc::{AllocError, Global};
@@ -20,6 +22,8 @@ const ORDERS: &[OrderRow] = &[
     ("he", "he", Equal),
     ("fo", "foo", Less),
     ("fop", "foo", Greater),
+    ("foo", "bar", Greater),
+    ("foo", "foo", Equal),
     ("é", "z", Greater),
     ("é", "é", Equal),
     ("é", "€", Less),
@@ -72,7 +76,7 @@ fn are_ordered<T: Ord + Hash>(
     true
 }
 
-/// The first row that is wrong, of texts wherever they lie and of those in arrays.
+/// The first row that is wrong, of texts wherever they are stored and of those in arrays.
 pub fn wrong_order(rt: &impl Abort, alloc: Global, rows: &[OrderRow]) -> Option<usize> {
     for (i, row) in rows.iter().enumerate() {
         let left_texts = inlinable_texts(rt, alloc, row.0);
@@ -89,21 +93,32 @@ pub fn wrong_order(rt: &impl Abort, alloc: Global, rows: &[OrderRow]) -> Option<
 }
 
 #[test]
-fn texts_are_ordered_and_hash_as_their_str_does_wherever_they_lie(rt: HostRuntime) {
+fn texts_are_ordered_and_hash_as_their_str_does_wherever_they_are_stored(rt: HostRuntime) {
     let wrong = wrong_order(&rt, rt.alloc(), ORDERS);
     assert!(&rt; wrong.is_none(), "{wrong:?}");
 }
 
-/// Whether a copy of a text is the text, lies where it does, and is a value of its own.
-fn is_copied(text: &InlinableString, content: &str) -> bool {
+/// Whether a copy is the text with its storage, and a value of its own. Inline it requests no
+/// memory.
+fn is_copied(
+    rt: &impl Abort,
+    alloc: Global,
+    memory: Memory,
+    text: &InlinableString,
+    content: &str,
+) -> bool {
+    let storage = text.storage();
+    let is_granted = storage == Storage::Inline || grants(memory, content.len());
+    let hoard = hold(rt, alloc, memory);
     let copied: Result<InlinableString, AllocError> = text.clone();
+    drop(hoard);
     match copied {
         Ok(mut copy) => {
-            let is_same = is_lying(&copy, content, text.storage());
+            let is_same = is_granted && is_lying(&copy, content, storage);
             copy.clear();
-            is_same && is_text(text, content)
+            is_same && is_lying(text, content, storage)
         }
-        Err(AllocError) => false,
+        Err(AllocError) => !is_granted,
     }
 }
 
@@ -120,57 +135,30 @@ fn is_array_copied(text: &InlineString, content: &str) -> bool {
     }
 }
 
-/// Texts that are copied.
+/// Texts that are copied, in whichever way they were made, and where `from_utf8` made them.
 const COPIED: &[&str] = &["", "hi", "aé€𝄞"];
 
-/// The first text that is not copied, wherever it lies.
-fn wrong_copy(rt: &impl Abort, alloc: Global, contents: &[&str]) -> Option<usize> {
-    for (i, &content) in contents.iter().enumerate() {
-        let texts = inlinable_texts(rt, alloc, content);
-        let arrays = array_texts(rt, alloc, content);
-        let is_right = texts.iter().all(|text| is_copied(text, content))
-            && arrays.iter().all(|text| is_array_copied(text, content));
-        if !is_right {
-            return Some(i);
+fn assert_copies(rt: &impl Abort, alloc: Global, memory: Memory) {
+    for content in COPIED {
+        for text in &inlinable_texts(rt, alloc, content) {
+            assert!(rt; is_copied(rt, alloc, memory, text, content), "{content}");
         }
+        for text in &array_texts(rt, alloc, content) {
+            assert!(rt; is_array_copied(text, content), "{content}");
+        }
+        let bytes = Vec::from_slice(alloc, content.as_bytes()).expect(rt, "memory");
+        let text = InlinableString::from_utf8(alloc, bytes).expect(rt, "UTF-8");
+        assert!(rt; is_copied(rt, alloc, memory, &text, content), "{content}");
+        assert!(rt; text.storage() == Storage::Heap);
     }
-    None
 }
 
 #[test]
-fn a_copy_lies_where_the_text_does(rt: HostRuntime) {
-    let alloc = rt.alloc();
-    let wrong = wrong_copy(&rt, alloc, COPIED);
-    assert!(&rt; wrong.is_none(), "{wrong:?}");
-    let bytes = Vec::from_slice(alloc, b"hi").expect(&rt, "memory");
-    let is_right = match InlinableString::from_utf8(alloc, bytes) {
-        Ok(text) => text.storage() == Storage::Heap && is_copied(&text, "hi"),
-        Err(_) => false,
-    };
-    assert!(&rt; is_right);
-}
-
-/// A copy that is made while no memory can be had.
-fn copy_without_memory(
-    rt: &impl Abort,
-    alloc: Global,
-    text: &InlinableString,
-) -> Result<InlinableString, AllocError> {
-    let hoard = all_memory(rt, alloc);
-    let copy: Result<InlinableString, AllocError> = text.clone();
-    drop(hoard);
-    copy
+fn a_copy_has_the_storage_of_the_text(rt: HostRuntime) {
+    assert_copies(&rt, rt.alloc(), Ample);
 }
 
 #[test]
-fn a_copy_on_the_heap_asks_for_memory_and_one_inline_does_not(rt: HostRuntime) {
-    let alloc = rt.alloc();
-    for text in inlinable_texts(&rt, alloc, "hi") {
-        let storage = text.storage();
-        let is_right = match copy_without_memory(&rt, alloc, &text) {
-            Ok(copy) => storage == Storage::Inline && copy == text,
-            Err(AllocError) => storage == Storage::Heap,
-        };
-        assert!(&rt; is_right && is_lying(&text, "hi", storage));
-    }
+fn a_copy_on_the_heap_requests_memory_and_one_inline_does_not(rt: HostRuntime) {
+    assert_copies(&rt, rt.alloc(), Held);
 }

@@ -1,51 +1,85 @@
-//! Cuts and replacements: what they answer and leave, and that the text stays where it lies.
-use crate::steps::{List, assert_each};
-use inlinable_string::run::Command::{Clear, Insert, Pop, Remove, ReplaceBytes, Truncate};
+//! Cuts and replacements: what they answer and leave, and that the text stays where it is stored.
+use crate::player::assert_each;
+use crate::steps::List;
+use crate::steps::Where::{AsMade, OnHeap};
+use inlinable_string::run::Command::{Clear, Insert, Pop, PushStr, Remove, ReplaceBytes, Truncate};
 use inlinable_string::run::Reply::{BadPlace, Char, Done, NoChar, NotUtf8, WrongLength};
-use test_support::letters::{LETTERS_29, LETTERS_30, LETTERS_31};
-use test_support::step::Step;
-use test_support::step::Where::{AsMade, OnHeap};
+use test_support::letters::{
+    LETTERS_26 as A26, LETTERS_27 as A27, LETTERS_29 as A29, LETTERS_30 as A30, LETTERS_31 as A31,
+};
 
-const AT_THE_END: &[List] = &[(
-    "aé",
-    &[
-        (Remove(1), Char('é'), "a", AsMade),
-        (Remove(1), BadPlace, "a", AsMade),
-    ],
-)];
+const CUT: &[List] = &[
+    ("", &[]),
+    ("", &[(Pop, NoChar, "", AsMade)]),
+    ("foo", &[(Truncate(1), Done, "f", AsMade)]),
+    ("hello", &[(Truncate(2), Done, "he", AsMade)]),
+    ("foo", &[(Clear, Done, "", AsMade)]),
+    (
+        "foo",
+        &[
+            (Pop, Char('o'), "fo", AsMade),
+            (Pop, Char('o'), "f", AsMade),
+            (Pop, Char('f'), "", AsMade),
+            (Pop, NoChar, "", AsMade),
+        ],
+    ),
+    (
+        "foo",
+        &[
+            (Remove(0), Char('f'), "oo", AsMade),
+            (Remove(1), Char('o'), "o", AsMade),
+            (Remove(0), Char('o'), "", AsMade),
+        ],
+    ),
+    (
+        "x",
+        &[
+            (PushStr("y"), Done, "xy", AsMade),
+            (Remove(0), Char('x'), "y", AsMade),
+            (Pop, Char('y'), "", AsMade),
+            (Pop, NoChar, "", AsMade),
+        ],
+    ),
+];
 
 #[test]
-fn the_end_is_no_place_to_remove_from(rt: HostRuntime) {
-    assert_each(&rt, rt.alloc(), AT_THE_END);
+fn texts_are_cut(rt: HostRuntime) {
+    assert_each(&rt, rt.alloc(), CUT);
 }
 
-const IN_THE_MIDDLE: &[List] = &[(
-    "é",
-    &[
-        (Insert(1, 'x'), BadPlace, "é", AsMade),
-        (Truncate(1), BadPlace, "é", AsMade),
-        (Truncate(3), BadPlace, "é", AsMade),
-        (Truncate(2), Done, "é", AsMade),
-    ],
-)];
+const PLACES: &[List] = &[
+    // The end is no place to remove from.
+    (
+        "aé",
+        &[
+            (Remove(1), Char('é'), "a", AsMade),
+            (Remove(1), BadPlace, "a", AsMade),
+        ],
+    ),
+    // The middle of a character is no place.
+    (
+        "é",
+        &[
+            (Insert(1, 'x'), BadPlace, "é", AsMade),
+            (Truncate(1), BadPlace, "é", AsMade),
+            (Truncate(3), BadPlace, "é", AsMade),
+            (Truncate(2), Done, "é", AsMade),
+        ],
+    ),
+    // What is put in is taken out whole.
+    (
+        "aé",
+        &[
+            (Insert(1, '€'), Done, "a€é", AsMade),
+            (Remove(2), BadPlace, "a€é", AsMade),
+            (Remove(1), Char('€'), "aé", AsMade),
+        ],
+    ),
+];
 
 #[test]
-fn the_middle_of_a_character_is_no_place(rt: HostRuntime) {
-    assert_each(&rt, rt.alloc(), IN_THE_MIDDLE);
-}
-
-const PUT_IN_AND_TAKEN_OUT: &[List] = &[(
-    "aé",
-    &[
-        (Insert(1, '€'), Done, "a€é", AsMade),
-        (Remove(2), BadPlace, "a€é", AsMade),
-        (Remove(1), Char('€'), "aé", AsMade),
-    ],
-)];
-
-#[test]
-fn what_is_put_in_is_taken_out_whole(rt: HostRuntime) {
-    assert_each(&rt, rt.alloc(), PUT_IN_AND_TAKEN_OUT);
+fn places_follow_the_text(rt: HostRuntime) {
+    assert_each(&rt, rt.alloc(), PLACES);
 }
 
 const REPLACED: &[List] = &[
@@ -58,22 +92,14 @@ const REPLACED: &[List] = &[
             (ReplaceBytes(&[0x61, 0x62]), Done, "ab", AsMade),
         ],
     ),
-    (
-        "hello",
-        &[(
-            ReplaceBytes(&[111, 108, 108, 101, 104]),
-            Done,
-            "olleh",
-            AsMade,
-        )],
-    ),
-    ("", &[(ReplaceBytes(&[]), Done, "", AsMade)]),
+    ("hello", &[(ReplaceBytes(b"olleh"), Done, "olleh", AsMade)]),
     // The number of bytes is tested before they are.
     (
         "",
         &[
             (ReplaceBytes(b"a"), WrongLength, "", AsMade),
             (ReplaceBytes(b"\xFF"), WrongLength, "", AsMade),
+            (ReplaceBytes(b""), Done, "", AsMade),
         ],
     ),
     (
@@ -102,17 +128,51 @@ fn bytes_are_replaced_by_as_many_that_are_utf_8(rt: HostRuntime) {
     assert_each(&rt, rt.alloc(), REPLACED);
 }
 
-/// Each cut leaves 30 bytes or fewer of 31.
-const CUT_ON_THE_HEAP: &[List] = &[(
-    LETTERS_31,
-    &[
-        (Pop, Char('a'), LETTERS_30, OnHeap),
-        (Remove(0), Char('a'), LETTERS_29, OnHeap),
-        (Truncate(1), Done, "a", OnHeap),
-        (Clear, Done, "", OnHeap),
-        (Pop, NoChar, "", OnHeap),
-    ],
-)];
+const CUT_ON_THE_HEAP: &[List] = &[
+    // Each cut leaves 30 bytes or fewer of 31.
+    (
+        A31,
+        &[
+            (Pop, Char('a'), A30, OnHeap),
+            (Remove(0), Char('a'), A29, OnHeap),
+            (Truncate(1), Done, "a", OnHeap),
+            (Clear, Done, "", OnHeap),
+            (Pop, NoChar, "", OnHeap),
+        ],
+    ),
+    (
+        "",
+        &[
+            (PushStr(A27), Done, A27, AsMade),
+            (PushStr("€"), Done, "aaaaaaaaaaaaaaaaaaaaaaaaaaa€", AsMade),
+            (PushStr("b"), Done, "aaaaaaaaaaaaaaaaaaaaaaaaaaa€b", OnHeap),
+            (
+                Truncate(28),
+                BadPlace,
+                "aaaaaaaaaaaaaaaaaaaaaaaaaaa€b",
+                OnHeap,
+            ),
+            (Truncate(27), Done, A27, OnHeap),
+            (Pop, Char('a'), A26, OnHeap),
+        ],
+    ),
+    (
+        "",
+        &[
+            (PushStr("hello world"), Done, "hello world", AsMade),
+            (Truncate(5), Done, "hello", AsMade),
+            (Pop, Char('o'), "hell", AsMade),
+            (Truncate(9), BadPlace, "hell", AsMade),
+            (
+                PushStr("abcdefghijklmnopqrstuvwxyz0"),
+                Done,
+                "hellabcdefghijklmnopqrstuvwxyz0",
+                OnHeap,
+            ),
+            (Pop, Char('0'), "hellabcdefghijklmnopqrstuvwxyz", OnHeap),
+        ],
+    ),
+];
 
 #[test]
 fn a_cut_does_not_bring_a_text_back_from_the_heap(rt: HostRuntime) {

@@ -1,154 +1,95 @@
-//! Growths: what they make of a text, and when it goes to the heap.
-use crate::steps::{List, assert_each, assert_each_alone, assert_repeated_everywhere, whole_of};
+//! Growths: what they make of a text, and when it moves to the heap.
+use crate::player::{
+    EVERYWHERE, ONE_BY_ONE, Row, ample, assert_each, assert_repeated, assert_right, play,
+};
+use crate::steps::List;
+use crate::steps::Where::{AsMade, OnHeap, Shrunk};
+use crate::texts::{LONG, whole_of};
 use inlinable_string::run::Command::{
-    Insert, InsertStr, Push, PushStr, Reserve, ReserveExact, ShrinkToFit,
+    Clear, Insert, InsertStr, Pop, Push, PushStr, Remove, ReplaceBytes, Reserve, ReserveExact,
+    ShrinkToFit, Truncate,
 };
-use inlinable_string::run::Reply::Done;
-use test_support::letters::{
-    LETTERS_26, LETTERS_27, LETTERS_28, LETTERS_29, LETTERS_30, LETTERS_31,
-};
-use test_support::step::Step;
-use test_support::step::Where::{AsMade, OnHeap};
+use inlinable_string::run::Reply::{Char, Done, NotUtf8, WrongLength};
+use test_support::letters::{LETTERS_30 as A30, LETTERS_31 as A31};
 
-/// A character behind so many letters, before them, and put in at their end. It fills the room
-/// inline.
-pub const CHARACTERS_THAT_FIT: &[List] = &[
+const GROWN: &[List] = &[
+    ("", &[(Push('a'), Done, "a", AsMade)]),
+    ("foo", &[(PushStr("bar"), Done, "foobar", AsMade)]),
+    ("hello", &[(PushStr(" world"), Done, "hello world", AsMade)]),
+    ("foo", &[(Insert(2, 'f'), Done, "fofo", AsMade)]),
+    ("foo", &[(InsertStr(2, "bar"), Done, "fobaro", AsMade)]),
     (
-        LETTERS_29,
+        "abc",
         &[
-            (Push('a'), Done, LETTERS_30, AsMade),
-            (Insert(0, 'a'), Done, LETTERS_30, AsMade),
-            (Insert(29, 'a'), Done, LETTERS_30, AsMade),
+            (Push('1'), Done, "abc1", AsMade),
+            (Push('2'), Done, "abc12", AsMade),
+            (Push('3'), Done, "abc123", AsMade),
         ],
     ),
+    // The empty text fits a full one.
     (
-        LETTERS_28,
+        A30,
         &[
-            (Push('é'), Done, "aaaaaaaaaaaaaaaaaaaaaaaaaaaaé", AsMade),
-            (
-                Insert(0, 'é'),
-                Done,
-                "éaaaaaaaaaaaaaaaaaaaaaaaaaaaa",
-                AsMade,
-            ),
-            (
-                Insert(28, 'é'),
-                Done,
-                "aaaaaaaaaaaaaaaaaaaaaaaaaaaaé",
-                AsMade,
-            ),
-        ],
-    ),
-    (
-        LETTERS_27,
-        &[
-            (Push('€'), Done, "aaaaaaaaaaaaaaaaaaaaaaaaaaa€", AsMade),
-            (Insert(0, '€'), Done, "€aaaaaaaaaaaaaaaaaaaaaaaaaaa", AsMade),
-            (
-                Insert(27, '€'),
-                Done,
-                "aaaaaaaaaaaaaaaaaaaaaaaaaaa€",
-                AsMade,
-            ),
-        ],
-    ),
-    (
-        LETTERS_26,
-        &[
-            (Push('𝄞'), Done, "aaaaaaaaaaaaaaaaaaaaaaaaaa𝄞", AsMade),
-            (Insert(0, '𝄞'), Done, "𝄞aaaaaaaaaaaaaaaaaaaaaaaaaa", AsMade),
-            (Insert(26, '𝄞'), Done, "aaaaaaaaaaaaaaaaaaaaaaaaaa𝄞", AsMade),
-        ],
-    ),
-];
-
-/// The same with a letter more, so that there is no room inline.
-const CHARACTERS_TOO_LONG: &[List] = &[
-    (
-        LETTERS_30,
-        &[
-            (Push('a'), Done, LETTERS_31, OnHeap),
-            (Insert(0, 'a'), Done, LETTERS_31, OnHeap),
-            (Insert(30, 'a'), Done, LETTERS_31, OnHeap),
-        ],
-    ),
-    (
-        LETTERS_29,
-        &[
-            (Push('é'), Done, "aaaaaaaaaaaaaaaaaaaaaaaaaaaaaé", OnHeap),
-            (
-                Insert(0, 'é'),
-                Done,
-                "éaaaaaaaaaaaaaaaaaaaaaaaaaaaaa",
-                OnHeap,
-            ),
-            (
-                Insert(29, 'é'),
-                Done,
-                "aaaaaaaaaaaaaaaaaaaaaaaaaaaaaé",
-                OnHeap,
-            ),
-        ],
-    ),
-    (
-        LETTERS_28,
-        &[
-            (Push('€'), Done, "aaaaaaaaaaaaaaaaaaaaaaaaaaaa€", OnHeap),
-            (
-                Insert(0, '€'),
-                Done,
-                "€aaaaaaaaaaaaaaaaaaaaaaaaaaaa",
-                OnHeap,
-            ),
-            (
-                Insert(28, '€'),
-                Done,
-                "aaaaaaaaaaaaaaaaaaaaaaaaaaaa€",
-                OnHeap,
-            ),
-        ],
-    ),
-    (
-        LETTERS_27,
-        &[
-            (Push('𝄞'), Done, "aaaaaaaaaaaaaaaaaaaaaaaaaaa𝄞", OnHeap),
-            (Insert(0, '𝄞'), Done, "𝄞aaaaaaaaaaaaaaaaaaaaaaaaaaa", OnHeap),
-            (
-                Insert(27, '𝄞'),
-                Done,
-                "aaaaaaaaaaaaaaaaaaaaaaaaaaa𝄞",
-                OnHeap,
-            ),
+            (PushStr(""), Done, A30, AsMade),
+            (InsertStr(30, ""), Done, A30, AsMade),
         ],
     ),
 ];
 
 #[test]
-fn a_character_stays_inline_up_to_30_bytes(rt: HostRuntime) {
-    assert_each_alone(&rt, rt.alloc(), CHARACTERS_THAT_FIT);
-    assert_each_alone(&rt, rt.alloc(), CHARACTERS_TOO_LONG);
+fn texts_grow(rt: HostRuntime) {
+    assert_each(&rt, rt.alloc(), GROWN);
 }
 
-#[test]
-fn a_hundred_insertions_at_the_front_pass_from_inline_to_the_heap(rt: HostRuntime) {
-    assert_repeated_everywhere(&rt, rt.alloc(), InsertStr(0, "foo"), "foo", 100);
-}
-
-const NOTHING_ADDED: &[List] = &[(
-    LETTERS_30,
+/// Each command, given to an empty text, and past 30 bytes.
+const EVERY_COMMAND: &[List] = &[(
+    "",
     &[
-        (PushStr(""), Done, LETTERS_30, AsMade),
-        (InsertStr(30, ""), Done, LETTERS_30, AsMade),
+        (PushStr(""), Done, "", AsMade),
+        (Push('é'), Done, "é", AsMade),
+        (PushStr("fg"), Done, "éfg", AsMade),
+        (Insert(2, 'x'), Done, "éxfg", AsMade),
+        (InsertStr(0, "ab"), Done, "abéxfg", AsMade),
+        // Cuts.
+        (Remove(2), Char('é'), "abxfg", AsMade),
+        (Truncate(3), Done, "abx", AsMade),
+        (Pop, Char('x'), "ab", AsMade),
+        // Replacements.
+        (ReplaceBytes(b"a"), WrongLength, "ab", AsMade),
+        (ReplaceBytes(&[0xC3, 0x61]), NotUtf8, "ab", AsMade),
+        (ReplaceBytes(b"yz"), Done, "yz", AsMade),
+        // Room.
+        (Reserve(28), Done, "yz", AsMade),
+        (ShrinkToFit, Done, "yz", Shrunk),
+        (ReserveExact(29), Done, "yz", OnHeap),
+        (ShrinkToFit, Done, "yz", Shrunk),
+        (Clear, Done, "", Shrunk),
     ],
 )];
 
 #[test]
-fn the_empty_text_fits_a_full_one(rt: HostRuntime) {
-    assert_each(&rt, rt.alloc(), NOTHING_ADDED);
+fn each_command_is_given_to_each_kind_of_text(rt: HostRuntime) {
+    assert_each(&rt, rt.alloc(), EVERY_COMMAND);
+}
+
+#[test]
+fn a_text_goes_from_inline_to_the_heap_letter_by_letter(rt: HostRuntime) {
+    let alloc = rt.alloc();
+    assert_repeated(&rt, alloc, EVERYWHERE, Push('a'), "a", 31);
+    assert_repeated(&rt, alloc, EVERYWHERE, Insert(0, 'a'), "a", 31);
+    assert_repeated(&rt, alloc, EVERYWHERE, InsertStr(0, "foo"), "foo", 100);
 }
 
 /// 28 bytes.
 const ADDED: &str = "0123456789012345678901234567";
+
+/// "small" and `LONG`.
+const SMALL_AND_LONG: &str = "smallthis is a really long string that is much larger than
+                        INLINE_STRING_CAPACITY and so cannot be stored inline.";
+
+/// "hi world" and `LONG`.
+const HI_WORLD_AND_LONG: &str = "hi worldthis is a really long string that is much larger than
+                        INLINE_STRING_CAPACITY and so cannot be stored inline.";
 
 const OUTGROWN: &[List] = &[
     (
@@ -169,7 +110,7 @@ const OUTGROWN: &[List] = &[
                 "f0123456789012345678901234567oo",
                 OnHeap,
             ),
-            // Past the room at hand.
+            // Past the capacity.
             (
                 InsertStr(30, ADDED),
                 Done,
@@ -178,6 +119,31 @@ const OUTGROWN: &[List] = &[
             ),
         ],
     ),
+    (
+        "",
+        &[
+            (PushStr("small"), Done, "small", AsMade),
+            (PushStr(LONG), Done, SMALL_AND_LONG, OnHeap),
+        ],
+    ),
+    ("small", &[(PushStr(LONG), Done, SMALL_AND_LONG, OnHeap)]),
+    (
+        "hi world",
+        &[(PushStr(LONG), Done, HI_WORLD_AND_LONG, OnHeap)],
+    ),
+    (
+        "inline",
+        &[(PushStr("it works!"), Done, "inlineit works!", AsMade)],
+    ),
+    (
+        "this is a plain std::string::String",
+        &[(
+            PushStr("it works!"),
+            Done,
+            "this is a plain std::string::Stringit works!",
+            OnHeap,
+        )],
+    ),
 ];
 
 #[test]
@@ -185,36 +151,52 @@ fn texts_outgrow_the_limit_in_the_middle_and_at_the_end(rt: HostRuntime) {
     assert_each(&rt, rt.alloc(), OUTGROWN);
 }
 
-/// 53 bytes.
-const LONG: &str = "0123456789caaaaaaaaaaaaaaaaaaaaaaaaaaaaaaab0123456789";
+const TEN: &str = "0123456789";
 
-/// Growths past the room at hand, one after the other.
-const GROWN_ON_THE_HEAP: &[List] = &[(
-    LETTERS_31,
-    &[
-        (
-            Insert(0, 'c'),
-            Done,
-            "caaaaaaaaaaaaaaaaaaaaaaaaaaaaaaa",
-            OnHeap,
-        ),
-        (Push('b'), Done, "caaaaaaaaaaaaaaaaaaaaaaaaaaaaaaab", OnHeap),
-        (
-            PushStr("0123456789"),
-            Done,
-            "caaaaaaaaaaaaaaaaaaaaaaaaaaaaaaab0123456789",
-            OnHeap,
-        ),
-        (InsertStr(0, "0123456789"), Done, LONG, OnHeap),
-        (Reserve(100), Done, LONG, OnHeap),
-        (ReserveExact(1000), Done, LONG, OnHeap),
-        (ShrinkToFit, Done, LONG, OnHeap),
-    ],
-)];
+const C: &str = "caaaaaaaaaaaaaaaaaaaaaaaaaaaaaaa";
+
+const CB: &str = "caaaaaaaaaaaaaaaaaaaaaaaaaaaaaaab";
+
+const CB_TEN: &str = "caaaaaaaaaaaaaaaaaaaaaaaaaaaaaaab0123456789";
+
+const TEN_CB_TEN: &str = "0123456789caaaaaaaaaaaaaaaaaaaaaaaaaaaaaaab0123456789";
+
+/// Growths past the capacity, one after the other, and after a shrink each.
+const GROWN_ON_THE_HEAP: &[List] = &[
+    (
+        A31,
+        &[
+            (Insert(0, 'c'), Done, C, OnHeap),
+            (Push('b'), Done, CB, OnHeap),
+            (PushStr(TEN), Done, CB_TEN, OnHeap),
+            (InsertStr(0, TEN), Done, TEN_CB_TEN, OnHeap),
+            (Reserve(100), Done, TEN_CB_TEN, OnHeap),
+            (ReserveExact(1000), Done, TEN_CB_TEN, OnHeap),
+            (ShrinkToFit, Done, TEN_CB_TEN, OnHeap),
+        ],
+    ),
+    (
+        A31,
+        &[
+            (ShrinkToFit, Done, A31, OnHeap),
+            (Insert(0, 'c'), Done, C, OnHeap),
+            (ShrinkToFit, Done, C, OnHeap),
+            (Push('b'), Done, CB, OnHeap),
+            (ShrinkToFit, Done, CB, OnHeap),
+            (PushStr(TEN), Done, CB_TEN, OnHeap),
+            (ShrinkToFit, Done, CB_TEN, OnHeap),
+            (InsertStr(0, TEN), Done, TEN_CB_TEN, OnHeap),
+            (ShrinkToFit, Done, TEN_CB_TEN, OnHeap),
+            (Reserve(50), Done, TEN_CB_TEN, OnHeap),
+            (ShrinkToFit, Done, TEN_CB_TEN, OnHeap),
+            (ReserveExact(50), Done, TEN_CB_TEN, OnHeap),
+        ],
+    ),
+];
 
 #[test]
 fn a_text_on_the_heap_goes_on_growing(rt: HostRuntime) {
-    assert!(rt; LONG.len() == 53);
+    assert!(rt; TEN_CB_TEN.len() == 53);
     assert_each(&rt, rt.alloc(), GROWN_ON_THE_HEAP);
 }
 
@@ -223,9 +205,12 @@ fn a_hundred_thousand_bytes_go_in_at_once(rt: HostRuntime) {
     let alloc = rt.alloc();
     let long = whole_of(&rt, alloc, "a", 100_000);
     let whole = whole_of(&rt, alloc, "a", 100_030);
-    let steps = [
-        (PushStr(long.as_str()), Done, whole.as_str(), OnHeap),
-        (InsertStr(30, long.as_str()), Done, whole.as_str(), OnHeap),
-    ];
-    assert_each_alone(&rt, alloc, &[(LETTERS_30, &steps)]);
+    for command in [PushStr(long.as_str()), InsertStr(30, long.as_str())] {
+        let steps = [(command, Done, whole.as_str(), OnHeap)];
+        let row = Row {
+            ways: ONE_BY_ONE,
+            ..ample(A30, &steps)
+        };
+        assert_right(&rt, play(&rt, alloc, EVERYWHERE, 0, row));
+    }
 }

@@ -2,124 +2,127 @@
 //! What its edits do is tested with the steps of all texts, which play on it as an `ArrayText`.
 ghost use Rattle.std.specs.Prelude.{◌≤◌};
 
-use crate::steps::{assert_right, play};
-use crate::texts::assert_no_wrong_row;
 use inlinable_string::inline_string::{NotEnoughSpaceError, ReplaceError};
-use inlinable_string::run::Command::{Push, PushStr, Remove, Truncate};
-use inlinable_string::run::Reply::{Char, Done};
 use inlinable_string::{INLINE_STRING_CAPACITY, InlineString, InlineStringN};
 use std::process::Abort;
-use test_support::ArrayText;
-use test_support::letters::{LETTERS_28, LETTERS_30};
-use test_support::step::Where::AsMade;
-use test_support::step::{Home, Step, new_kind};
+use test_support::letters::{LETTERS_28 as A28, LETTERS_30 as A30};
 
-/// The answer to a growth; `None` where its place is none of the text.
-type Growth = Option<Result<(), NotEnoughSpaceError>>;
-
-fn insert_at<const N: usize>(text: &mut InlineStringN<N>, idx: usize, ch: char) -> Growth {
-    if text.is_char_boundary(idx) {
-        Some(text.insert(idx, ch))
-    } else {
-        None
-    }
+/// A growth of an array: a character or a text at the end, or at a place.
+#[derive(Clone, Copy)]
+enum Growth<'a> {
+    Push(char),
+    PushStr(&'a str),
+    Insert(usize, char),
+    InsertStr(usize, &'a str),
 }
 
-fn insert_str_at<const N: usize>(text: &mut InlineStringN<N>, idx: usize, string: &str) -> Growth {
-    if text.is_char_boundary(idx) {
-        Some(text.insert_str(idx, string))
-    } else {
-        None
-    }
-}
-
-/// The answers to each growth by this character.
-fn answers_to_growths<const N: usize>(
+fn grow<const N: usize>(
+    rt: &impl Abort,
     text: &mut InlineStringN<N>,
-    added: &str,
-    ch: char,
-) -> [Growth; 4] {
-    [
-        Some(text.push(ch)),
-        Some(text.push_str(added)),
-        insert_at(text, 0, ch),
-        insert_str_at(text, 28, added),
-    ]
+    growth: Growth,
+) -> Result<(), NotEnoughSpaceError> {
+    match growth {
+        Growth::Push(ch) => text.push(ch),
+        Growth::PushStr(string) => text.push_str(string),
+        Growth::Insert(idx, ch) => {
+            assert!(rt; text.is_char_boundary(idx));
+            text.insert(idx, ch)
+        }
+        Growth::InsertStr(idx, string) => {
+            assert!(rt; text.is_char_boundary(idx));
+            text.insert_str(idx, string)
+        }
+    }
 }
+
+/// Growths of an array of 30 bytes in turn, which of them fit, and the text after each.
+const GROWTHS: &[(Growth, bool, &str)] = &[
+    (Growth::Push('€'), false, A28),
+    (Growth::PushStr("€"), false, A28),
+    (Growth::Insert(0, '€'), false, A28),
+    (Growth::InsertStr(28, "€"), false, A28),
+    (Growth::InsertStr(28, ""), true, A28),
+    (Growth::PushStr(""), true, A28),
+    (Growth::PushStr("aa"), true, A30),
+    (Growth::Push('a'), false, A30),
+    (Growth::Insert(30, 'a'), false, A30),
+    (Growth::PushStr(""), true, A30),
+    (Growth::InsertStr(30, ""), true, A30),
+];
 
 #[test]
 fn what_does_not_fit_is_answered_by_an_error_of_its_own(rt: HostRuntime) {
     assert!(rt; INLINE_STRING_CAPACITY == 30);
-    let mut text = InlineString::from(LETTERS_28);
-    let refused = answers_to_growths(&mut text, "€", '€');
-    let is_kept = text.as_str() == LETTERS_28;
-    assert!(rt;
-        is_kept && refused == [Some(Err(NotEnoughSpaceError)); 4],
-        "{refused:?}"
-    );
-    let nothing = (
-        insert_str_at(&mut text, 28, ""),
-        text.push_str(""),
-        text.push_str("aa"),
-    );
-    let is_full = text.as_str() == LETTERS_30 && text.len() == 30;
-    assert!(rt;
-        is_full && nothing == (Some(Ok(())), Ok(()), Ok(())),
-        "{nothing:?}"
-    );
+    let mut text = InlineString::from(A28);
+    for (i, &(growth, fits, content)) in GROWTHS.iter().enumerate() {
+        let answer = grow(&rt, &mut text, growth);
+        let wanted = if fits {
+            Ok(())
+        } else {
+            Err(NotEnoughSpaceError)
+        };
+        assert!(rt;
+            answer == wanted && text.as_str() == content,
+            "growth {i}: {answer:?}"
+        );
+    }
+    let mut none = InlineStringN::<0>::new();
+    let answers = (none.push_str(""), none.push('a'));
+    assert!(rt; answers.0 == Ok(()) && answers.1 == Err(NotEnoughSpaceError));
+    assert!(rt; none.is_empty());
 }
+
+/// Bytes for the text "é", and the answer to each.
+const REPLACED: &[(&[u8], Result<(), ReplaceError>)] = &[
+    (&[0xFF], Err(ReplaceError::WrongLength)),
+    (&[0xC3, 0x61], Err(ReplaceError::NotUtf8)),
+    (&[0x61, 0x62], Ok(())),
+];
 
 #[test]
 fn cuts_and_replacements_have_answers_of_their_own(rt: HostRuntime) {
     let mut text = InlineString::from("é");
-    let replaced = [
-        text.replace_bytes(&[0xFF]),
-        text.replace_bytes(&[0xC3, 0x61]),
-        text.replace_bytes(&[0x61, 0x62]),
-    ];
-    let wanted = [
-        Err(ReplaceError::WrongLength),
-        Err(ReplaceError::NotUtf8),
-        Ok(()),
-    ];
-    let is_ab = text.as_str() == "ab" && text.eq_str("ab") && !text.eq_str("é");
-    assert!(rt; replaced == wanted && is_ab, "{replaced:?}");
-    let popped = [text.pop(), text.pop(), text.pop()];
-    assert!(rt;
-        popped == [Some('b'), Some('a'), None] && text.is_empty(),
-        "{popped:?}"
-    );
+    for &(bytes, wanted) in REPLACED {
+        let answer = text.replace_bytes(bytes);
+        assert!(rt; answer == wanted, "{answer:?}");
+    }
+    assert!(rt; text.as_str() == "ab" && text.eq_str("ab") && !text.eq_str("é"));
+    for wanted in [Some('b'), Some('a'), None] {
+        let popped = text.pop();
+        assert!(rt; popped == wanted, "{popped:?}");
+    }
+    assert!(rt; text.is_empty());
 }
-
-const GROWN_FROM_EMPTY: &[Step] = &[
-    (PushStr(""), Done, "", AsMade),
-    (Push('a'), Done, "a", AsMade),
-];
 
 #[test]
 fn a_text_is_empty_where_it_has_no_character(rt: HostRuntime) {
-    for text in [InlineString::new(), InlineString::default()] {
-        let is_empty = text.is_empty() && text.as_str() == "" && text.as_bytes().is_empty();
-        assert!(rt; is_empty);
-        let kind = new_kind(Home::Array(30));
-        assert_right(&rt, play(&mut ArrayText(text), kind, "", GROWN_FROM_EMPTY));
+    for mut text in [InlineString::new(), InlineString::default()] {
+        assert!(rt; text.is_empty() && text.as_str() == "" && text.as_bytes().is_empty());
+        assert!(rt; text.push_str("").is_ok() && text.is_empty());
+        assert!(rt; text.push('a').is_ok() && !text.is_empty() && text.len() == 1);
     }
 }
 
-/// The start of a text, steps on it, and which bytes it has then and shows with the zeros after
-/// them.
-pub type BytesRow<'a> = (&'a str, &'a [Step<'a>], &'a [u8]);
+/// The start of a text, how many characters are removed from its front, to which length it is cut
+/// and what is pushed then, and its bytes with the zeros after them.
+pub type BytesRow<'a> = (&'a str, usize, usize, &'a str, &'a [u8]);
 
 /// The first row that is wrong.
 pub fn wrong_bytes<const N: usize>(rt: &impl Abort, rows: &[BytesRow]) -> Option<usize>
     requires { N ≤ 300 }
 {
-    for (i, &(start, steps, bytes)) in rows.iter().enumerate() {
+    for (i, &(start, removed, len, pushed, bytes)) in rows.iter().enumerate() {
         assert!(rt; start.len() <= N);
-        let mut text = ArrayText::<N>(InlineStringN::from(start));
-        let is_played = play(&mut text, new_kind(Home::Array(N)), start, steps).is_ok();
-        let is_shown = bytes.starts_with(text.0.as_bytes());
-        if !is_played || !is_shown || &text.0.into_bytes()[..] != bytes {
+        let mut text = InlineStringN::<N>::from(start);
+        for _ in 0..removed {
+            assert!(rt; text.is_char_boundary(0) && 0 < text.len());
+            text.remove(0);
+        }
+        assert!(rt; text.is_char_boundary(len));
+        text.truncate(len);
+        let is_pushed = text.push_str(pushed).is_ok();
+        let is_shown = bytes.starts_with(text.as_bytes());
+        if !is_pushed || !is_shown || &text.into_bytes()[..] != bytes {
             return Some(i);
         }
     }
@@ -129,51 +132,35 @@ pub fn wrong_bytes<const N: usize>(rt: &impl Abort, rows: &[BytesRow]) -> Option
 const BYTES_OF_30: &[BytesRow] = &[
     (
         "hello",
-        &[],
+        0,
+        5,
+        "",
         b"hello\0\0\0\0\0\0\0\0\0\0\0\0\0\0\0\0\0\0\0\0\0\0\0\0\0",
     ),
     // What was cut off does not show.
     (
         "hello",
-        &[(Truncate(2), Done, "he", AsMade)],
+        0,
+        2,
+        "",
         b"he\0\0\0\0\0\0\0\0\0\0\0\0\0\0\0\0\0\0\0\0\0\0\0\0\0\0\0\0",
     ),
 ];
 
-const BYTES_OF_8: &[BytesRow] = &[("hello", &[], b"hello\0\0\0")];
-
-const BYTES_OF_5: &[BytesRow] = &[("hello", &[], b"hello")];
-
 const BYTES_OF_4: &[BytesRow] = &[
-    ("aé", &[], b"a\xC3\xA9\0"),
-    ("𝄞", &[], b"\xF0\x9D\x84\x9E"),
+    ("aé", 0, 3, "", b"a\xC3\xA9\0"),
+    ("𝄞", 0, 4, "", b"\xF0\x9D\x84\x9E"),
     // What was removed does not show.
-    (
-        "abcd",
-        &[
-            (Remove(0), Char('a'), "bcd", AsMade),
-            (Push('e'), Done, "bcde", AsMade),
-        ],
-        &[0x62, 0x63, 0x64, 0x65],
-    ),
+    ("abcd", 1, 3, "e", &[0x62, 0x63, 0x64, 0x65]),
 ];
-
-const BYTES_OF_3: &[BytesRow] = &[("€", &[], b"\xE2\x82\xAC")];
-
-const BYTES_OF_1: &[BytesRow] = &[("", &[], b"\0")];
-
-const BYTES_OF_0: &[BytesRow] = &[("", &[], b"")];
 
 #[test]
 fn the_bytes_are_those_of_the_text_and_then_zeros(rt: HostRuntime) {
-    let wrong = [
-        wrong_bytes::<30>(&rt, BYTES_OF_30),
-        wrong_bytes::<8>(&rt, BYTES_OF_8),
-        wrong_bytes::<5>(&rt, BYTES_OF_5),
-        wrong_bytes::<4>(&rt, BYTES_OF_4),
-        wrong_bytes::<3>(&rt, BYTES_OF_3),
-        wrong_bytes::<1>(&rt, BYTES_OF_1),
-        wrong_bytes::<0>(&rt, BYTES_OF_0),
-    ];
-    assert_no_wrong_row(&rt, &wrong);
+    assert!(rt; wrong_bytes::<30>(&rt, BYTES_OF_30).is_none());
+    assert!(rt; wrong_bytes::<8>(&rt, &[("hello", 0, 5, "", b"hello\0\0\0")]).is_none());
+    assert!(rt; wrong_bytes::<5>(&rt, &[("hello", 0, 5, "", b"hello")]).is_none());
+    assert!(rt; wrong_bytes::<4>(&rt, BYTES_OF_4).is_none());
+    assert!(rt; wrong_bytes::<3>(&rt, &[("€", 0, 3, "", b"\xE2\x82\xAC")]).is_none());
+    assert!(rt; wrong_bytes::<1>(&rt, &[("", 0, 0, "", b"\0")]).is_none());
+    assert!(rt; wrong_bytes::<0>(&rt, &[("", 0, 0, "", b"")]).is_none());
 }

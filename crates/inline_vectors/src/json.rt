@@ -1,31 +1,26 @@
-//! Texts as JSON strings, and JSON values as texts.
-ghost use Rattle.std.specs.Prelude.{◌≤◌};
-
-use crate::held::all_but;
-use crate::texts::{is_lying, is_text, text_of};
-use Answer::{NoMemory, NotString, Other, Right};
+//! Texts as JSON strings, and JSON values as texts. That each limit takes JSON strings as `from`
+//! takes texts stands in `makers::conversions`.
+use crate::held::Memory::{self, Ample, Held, OneBlock};
+use crate::held::hold;
+use crate::makers::grants;
+use crate::texts::{is_lying, text_of};
+use crate::ways::HEAP_ROOM;
 use Storage::{Heap, Inline};
 use inlinable_string::inline_json::JsonError;
-use inlinable_string::{InlinableString, InlinableStringN, Storage, StringExt};
+use inlinable_string::{InlinableString, Storage, StringExt};
 use serde_json::Value;
 use std::alloc::{AllocError, Global};
 use std::process::Abort;
-use test_support::letters::{LETTERS_30, LETTERS_31};
-use test_support::step::HEAP_ROOM;
+use test_support::letters::LETTERS_31;
 
-mod wrong_tables;
-
-/// JSON, and the text that it is with where that lies; `None` where it is not a string.
+/// JSON, and the text that it is with its storage; `None` where it is not a string.
 pub type JsonRow<'a> = (&'a str, Option<(&'a str, Storage)>);
 
-const READ_AT_30: &[JsonRow] = &[
+const READ: &[JsonRow] = &[
     ("\"small\"", Some(("small", Inline))),
     ("\"\"", Some(("", Inline))),
+    ("\"hi\"", Some(("hi", Inline))),
     ("\"\\u00e9\\ud834\\udd1e\\n\"", Some(("é𝄞\n", Inline))),
-    (
-        "\"aaaaaaaaaaaaaaaaaaaaaaaaaaaaaa\"",
-        Some((LETTERS_30, Inline)),
-    ),
     (
         "\"aaaaaaaaaaaaaaaaaaaaaaaaaaaaaaa\"",
         Some((LETTERS_31, Heap)),
@@ -33,6 +28,7 @@ const READ_AT_30: &[JsonRow] = &[
     ("5", None),
     ("-5", None),
     ("1.5", None),
+    ("12345678", None),
     ("null", None),
     ("true", None),
     ("false", None),
@@ -42,28 +38,12 @@ const READ_AT_30: &[JsonRow] = &[
     ("{\"a\": \"b\"}", None),
 ];
 
-const READ_AT_8: &[JsonRow] = &[
-    ("\"12345678\"", Some(("12345678", Inline))),
-    ("\"123456789\"", Some(("123456789", Heap))),
-    ("12345678", None),
-];
-
-const READ_AT_0: &[JsonRow] = &[
-    ("\"\"", Some(("", Inline))),
-    ("\"a\"", Some(("a", Heap))),
-    ("[]", None),
-];
-
-/// Whether the value is read as the row says, and the text is written as the string that it was.
-fn is_read<const N: usize>(alloc: Global, value: &Value, row: Option<(&str, Storage)>) -> bool
-    requires { N ≤ 300 }
-{
-    match (InlinableStringN::<N>::from_json(alloc, value), row) {
-        (Ok(text), Some((content, storage))) => {
-            let Ok(written) = text.to_json() else {
-                return false;
-            };
-            is_text(&text, content) && text.storage() == storage && written == *value
+/// Whether the value is this text with its storage, or no string.
+fn is_read(alloc: Global, value: &Value, memory: Memory, wanted: Option<(&str, Storage)>) -> bool {
+    match (InlinableString::from_json(alloc, value), wanted) {
+        (Ok(text), Some((content, storage))) => is_lying(&text, content, storage),
+        (Err(JsonError::NoMemory), Some((content, storage))) => {
+            storage == Heap && !grants(memory, content.len())
         }
         (Err(JsonError::NotString), None) => true,
         _ => false,
@@ -71,12 +51,18 @@ fn is_read<const N: usize>(alloc: Global, value: &Value, row: Option<(&str, Stor
 }
 
 /// The first row that is wrong.
-pub fn wrong_json<const N: usize>(rt: &impl Abort, alloc: Global, rows: &[JsonRow]) -> Option<usize>
-    requires { N ≤ 300 }
-{
-    for (i, &(json, row)) in rows.iter().enumerate() {
+pub fn wrong_read(
+    rt: &impl Abort,
+    alloc: Global,
+    memory: Memory,
+    rows: &[JsonRow],
+) -> Option<usize> {
+    for (i, &(json, wanted)) in rows.iter().enumerate() {
         let value = Value::from_str(alloc, json).expect(rt, "JSON");
-        if !is_read::<N>(alloc, &value, row) {
+        let hoard = hold(rt, alloc, memory);
+        let is_right = is_read(alloc, &value, memory, wanted);
+        drop(hoard);
+        if !is_right {
             return Some(i);
         }
     }
@@ -85,91 +71,51 @@ pub fn wrong_json<const N: usize>(rt: &impl Abort, alloc: Global, rows: &[JsonRo
 
 #[test]
 fn a_json_string_is_a_text_and_no_other_value_is(rt: HostRuntime) {
-    let alloc = rt.alloc();
-    let wrong = [
-        wrong_json::<30>(&rt, alloc, READ_AT_30),
-        wrong_json::<8>(&rt, alloc, READ_AT_8),
-        wrong_json::<0>(&rt, alloc, READ_AT_0),
-    ];
-    assert!(&rt; wrong == [None; 3], "{wrong:?}");
+    let wrong = wrong_read(&rt, rt.alloc(), Ample, READ);
+    assert!(&rt; wrong.is_none(), "{wrong:?}");
 }
 
 #[test]
-fn a_short_heap_text_comes_back_inline_through_json(rt: HostRuntime) {
-    let alloc = rt.alloc();
-    let text: InlinableString = text_of(&rt, alloc, HEAP_ROOM, "hi");
-    let value = text.to_json().expect(&rt, "memory");
-    assert!(&rt; value.as_str() == Some("hi") && text.storage() == Heap);
-    assert!(&rt; is_read::<30>(alloc, &value, Some(("hi", Inline))));
+fn a_json_string_requests_memory_only_where_it_does_not_fit_inline(rt: HostRuntime) {
+    let wrong = wrong_read(&rt, rt.alloc(), Held, READ);
+    assert!(&rt; wrong.is_none(), "{wrong:?}");
 }
 
-/// What a call answers.
-#[derive(Clone, Copy, Debug, PartialEq)]
-pub enum Answer {
-    /// The text or the value that it must give.
-    Right,
-    /// Another one.
-    Other,
-    NotString,
-    NoMemory,
-}
+/// A text and the capacity that it is made with, and the memory that is left.
+pub type WriteRow<'a> = (&'a str, Option<usize>, Memory);
 
-/// The text must lie inline where it has at most `N` bytes.
-fn answer_to_from_json<const N: usize>(alloc: Global, value: &Value, content: &str) -> Answer
-    requires { N ≤ 300 }
-{
-    let storage = if content.len() <= N { Inline } else { Heap };
-    match InlinableStringN::<N>::from_json(alloc, value) {
-        Ok(text) if is_lying(&text, content, storage) => Right,
-        Ok(_) => Other,
-        Err(JsonError::NotString) => NotString,
-        Err(JsonError::NoMemory) => NoMemory,
-    }
-}
-
-fn answer_to_to_json(text: &InlinableString, content: &str) -> Answer {
-    match text.to_json() {
-        Ok(value) if value.as_str() == Some(content) && is_text(text, content) => Right,
-        Ok(_) => Other,
-        Err(AllocError) if is_text(text, content) => NoMemory,
-        Err(AllocError) => Other,
-    }
-}
-
-/// JSON, the text that it is, the one block of memory that can be had, of so many bytes, and what
-/// `from_json` answers then.
-pub type MemoryRow<'a> = (&'a str, &'a str, Option<usize>, Answer);
-
+/// 40 bytes.
 const TEN_CLEFS: &str = "𝄞𝄞𝄞𝄞𝄞𝄞𝄞𝄞𝄞𝄞";
 
-// The C library has blocks of 24 bytes, of 40, of 56 and so on, so a request of 41 bytes would not
-// be granted.
-const WITHOUT_MEMORY: &[MemoryRow] = &[
-    (
-        "\"aaaaaaaaaaaaaaaaaaaaaaaaaaaaaa\"",
-        LETTERS_30,
-        None,
-        Right,
-    ),
-    (
-        "\"aaaaaaaaaaaaaaaaaaaaaaaaaaaaaaa\"",
-        LETTERS_31,
-        None,
-        NoMemory,
-    ),
-    ("\"𝄞𝄞𝄞𝄞𝄞𝄞𝄞𝄞𝄞𝄞\"", TEN_CLEFS, Some(40), Right),
-    ("\"𝄞𝄞𝄞𝄞𝄞𝄞𝄞𝄞𝄞𝄞\"", TEN_CLEFS, None, NoMemory),
-    ("12345678", "12345678", None, NotString),
+// With one block of 40 bytes, the C library refuses 41.
+const WRITTEN: &[WriteRow] = &[
+    ("", None, Held),
+    ("small", None, Ample),
+    ("small", None, Held),
+    ("é𝄞\n", None, Ample),
+    ("hi", HEAP_ROOM, Ample),
+    (LETTERS_31, None, Ample),
+    (TEN_CLEFS, None, OneBlock(40)),
 ];
 
+/// Whether the text becomes this JSON string, and is unchanged.
+fn is_written(text: &InlinableString, content: &str, is_granted: bool) -> bool {
+    let storage = text.storage();
+    let is_right = match text.to_json() {
+        Ok(value) => is_granted && value.as_str() == Some(content),
+        Err(AllocError) => !is_granted,
+    };
+    is_right && is_lying(text, content, storage)
+}
+
 /// The first row that is wrong.
-pub fn wrong_without_memory(rt: &impl Abort, alloc: Global, rows: &[MemoryRow]) -> Option<usize> {
-    for (i, &(json, content, block, answer)) in rows.iter().enumerate() {
-        let value = Value::from_str(alloc, json).expect(rt, "JSON");
-        let hoard = all_but(rt, alloc, block);
-        let given = answer_to_from_json::<30>(alloc, &value, content);
+pub fn wrong_written(rt: &impl Abort, alloc: Global, rows: &[WriteRow]) -> Option<usize> {
+    for (i, &(content, room, memory)) in rows.iter().enumerate() {
+        let text: InlinableString = text_of(rt, alloc, room, content);
+        let hoard = hold(rt, alloc, memory);
+        let is_right = is_written(&text, content, grants(memory, content.len()));
         drop(hoard);
-        if given != answer {
+        if !is_right {
             return Some(i);
         }
     }
@@ -177,24 +123,7 @@ pub fn wrong_without_memory(rt: &impl Abort, alloc: Global, rows: &[MemoryRow]) 
 }
 
 #[test]
-fn a_json_string_asks_for_memory_only_where_it_does_not_fit_inline(rt: HostRuntime) {
-    let wrong = wrong_without_memory(&rt, rt.alloc(), WITHOUT_MEMORY);
-    assert!(&rt; wrong == None, "{wrong:?}");
-}
-
-#[test]
-fn a_text_asks_once_for_its_json_string(rt: HostRuntime) {
-    let alloc = rt.alloc();
-    let small: InlinableString = text_of(&rt, alloc, None, "small");
-    let long: InlinableString = text_of(&rt, alloc, None, TEN_CLEFS);
-    let hoard = all_but(&rt, alloc, None);
-    let refused = answer_to_to_json(&small, "small");
-    drop(hoard);
-    let hoard = all_but(&rt, alloc, Some(40));
-    let granted = answer_to_to_json(&long, TEN_CLEFS);
-    drop(hoard);
-    assert!(&rt;
-        refused == NoMemory && granted == Right,
-        "{refused:?}, {granted:?}"
-    );
+fn a_text_requests_memory_once_for_its_json_string(rt: HostRuntime) {
+    let wrong = wrong_written(&rt, rt.alloc(), WRITTEN);
+    assert!(&rt; wrong.is_none(), "{wrong:?}");
 }

@@ -2,15 +2,21 @@
 #![tactic(auto)]
 
 #[cfg(test)]
-mod borrowed;
+mod beside;
 #[cfg(test)]
-mod carried;
+mod borrowed;
 #[cfg(test)]
 mod compared;
 #[cfg(test)]
 mod cuts;
 #[cfg(test)]
+mod each;
+#[cfg(test)]
 mod encodings;
+#[cfg(test)]
+mod followed;
+#[cfg(test)]
+mod generated;
 #[cfg(test)]
 mod growths;
 #[cfg(test)]
@@ -22,6 +28,8 @@ mod joined;
 #[cfg(test)]
 mod json;
 #[cfg(test)]
+mod kinds;
+#[cfg(test)]
 mod limits;
 #[cfg(test)]
 mod makers;
@@ -30,9 +38,9 @@ mod memory;
 #[cfg(test)]
 mod moves;
 #[cfg(test)]
-mod objects;
-#[cfg(test)]
 mod places;
+#[cfg(test)]
+mod player;
 #[cfg(test)]
 mod printed;
 #[cfg(test)]
@@ -46,6 +54,6 @@ mod texts;
 #[cfg(test)]
 mod ways;
 #[cfg(test)]
-mod wrong_rows;
+mod wrong;
 #[cfg(test)]
-mod wrong_tables;
+mod wrong_rows;

@@ -1,23 +1,21 @@
 //! Limits other than 30 and 30 itself: none at all, some of few bytes, and one past a byte's range.
-ghost use Rattle.std.specs.Prelude.{◌≤◌};
-
-use crate::places;
-use crate::steps::{
-    List, Tally, assert_right, play_alone_within, play_each_alone_within, play_each_within,
-    play_on, play_repeated_within, whole_of,
+//! Characters just fit at each, or need one byte more: with memory, and while none can be had.
+use crate::kinds::Kind::{self, Boxable, Inlinable, String as OfString};
+use crate::player::{
+    EVERYWHERE, Kinds, Tally, ample, assert_repeated, assert_right, held, play, play_each,
+    play_each_alone, repeated, within,
 };
-use inlinable_string::InlinableStringN;
+use crate::steps::Where::{AsMade, OnHeap, Shrunk};
+use crate::steps::{List, where_at};
+use crate::texts::{text_of, whole_of};
 use inlinable_string::run::Command::{
     Insert, InsertStr, Pop, Push, PushStr, ReplaceBytes, Reserve, ReserveExact, ShrinkToFit,
 };
-use inlinable_string::run::Reply::{Char, Done, WrongLength};
+use inlinable_string::run::Reply::{Char, Done, NoMemory, WrongLength};
+use inlinable_string::{InlinableString, StringExt};
 use std::alloc::Global;
 use std::process::Abort;
-use test_support::step::Where::{AsMade, OnHeap, Shrunk};
-use test_support::step::{HEAP_ROOM, Home, Kind};
-use test_support::tally::{and_list, and_step};
-
-mod edges;
+use test_support::step::HEAP_ROOM;
 
 const WITHIN_0: &[List] = &[
     (
@@ -32,31 +30,20 @@ const WITHIN_0: &[List] = &[
     (
         "",
         &[
+            (PushStr(""), Done, "", AsMade),
             (ReplaceBytes(b"a"), WrongLength, "", AsMade),
             (ReplaceBytes(b""), Done, "", AsMade),
         ],
     ),
 ];
 
-#[test]
-fn with_no_room_inline_only_the_empty_text_comes_back(rt: HostRuntime) {
-    assert_right(&rt, play_each_within::<0>(&rt, rt.alloc(), WITHIN_0));
-}
-
-/// Makes a text with this room.
-fn play_made_within_0(rt: &impl Abort, alloc: Global, room: usize) -> Tally {
-    let kind = Kind {
-        home: Home::Either(0),
-        room: Some(room),
-    };
-    play_on::<InlinableStringN<0>>(rt, alloc, kind, "", &[])
-}
+const MADE_WITHIN_0: Kinds = (&[Inlinable], 0, &[Some(0), Some(1)]);
 
 #[test]
-fn with_no_room_inline_a_text_is_made_inline_for_no_bytes_alone(rt: HostRuntime) {
-    for room in 0..=1usize {
-        assert_right(&rt, play_made_within_0(&rt, rt.alloc(), room));
-    }
+fn with_no_room_inline_only_the_empty_text_is_inline(rt: HostRuntime) {
+    assert_right(&rt, play_each(&rt, rt.alloc(), within(0), WITHIN_0));
+    let made = play_each(&rt, rt.alloc(), MADE_WITHIN_0, &WITHIN_0[1..]);
+    assert_right(&rt, made);
 }
 
 const WITHIN_3: &[List] = &[("", &[(Push('𝄞'), Done, "𝄞", OnHeap)])];
@@ -69,97 +56,179 @@ const WITHIN_4: &[List] = &[(
     ],
 )];
 
-#[test]
-fn a_character_of_four_bytes_is_inline_at_4_and_on_the_heap_at_3(rt: HostRuntime) {
-    assert_right(&rt, play_each_within::<4>(&rt, rt.alloc(), WITHIN_4));
-    assert_right(&rt, play_each_within::<3>(&rt, rt.alloc(), WITHIN_3));
-}
-
-const WITHIN_8: &[List] = &[
-    ("1234", &[(Reserve(4), Done, "1234", AsMade)]),
-    ("1234", &[(ReserveExact(4), Done, "1234", AsMade)]),
-    ("1234", &[(Reserve(5), Done, "1234", OnHeap)]),
-    ("1234", &[(ReserveExact(5), Done, "1234", OnHeap)]),
-];
+const WITHIN_8: &[List] = &[(
+    "1234",
+    &[
+        (Reserve(4), Done, "1234", AsMade),
+        (ReserveExact(4), Done, "1234", AsMade),
+        (Reserve(5), Done, "1234", OnHeap),
+        (ReserveExact(5), Done, "1234", OnHeap),
+    ],
+)];
 
 #[test]
-fn reservations_go_by_the_limit_of_the_type(rt: HostRuntime) {
-    assert_right(&rt, play_each_within::<8>(&rt, rt.alloc(), WITHIN_8));
+fn characters_and_reservations_go_by_the_limit_of_the_type(rt: HostRuntime) {
+    let alloc = rt.alloc();
+    assert_right(&rt, play_each(&rt, alloc, within(3), WITHIN_3));
+    assert_right(&rt, play_each(&rt, alloc, within(4), WITHIN_4));
+    assert_right(&rt, play_each_alone(&rt, alloc, within(8), WITHIN_8));
 }
 
-/// Gives growths to a text of as many letters as its limit, at its front and its end.
-fn play_full<const N: usize>(rt: &impl Abort, alloc: Global) -> Tally
-    requires { N ≤ 300 }
-{
-    let full = whole_of(rt, alloc, "a", N);
-    let longer = whole_of(rt, alloc, "a", N.saturating_add(1));
-    let (full, longer) = (full.as_str(), longer.as_str());
+const LIMITS: &[usize] = &[0, 1, 3, 4, 30, 300];
+
+/// Fills the empty text and goes past the limit, and gives growths to the full text.
+fn assert_limit(rt: &impl Abort, alloc: Global, limit: usize) {
+    let kinds = within(limit);
+    let longer = whole_of(rt, alloc, "a", limit.saturating_add(1));
+    assert_repeated(rt, alloc, kinds, Push('a'), "a", longer.len());
+    assert_repeated(rt, alloc, kinds, Insert(0, 'a'), "a", longer.len());
+    let (longer, full) = (longer.as_str(), longer.get(1..).unwrap_or(""));
     let steps = [
-        (Push('a'), Done, longer, OnHeap),
         (PushStr("a"), Done, longer, OnHeap),
-        (Insert(0, 'a'), Done, longer, OnHeap),
-        (InsertStr(N, "a"), Done, longer, OnHeap),
+        (InsertStr(limit, "a"), Done, longer, OnHeap),
         (PushStr(""), Done, full, AsMade),
-        (InsertStr(N, ""), Done, full, AsMade),
+        (InsertStr(limit, ""), Done, full, AsMade),
     ];
-    play_alone_within::<N>(rt, alloc, full, &steps)
-}
-
-/// Fills the empty text and goes past its limit, by an edit that adds a letter, and gives growths
-/// to the full one.
-fn play_limit<const N: usize>(rt: &impl Abort, alloc: Global) -> Tally
-    requires { N ≤ 300 }
-{
-    let times = N.saturating_add(1);
-    let pushed = play_repeated_within::<N>(rt, alloc, Push('a'), "a", times)?;
-    let inserted = play_repeated_within::<N>(rt, alloc, Insert(0, 'a'), "a", times)?;
-    let full = play_full::<N>(rt, alloc)?;
-    Ok(pushed.saturating_add(inserted).saturating_add(full))
-}
-
-/// Each test of a limit at each of six limits; a fault has the limit as the number of its list.
-fn play_limits(rt: &impl Abort, alloc: Global) -> Tally {
-    let mut count = and_list(0, 30, play_limit::<30>(rt, alloc))?;
-    count = and_list(count, 0, play_limit::<0>(rt, alloc))?;
-    count = and_list(count, 1, play_limit::<1>(rt, alloc))?;
-    count = and_list(count, 3, play_limit::<3>(rt, alloc))?;
-    count = and_list(count, 4, play_limit::<4>(rt, alloc))?;
-    and_list(count, 300, play_limit::<300>(rt, alloc))
+    assert_right(rt, play_each_alone(rt, alloc, kinds, &[(full, &steps)]));
 }
 
 #[test]
 fn as_many_letters_as_the_limit_are_inline_and_no_more(rt: HostRuntime) {
-    assert_right(&rt, play_limits(&rt, rt.alloc()));
-}
-
-/// Each place of a text of 10 bytes, where it has no room left or much.
-#[test]
-fn places_are_the_same_at_each_limit(rt: HostRuntime) {
-    for list in places::ALL {
-        assert_right(&rt, play_each_alone_within::<13>(&rt, rt.alloc(), list));
-        assert_right(&rt, play_each_alone_within::<300>(&rt, rt.alloc(), list));
+    for &limit in LIMITS {
+        assert_limit(&rt, rt.alloc(), limit);
     }
 }
 
-/// Plays each step on a text of its own that lies on the heap, where three bytes would lie inline.
-fn play_alone_above_3(rt: &impl Abort, alloc: Global, lists: &[List]) -> Tally {
-    let kind = Kind {
-        home: Home::Either(3),
-        room: HEAP_ROOM,
-    };
-    let mut count = 0usize;
-    for (i, &(start, steps)) in lists.iter().enumerate() {
-        for (j, step) in steps.iter().enumerate() {
-            let answer = play_on::<InlinableStringN<3>>(rt, alloc, kind, start, &[*step]);
-            count = and_list(count, i, and_step(count, j, answer))?;
+/// A character of each length.
+const CHARACTERS: &[char] = &['a', 'é', '€', '𝄞'];
+
+/// Whether memory can be had while a character is put in.
+#[derive(Clone, Copy)]
+enum Edge {
+    WithMemory,
+    WithoutMemory,
+}
+
+/// Puts a character in at both ends of this many letters, each time into a text of its own. After
+/// an allocation failure the text is one to go on with.
+fn play_edge(
+    rt: &impl Abort,
+    alloc: Global,
+    kinds: Kinds,
+    edge: Edge,
+    ch: char,
+    count: usize,
+) -> Tally {
+    let mut back = whole_of(rt, alloc, "a", count);
+    let mut front = String::new(alloc);
+    front.push(ch).expect(rt, "memory");
+    front.push_str(back.as_str()).expect(rt, "memory");
+    back.push(ch).expect(rt, "memory");
+    let (back, front) = (back.as_str(), front.as_str());
+    let letters = back.get(..count).unwrap_or("");
+    let place = where_at(back.len(), kinds.1);
+    let after = [
+        (Push(ch), Done, back, place),
+        (Pop, Char(ch), letters, place),
+    ];
+    let mut right = 0usize;
+    for (command, content) in [
+        (Push(ch), back),
+        (Insert(0, ch), front),
+        (Insert(count, ch), back),
+    ] {
+        let granted = [(command, Done, content, place)];
+        let refused = [(command, NoMemory, letters, AsMade)];
+        let row = match edge {
+            Edge::WithMemory => ample(letters, &granted),
+            Edge::WithoutMemory if back.len() <= kinds.1 => held(letters, &granted, &[]),
+            Edge::WithoutMemory => held(letters, &refused, &after),
+        };
+        right = right.saturating_add(play(rt, alloc, kinds, count, row)?);
+    }
+    Ok(right)
+}
+
+/// Characters that just fit, and those of which one byte finds no room.
+fn assert_edges(rt: &impl Abort, alloc: Global, kinds: Kinds, edge: Edge) {
+    for &ch in CHARACTERS {
+        for whole in kinds.1..=kinds.1.saturating_add(1) {
+            if let Some(count) = whole.checked_sub(ch.len_utf8()) {
+                assert_right(rt, play_edge(rt, alloc, kinds, edge, ch, count));
+            }
         }
     }
-    Ok(count)
 }
 
 #[test]
-fn places_are_the_same_on_the_heap(rt: HostRuntime) {
-    for list in places::ALL {
-        assert_right(&rt, play_alone_above_3(&rt, rt.alloc(), list));
+fn a_character_is_inline_where_its_bytes_just_fit(rt: HostRuntime) {
+    for &limit in LIMITS {
+        let kinds = if limit == 30 {
+            EVERYWHERE
+        } else {
+            within(limit)
+        };
+        assert_edges(&rt, rt.alloc(), kinds, Edge::WithMemory);
     }
+}
+
+#[test]
+fn a_character_takes_no_memory_where_its_bytes_just_fit(rt: HostRuntime) {
+    for &limit in LIMITS {
+        let kinds: Kinds = (&[Inlinable], limit, &[None]);
+        assert_edges(&rt, rt.alloc(), kinds, Edge::WithoutMemory);
+    }
+}
+
+/// On the heap, at the capacity that a text made for 31 bytes has.
+fn assert_edges_on_heap(rt: &impl Abort, alloc: Global, kind: Kind, capacity: usize) {
+    let kinds: Kinds = match kind {
+        OfString => (&[OfString], 30, &[HEAP_ROOM]),
+        _ => (&[Inlinable], 30, &[HEAP_ROOM]),
+    };
+    for &ch in CHARACTERS {
+        let count = capacity.saturating_sub(ch.len_utf8());
+        let mut back = whole_of(rt, alloc, "a", count.saturating_add(1));
+        back.push(ch).expect(rt, "memory");
+        let (fuller, back) = (back.as_str(), back.get(1..).unwrap_or(""));
+        let letters = fuller.get(..count).unwrap_or("");
+        let full = fuller.get(..count.saturating_add(1)).unwrap_or("");
+        let granted = [(Push(ch), Done, back, OnHeap)];
+        let refused = [(Push(ch), NoMemory, full, OnHeap)];
+        assert_right(
+            rt,
+            play(rt, alloc, kinds, count, held(letters, &granted, &[])),
+        );
+        assert_right(rt, play(rt, alloc, kinds, count, held(full, &refused, &[])));
+    }
+}
+
+#[test]
+fn a_character_takes_no_memory_where_it_fills_the_room_on_the_heap(rt: HostRuntime) {
+    let alloc = rt.alloc();
+    let inlinable: InlinableString = text_of(&rt, alloc, HEAP_ROOM, "");
+    assert_edges_on_heap(&rt, alloc, Inlinable, inlinable.capacity());
+    let string: String = text_of(&rt, alloc, HEAP_ROOM, "");
+    assert_edges_on_heap(&rt, alloc, OfString, StringExt::capacity(&string));
+}
+
+/// Fills the empty text with letters up to its limit while no memory can be had.
+fn assert_filled(rt: &impl Abort, alloc: Global, kinds: Kinds) {
+    let longer = whole_of(rt, alloc, "a", kinds.1.saturating_add(1));
+    let (longer, full) = (longer.as_str(), longer.get(1..).unwrap_or(""));
+    let mut steps = repeated(rt, alloc, Push('a'), full.len(), full, kinds.1);
+    steps
+        .push((Push('a'), NoMemory, full, AsMade))
+        .expect(rt, "memory");
+    let after = [(Push('a'), Done, longer, OnHeap)];
+    assert_right(
+        rt,
+        play(rt, alloc, kinds, kinds.1, held("", &steps, &after)),
+    );
+}
+
+#[test]
+fn as_many_bytes_as_the_limit_take_no_memory(rt: HostRuntime) {
+    assert_filled(&rt, rt.alloc(), (&[Inlinable, Boxable], 30, &[None]));
+    assert_filled(&rt, rt.alloc(), (&[Inlinable], 300, &[None]));
 }

@@ -1,327 +1,377 @@
-//! Makers of texts, and the bytes of texts.
-ghost use Rattle.std.specs.Prelude.{◌≤◌};
-
-use crate::texts::{assert_no_wrong_row, is_lying};
+//! Makers of each kind of text, and `into_bytes`: with ample memory, with none, and with one block.
+use crate::held::Memory::{self, Ample, Held, OneBlock};
+use crate::held::hold;
+use crate::texts::{is_lying, text_of};
+use crate::ways::HEAP_ROOM;
+use Kind::{Limit0, Limit8, Limit30, Limit48};
+use Row::{Bytes, Capacity, IntoBytes, Paired, Steps, Unpaired};
 use Storage::{Heap, Inline};
 use inlinable_string::run::Command::{
     self, Insert, InsertStr, Pop, Push, PushStr, Reserve, ReserveExact, ShrinkToFit,
 };
 use inlinable_string::run::Reply::{self, Char, Done, NoChar};
 use inlinable_string::run::run;
-use inlinable_string::{InlinableString, InlinableStringN, Storage, StringExt, StringMake};
-use std::alloc::Global;
+use inlinable_string::{
+    InlinableString, InlinableStringN, Storage, StringExt, StringMake, Utf16Error,
+};
+use std::alloc::{AllocError, Global};
+use std::borrow::CowStr;
 use std::process::Abort;
 use std::str;
 use std::string::FromUtf8Error;
-use test_support::HeapText;
 use test_support::letters::{LETTERS_30, LETTERS_31};
+use test_support::{EmptyText, HeapText};
 
-mod conversions;
-mod memory;
-mod wrong_tables;
+pub mod conversions;
 
-/// Whether the text is this, lies there, and gives its bytes.
-fn is_whole<S: StringMake + Drop>(text: S, content: &str, storage: Storage) -> bool {
-    let is_right = is_lying(&text, content, storage);
-    match text.into_bytes() {
-        Ok(bytes) => is_right && bytes.as_slice() == content.as_bytes(),
-        Err(_) => false,
+/// A type of text, by its limit where it has one.
+#[derive(Clone, Copy, Debug)]
+pub enum Kind {
+    OfString,
+    /// `HeapText`, a user-defined type.
+    Own,
+    Limit0,
+    Limit8,
+    Limit30,
+    Limit48,
+}
+
+/// The kinds that are always on the heap.
+const HEAP_KINDS: &[Kind] = &[Kind::OfString, Kind::Own];
+
+/// The kinds that makers are called at.
+pub const KINDS: &[Kind] = &[Kind::OfString, Kind::Own, Limit0, Limit8, Limit30];
+
+/// What a maker is given, and what it makes.
+#[derive(Clone, Copy)]
+pub enum Row<'a> {
+    /// Units, and the text that both readers make of them.
+    Paired(&'a [u16], &'a str),
+    /// Units that `from_utf16` refuses, and the text that the other reader makes of them.
+    Unpaired(&'a [u16], &'a str),
+    /// Bytes, and the text that `from_utf8_lossy` reads. They are UTF-8 where they are its bytes.
+    Bytes(&'a [u8], &'a str),
+    /// A capacity, and where the empty text is that is made with it.
+    Capacity(usize, Storage),
+    /// The capacity that a text is made with, and the text that gives its bytes.
+    IntoBytes(Option<usize>, &'a str),
+    /// What `run` does, step by step, to a text of 31 letters that `from_utf8` makes.
+    Steps(&'a [Step<'a>]),
+}
+
+/// A command, its reply, and the text after it with its storage.
+pub type Step<'a> = (Command<'a>, Reply, &'a str, Storage);
+
+/// Whether a request of this size is granted, or none is needed. No size past `isize::MAX` is.
+pub fn grants(memory: Memory, size: usize) -> bool {
+    match memory {
+        Ample => size <= usize::MAX / 2,
+        Held => size == 0,
+        OneBlock(block) => size <= block,
     }
 }
 
-/// The same of a text from a maker that may be refused.
-fn is_made<S: StringMake + Drop, E: Drop>(
-    made: Result<S, E>,
+/// Whether this text was made, or none where memory is refused.
+pub fn is_made<S: StringExt + Drop>(
+    made: Result<S, AllocError>,
     content: &str,
     storage: Storage,
+    is_granted: bool,
 ) -> bool {
     match made {
-        Ok(text) => is_whole(text, content, storage),
-        Err(_) => false,
+        Ok(text) => is_granted && is_lying(&text, content, storage),
+        Err(AllocError) => !is_granted,
     }
 }
 
-/// Bytes, and the text that they are; `None` where they are not UTF-8.
-pub type BytesRow<'a> = (&'a [u8], Option<&'a str>);
+/// Whether both readers of units answer so. `Unpaired` comes before any request for memory.
+fn are_units_right<S: StringMake + Drop>(
+    rt: &impl Abort,
+    alloc: Global,
+    memory: Memory,
+    units: &[u16],
+    content: &str,
+    is_paired: bool,
+) -> bool {
+    let is_granted = grants(memory, content.len());
+    let hoard = hold(rt, alloc, memory);
+    let strict: Result<S, Utf16Error> = S::from_utf16(alloc, units);
+    let is_strict_right = match strict {
+        Ok(text) => is_paired && is_granted && is_lying(&text, content, Heap),
+        Err(Utf16Error::Unpaired) => !is_paired,
+        Err(Utf16Error::NoMemory) => is_paired && !is_granted,
+    };
+    let lossy: Result<S, AllocError> = S::from_utf16_lossy(alloc, units);
+    let is_lossy_right = is_made(lossy, content, Heap, is_granted);
+    drop(hoard);
+    is_strict_right && is_lossy_right
+}
 
-const BYTES: &[BytesRow] = &[
-    (&[], Some("")),
-    (&[104, 101, 108, 108, 111], Some("hello")),
-    (b"aaaaaaaaaaaaaaaaaaaaaaaaaaaaaaa", Some(LETTERS_31)),
-    (b"a\xC3\xA9\xE2\x82\xAC\xF0\x9D\x84\x9E", Some("aé€𝄞")),
-    (&[240, 144, 128], None),
-    (b"hello\xFF", None),
-    (b"aaaaaaaaaaaaaaaaaaaaaaaaaaaaaaa\xC3", None),
-    (&[0xC0, 0x80], None),
-    (&[0xED, 0xA0, 0x80], None),
-];
+/// Whether the bytes are read as this text, borrowed where they are it.
+fn is_read<S: StringMake>(alloc: Global, bytes: &[u8], content: &str, is_granted: bool) -> bool {
+    let is_utf8 = bytes == content.as_bytes();
+    match S::from_utf8_lossy(alloc, bytes) {
+        Ok(CowStr::Borrowed(text)) => is_utf8 && text == content,
+        Ok(CowStr::Owned(text)) => !is_utf8 && is_granted && text.as_str() == content,
+        Err(AllocError) => !is_utf8 && !is_granted,
+    }
+}
 
-/// Whether a text is made of the bytes, or else the error hands them back.
+/// Whether the text is this, on the heap, and gives its bytes.
+fn is_whole<S: StringMake + Drop>(text: S, content: &str) -> bool {
+    is_lying(&text, content, Heap) && gives_bytes(text, content, true)
+}
+
+/// Whether the text gives its bytes, or is handed back where memory is refused.
+fn gives_bytes<S: StringMake + Drop>(text: S, content: &str, is_granted: bool) -> bool {
+    let storage = text.storage();
+    match text.into_bytes() {
+        Ok(bytes) => is_granted && bytes.as_slice() == content.as_bytes(),
+        Err(kept) => !is_granted && is_lying(&kept, content, storage),
+    }
+}
+
+/// Whether `from_utf8` makes the text of the bytes, or hands them back where they are not UTF-8.
 fn is_taken<S: StringMake + Drop>(
     alloc: Global,
     vec: Vec<u8>,
-    &(bytes, content): &BytesRow,
+    bytes: &[u8],
+    content: &str,
 ) -> bool {
+    let is_utf8 = bytes == content.as_bytes();
     let made: Result<S, FromUtf8Error> = S::from_utf8(alloc, vec);
-    match (made, content) {
-        (Ok(text), Some(content)) => is_whole(text, content, Heap),
-        (Err(error), None) => error.into_bytes().as_slice() == bytes,
-        _ => false,
+    match made {
+        Ok(text) => is_utf8 && is_whole(text, content),
+        Err(error) => !is_utf8 && error.into_bytes().as_slice() == bytes,
     }
 }
 
-/// Whether the text of the bytes is made of them unchecked, where they are UTF-8.
-fn is_taken_unchecked<S: StringMake + Drop>(
+/// Whether `from_utf8_unchecked` makes the text, where the bytes are UTF-8.
+fn is_taken_unchecked<S: StringMake + Drop>(alloc: Global, vec: Vec<u8>, content: &str) -> bool {
+    if str::from_utf8(vec.as_slice()).is_err() {
+        return true;
+    }
+    let text: S = unsafe { S::from_utf8_unchecked(alloc, vec) };
+    is_whole(text, content)
+}
+
+/// Whether each maker of bytes answers so. Only the lossy one requests memory.
+fn are_bytes_right<S: StringMake + Drop>(
+    rt: &impl Abort,
     alloc: Global,
-    vec: Vec<u8>,
-    &(_, content): &BytesRow,
+    memory: Memory,
+    bytes: &[u8],
+    content: &str,
 ) -> bool {
-    match content {
-        Some(content) if str::from_utf8(vec.as_slice()).is_ok() => {
-            let text: S = unsafe { S::from_utf8_unchecked(alloc, vec) };
-            is_whole(text, content, Heap)
-        }
-        _ => content.is_none(),
-    }
-}
-
-/// The bytes, twice, for one call each.
-fn copies_of(rt: &impl Abort, alloc: Global, bytes: &[u8]) -> (Vec<u8>, Vec<u8>) {
     let first = Vec::from_slice(alloc, bytes).expect(rt, "memory");
     let second = Vec::from_slice(alloc, bytes).expect(rt, "memory");
-    (first, second)
+    let hoard = hold(rt, alloc, memory);
+    let is_read = is_read::<S>(alloc, bytes, content, grants(memory, content.len()));
+    let is_taken = is_taken::<S>(alloc, first, bytes, content);
+    let is_unchecked = is_taken_unchecked::<S>(alloc, second, content);
+    drop(hoard);
+    is_read && is_taken && is_unchecked
 }
 
-/// The first row that is wrong.
-pub fn wrong_bytes<S: StringMake + Drop>(
+/// Whether the empty text is made with the capacity. Inline that requests no memory.
+fn is_empty_made<S: StringMake + Drop>(
     rt: &impl Abort,
     alloc: Global,
-    rows: &[BytesRow],
-) -> Option<usize> {
-    for (i, row) in rows.iter().enumerate() {
-        let (first, second) = copies_of(rt, alloc, row.0);
-        if !is_taken::<S>(alloc, first, row) || !is_taken_unchecked::<S>(alloc, second, row) {
-            return Some(i);
-        }
-    }
-    None
-}
-
-#[test]
-fn bytes_are_taken_over_where_they_are_a_text_and_else_handed_back(rt: HostRuntime) {
-    let alloc = rt.alloc();
-    let wrong = [
-        wrong_bytes::<String>(&rt, alloc, BYTES),
-        wrong_bytes::<InlinableStringN<0>>(&rt, alloc, BYTES),
-        wrong_bytes::<InlinableStringN<8>>(&rt, alloc, BYTES),
-        wrong_bytes::<InlinableString>(&rt, alloc, BYTES),
-        wrong_bytes::<HeapText>(&rt, alloc, BYTES),
-    ];
-    assert_no_wrong_row(&rt, &wrong);
-}
-
-/// A capacity, and where an empty text lies that is made with it.
-pub type CapacityRow = (usize, Storage);
-
-const CAPACITIES_AT_0: &[CapacityRow] = &[(0, Inline), (1, Heap), (100, Heap)];
-
-const CAPACITIES_AT_8: &[CapacityRow] = &[(0, Inline), (8, Inline), (9, Heap), (100, Heap)];
-
-const CAPACITIES_AT_30: &[CapacityRow] = &[
-    (0, Inline),
-    (10, Inline),
-    (30, Inline),
-    (31, Heap),
-    (100, Heap),
-];
-
-const CAPACITIES_OF_A_STRING: &[CapacityRow] = &[(0, Heap), (10, Heap), (30, Heap), (100, Heap)];
-
-/// The first row that is wrong.
-pub fn wrong_capacity<S: StringMake + Drop>(alloc: Global, rows: &[CapacityRow]) -> Option<usize> {
-    for (i, &(capacity, storage)) in rows.iter().enumerate() {
-        let is_right = match S::with_capacity(alloc, capacity) {
-            Ok(text) => text.capacity() >= capacity && is_whole::<S>(text, "", storage),
-            Err(_) => false,
-        };
-        if !is_right {
-            return Some(i);
-        }
-    }
-    None
-}
-
-#[test]
-fn a_text_is_made_with_room_for_so_many_bytes(rt: HostRuntime) {
-    let alloc = rt.alloc();
-    let wrong = [
-        wrong_capacity::<String>(alloc, CAPACITIES_OF_A_STRING),
-        wrong_capacity::<HeapText>(alloc, CAPACITIES_OF_A_STRING),
-        wrong_capacity::<InlinableStringN<0>>(alloc, CAPACITIES_AT_0),
-        wrong_capacity::<InlinableStringN<8>>(alloc, CAPACITIES_AT_8),
-        wrong_capacity::<InlinableString>(alloc, CAPACITIES_AT_30),
-    ];
-    assert_no_wrong_row(&rt, &wrong);
-}
-
-/// A text, and where one lies that is made of it.
-pub type TextRow<'a> = (&'a str, Storage);
-
-const TEXTS_AT_0: &[TextRow] = &[("", Inline), ("a", Heap), (LETTERS_31, Heap)];
-
-const TEXTS_AT_8: &[TextRow] = &[
-    ("", Inline),
-    ("hello", Inline),
-    ("12345678", Inline),
-    ("123456789", Heap),
-    ("aaaaa€", Inline),
-    ("aaaaaa€", Heap),
-];
-
-const TEXTS_AT_30: &[TextRow] = &[
-    ("", Inline),
-    ("foo", Inline),
-    ("hello", Inline),
-    (LETTERS_30, Inline),
-    (LETTERS_31, Heap),
-    ("aaaaaaaaaaaaaaaaaaaaaaaaaa𝄞", Inline),
-    ("aaaaaaaaaaaaaaaaaaaaaaaaaaa𝄞", Heap),
-];
-
-/// Whether the text is made so by each of the three calls that make one of a text.
-fn is_made_of<const N: usize>(alloc: Global, row: &TextRow) -> bool
-    requires { N ≤ 300 }
-{
-    let (content, storage) = *row;
-    let Ok(string) = String::from_str(alloc, content) else {
-        return false;
+    memory: Memory,
+    capacity: usize,
+    storage: Storage,
+) -> bool {
+    let is_granted = storage == Inline || grants(memory, capacity);
+    let hoard = hold(rt, alloc, memory);
+    let made: Result<S, AllocError> = S::with_capacity(alloc, capacity);
+    let is_right = match made {
+        Ok(text) => is_granted && text.capacity() >= capacity && is_lying(&text, "", storage),
+        Err(AllocError) => !is_granted,
     };
-    is_whole(
-        InlinableStringN::<N>::from_string(alloc, string),
-        content,
-        storage,
-    ) && is_made(
-        InlinableStringN::<N>::from(alloc, content),
-        content,
-        storage,
-    ) && is_made(
-        InlinableStringN::<N>::from_str(alloc, content),
-        content,
-        storage,
-    )
+    drop(hoard);
+    is_right
 }
 
-/// The first row that is wrong.
-pub fn wrong_text<const N: usize>(alloc: Global, rows: &[TextRow]) -> Option<usize>
-    requires { N ≤ 300 }
-{
-    for (i, row) in rows.iter().enumerate() {
-        if !is_made_of::<N>(alloc, row) {
-            return Some(i);
-        }
-    }
-    None
-}
-
-#[test]
-fn a_text_is_made_of_another_inline_where_it_fits(rt: HostRuntime) {
-    let alloc = rt.alloc();
-    let wrong = [
-        wrong_text::<0>(alloc, TEXTS_AT_0),
-        wrong_text::<8>(alloc, TEXTS_AT_8),
-        wrong_text::<30>(alloc, TEXTS_AT_30),
-    ];
-    assert_no_wrong_row(&rt, &wrong);
-}
-
-#[test]
-fn a_text_that_is_made_of_nothing_is_empty(rt: HostRuntime) {
-    let alloc = rt.alloc();
-    let are_empty = [
-        is_whole(InlinableString::default(alloc), "", Inline),
-        is_whole(InlinableStringN::<0>::default(alloc), "", Inline),
-        is_whole(<InlinableString as StringMake>::new(alloc), "", Inline),
-        is_whole(<String as StringMake>::new(alloc), "", Heap),
-    ];
-    assert!(&rt; are_empty == [true; 4], "{are_empty:?}");
-}
-
-/// A command, its reply, and the text after it and where it lies then.
-pub type CommandRow<'a> = (Command<'a>, Reply, &'a str, Storage);
-
-const SHRUNK: &[CommandRow] = &[
-    (ShrinkToFit, Done, LETTERS_31, Heap),
-    (Pop, Char('a'), LETTERS_30, Heap),
-    (ShrinkToFit, Done, LETTERS_30, Inline),
-];
-
-const SHRUNK_AS_STRING: &[CommandRow] = &[
-    (ShrinkToFit, Done, LETTERS_31, Heap),
-    (Pop, Char('a'), LETTERS_30, Heap),
-    (ShrinkToFit, Done, LETTERS_30, Heap),
-];
-
-/// 53 bytes.
-const LONG: &str = "0123456789caaaaaaaaaaaaaaaaaaaaaaaaaaaaaaab0123456789";
-
-const GROWN: &[CommandRow] = &[
-    (
-        Insert(0, 'c'),
-        Done,
-        "caaaaaaaaaaaaaaaaaaaaaaaaaaaaaaa",
-        Heap,
-    ),
-    (Push('b'), Done, "caaaaaaaaaaaaaaaaaaaaaaaaaaaaaaab", Heap),
-    (
-        PushStr("0123456789"),
-        Done,
-        "caaaaaaaaaaaaaaaaaaaaaaaaaaaaaaab0123456789",
-        Heap,
-    ),
-    (InsertStr(0, "0123456789"), Done, LONG, Heap),
-    (Reserve(100), Done, LONG, Heap),
-    (ReserveExact(1000), Done, LONG, Heap),
-    (ShrinkToFit, Done, LONG, Heap),
-];
-
-/// The first row that is wrong, where `run` is given the commands one after the other on the text
-/// of 31 bytes. Inline it has room for 30 bytes.
-pub fn wrong_command<S: StringMake + Drop>(
-    rt: &impl Abort,
-    alloc: Global,
-    rows: &[CommandRow],
-) -> Option<usize> {
+/// Whether `run` does this to a text of 31 letters on the heap. Inline its capacity is 30.
+fn are_steps_right<S: StringMake + Drop>(rt: &impl Abort, alloc: Global, steps: &[Step]) -> bool {
     let vec = Vec::from_slice(alloc, LETTERS_31.as_bytes()).expect(rt, "memory");
     let made: Result<S, FromUtf8Error> = S::from_utf8(alloc, vec);
     let mut text = made.expect(rt, "UTF-8");
-    for (i, &(command, reply, content, storage)) in rows.iter().enumerate() {
+    for &(command, reply, content, storage) in steps {
         let mut replies = [NoChar];
         run(&mut text, &[command], &mut replies);
         let has_room = storage == Heap || text.capacity() == 30;
-        if replies != [reply] || !is_lying(&text, content, storage) || !has_room {
+        if replies[0] != reply || !has_room || !is_lying(&text, content, storage) {
+            return false;
+        }
+    }
+    true
+}
+
+fn is_right<S: StringMake + EmptyText + Drop>(
+    rt: &impl Abort,
+    alloc: Global,
+    memory: Memory,
+    row: Row,
+) -> bool {
+    match row {
+        Paired(units, content) => are_units_right::<S>(rt, alloc, memory, units, content, true),
+        Unpaired(units, content) => are_units_right::<S>(rt, alloc, memory, units, content, false),
+        Bytes(bytes, content) => are_bytes_right::<S>(rt, alloc, memory, bytes, content),
+        Capacity(capacity, storage) => is_empty_made::<S>(rt, alloc, memory, capacity, storage),
+        IntoBytes(room, content) => {
+            let text: S = text_of(rt, alloc, room, content);
+            let is_granted = text.storage() == Heap || grants(memory, content.len());
+            let hoard = hold(rt, alloc, memory);
+            let is_right = gives_bytes(text, content, is_granted);
+            drop(hoard);
+            is_right
+        }
+        Steps(steps) => are_steps_right::<S>(rt, alloc, steps),
+    }
+}
+
+fn wrong_row_of<S: StringMake + EmptyText + Drop>(
+    rt: &impl Abort,
+    alloc: Global,
+    memory: Memory,
+    rows: &[Row],
+) -> Option<usize> {
+    for (i, row) in rows.iter().enumerate() {
+        if !is_right::<S>(rt, alloc, memory, *row) {
             return Some(i);
         }
     }
     None
 }
 
-#[test]
-fn a_text_of_bytes_comes_back_inline_where_it_is_shrunk_at_30(rt: HostRuntime) {
-    let alloc = rt.alloc();
-    let wrong = [
-        wrong_command::<InlinableString>(&rt, alloc, SHRUNK),
-        wrong_command::<String>(&rt, alloc, SHRUNK_AS_STRING),
-        wrong_command::<HeapText>(&rt, alloc, SHRUNK_AS_STRING),
-    ];
-    assert_no_wrong_row(&rt, &wrong);
+/// The first row that is wrong.
+pub fn wrong_row(
+    rt: &impl Abort,
+    alloc: Global,
+    kind: Kind,
+    memory: Memory,
+    rows: &[Row],
+) -> Option<usize> {
+    match kind {
+        Kind::OfString => wrong_row_of::<String>(rt, alloc, memory, rows),
+        Kind::Own => wrong_row_of::<HeapText>(rt, alloc, memory, rows),
+        Limit0 => wrong_row_of::<InlinableStringN<0>>(rt, alloc, memory, rows),
+        Limit8 => wrong_row_of::<InlinableStringN<8>>(rt, alloc, memory, rows),
+        Limit30 => wrong_row_of::<InlinableString>(rt, alloc, memory, rows),
+        Limit48 => wrong_row_of::<InlinableStringN<48>>(rt, alloc, memory, rows),
+    }
 }
 
+/// Asserts that no row is wrong, of each of these kinds.
+pub fn assert_makers(rt: &impl Abort, alloc: Global, kinds: &[Kind], memory: Memory, rows: &[Row]) {
+    for kind in kinds {
+        let wrong = wrong_row(rt, alloc, *kind, memory, rows);
+        assert!(rt; wrong.is_none(), "{kind:?}, {wrong:?}");
+    }
+}
+
+/// The same with ample memory, and with none.
+fn assert_with_and_without(rt: &impl Abort, alloc: Global, kinds: &[Kind], rows: &[Row]) {
+    assert_makers(rt, alloc, kinds, Ample, rows);
+    assert_makers(rt, alloc, kinds, Held, rows);
+}
+
+const CAPACITIES: &[Row] = &[
+    Capacity(0, Heap),
+    Capacity(10, Heap),
+    Capacity(30, Heap),
+    Capacity(100, Heap),
+    Capacity(usize::MAX, Heap),
+];
+
+const CAPACITIES_AT_0: &[Row] = &[
+    Capacity(0, Inline),
+    Capacity(1, Heap),
+    Capacity(100, Heap),
+    Capacity(usize::MAX, Heap),
+];
+
+const CAPACITIES_AT_8: &[Row] = &[
+    Capacity(0, Inline),
+    Capacity(8, Inline),
+    Capacity(9, Heap),
+    Capacity(100, Heap),
+    Capacity(usize::MAX, Heap),
+];
+
+const CAPACITIES_AT_30: &[Row] = &[
+    Capacity(0, Inline),
+    Capacity(10, Inline),
+    Capacity(30, Inline),
+    Capacity(31, Heap),
+    Capacity(100, Heap),
+    Capacity(usize::MAX, Heap),
+];
+
 #[test]
-fn a_text_of_bytes_goes_on_growing(rt: HostRuntime) {
+fn a_text_is_made_with_a_capacity(rt: HostRuntime) {
     let alloc = rt.alloc();
-    let wrong = [
-        wrong_command::<InlinableString>(&rt, alloc, GROWN),
-        wrong_command::<String>(&rt, alloc, GROWN),
-    ];
-    assert_no_wrong_row(&rt, &wrong);
+    assert_with_and_without(&rt, alloc, HEAP_KINDS, CAPACITIES);
+    assert_with_and_without(&rt, alloc, &[Limit0], CAPACITIES_AT_0);
+    assert_with_and_without(&rt, alloc, &[Limit8], CAPACITIES_AT_8);
+    assert_with_and_without(&rt, alloc, &[Limit30], CAPACITIES_AT_30);
+}
+
+const SHRUNK: &[Row] = &[Steps(&[
+    (ShrinkToFit, Done, LETTERS_31, Heap),
+    (Pop, Char('a'), LETTERS_30, Heap),
+    (ShrinkToFit, Done, LETTERS_30, Inline),
+])];
+
+const SHRUNK_ON_THE_HEAP: &[Row] = &[Steps(&[
+    (ShrinkToFit, Done, LETTERS_31, Heap),
+    (Pop, Char('a'), LETTERS_30, Heap),
+    (ShrinkToFit, Done, LETTERS_30, Heap),
+])];
+
+const C: &str = "caaaaaaaaaaaaaaaaaaaaaaaaaaaaaaa";
+
+const C_AND_B: &str = "caaaaaaaaaaaaaaaaaaaaaaaaaaaaaaab";
+
+const WITH_DIGITS: &str = "caaaaaaaaaaaaaaaaaaaaaaaaaaaaaaab0123456789";
+
+/// 53 bytes.
+const BETWEEN_DIGITS: &str = "0123456789caaaaaaaaaaaaaaaaaaaaaaaaaaaaaaab0123456789";
+
+const GROWN: &[Row] = &[Steps(&[
+    (Insert(0, 'c'), Done, C, Heap),
+    (Push('b'), Done, C_AND_B, Heap),
+    (PushStr("0123456789"), Done, WITH_DIGITS, Heap),
+    (InsertStr(0, "0123456789"), Done, BETWEEN_DIGITS, Heap),
+    (Reserve(100), Done, BETWEEN_DIGITS, Heap),
+    (ReserveExact(1000), Done, BETWEEN_DIGITS, Heap),
+    (ShrinkToFit, Done, BETWEEN_DIGITS, Heap),
+])];
+
+#[test]
+fn a_text_of_bytes_goes_on_and_comes_back_inline_where_it_is_shrunk(rt: HostRuntime) {
+    let alloc = rt.alloc();
+    assert_makers(&rt, alloc, &[Limit30], Ample, SHRUNK);
+    assert_makers(&rt, alloc, HEAP_KINDS, Ample, SHRUNK_ON_THE_HEAP);
+    assert_makers(&rt, alloc, KINDS, Ample, GROWN);
+}
+
+const GIVEN: &[Row] = &[
+    IntoBytes(None, "hello"),
+    IntoBytes(HEAP_ROOM, "hello"),
+    IntoBytes(HEAP_ROOM, LETTERS_31),
+];
+
+/// Inline in 48 bytes.
+const GIVEN_AT_48: &[Row] = &[IntoBytes(None, "𝄞𝄞𝄞𝄞𝄞𝄞𝄞𝄞𝄞𝄞")];
+
+/// An inline text requests memory for its bytes once, and no more than its length.
+#[test]
+fn a_text_gives_its_bytes_and_a_refusal_hands_it_back(rt: HostRuntime) {
+    let alloc = rt.alloc();
+    assert_with_and_without(&rt, alloc, HEAP_KINDS, GIVEN);
+    assert_with_and_without(&rt, alloc, &[Limit8, Limit30], GIVEN);
+    assert_with_and_without(&rt, alloc, &[Limit48], GIVEN_AT_48);
+    assert_makers(&rt, alloc, &[Limit48], OneBlock(40), GIVEN_AT_48);
 }

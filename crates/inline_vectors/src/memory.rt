@@ -1,254 +1,82 @@
-//! Calls while every request for memory is refused: a test holds all memory that can be had, makes
-//! its calls, gives the memory back, and then asserts.
-use crate::growths::CHARACTERS_THAT_FIT;
+//! Rows while every request for memory is refused, or one alone is granted: a test holds all memory
+//! that can be had, gives its commands, gives the memory back, and then asserts.
+use crate::held::Memory::{self, Held};
 use crate::held::all_memory;
-use crate::steps::{Tally, assert_right, play, whole_of};
-use crate::texts::{assert_text, is_text, letters, text_of};
+use crate::kinds::Kind::{self, Boxable, Inlinable, String as OfString};
+use crate::player::{Row, Tally, assert_right, held, play};
+use crate::room::{assert_hundred, foo_and_tens};
+use crate::steps::Where::{AsMade, OnHeap, Shrunk};
+use crate::steps::{Step, Where};
+use crate::texts::{assert_text, is_lying, text_of};
 use inlinable_string::run::Command::{
-    Clear, Insert, InsertStr, Pop, Push, PushStr, Remove, ReplaceBytes, Reserve, ReserveExact,
-    ShrinkToFit, Truncate,
+    self, Clear, Insert, InsertStr, Pop, Push, PushStr, Remove, ReplaceBytes, Reserve,
+    ReserveExact, ShrinkToFit, Truncate,
 };
 use inlinable_string::run::Reply::{BadPlace, Char, Done, NoMemory, NotUtf8, WrongLength};
-use inlinable_string::{
-    BoxableString, InlinableString, InlinableStringN, Storage, StringExt, StringMake,
-};
+use inlinable_string::{InlinableString, InlinableStringN, Storage, StringExt, StringMake};
 use std::alloc::Global;
 use std::process::Abort;
-use test_support::EmptyText;
 use test_support::letters::{
-    LETTERS_26, LETTERS_27, LETTERS_28, LETTERS_29, LETTERS_30, LETTERS_31,
+    LETTERS_26 as A26, LETTERS_27 as A27, LETTERS_28 as A28, LETTERS_29 as A29, LETTERS_30 as A30,
+    LETTERS_31 as A31,
 };
-use test_support::step::Where::{AsMade, OnHeap, Shrunk};
-use test_support::step::{HEAP_ROOM, Home, Kind, Step, new_kind};
-use test_support::tally::{and_list, and_step};
+use test_support::step::HEAP_ROOM;
 
-mod filled;
 mod one_block;
-mod wrong_tables;
 
-/// Plays the steps while no memory can be had.
-fn play_without_memory<S: StringExt>(
+/// The capacity that a text is made with, or `None` where it is new; its start; and steps during a
+/// shortage of memory.
+pub type Short<'a> = (Option<usize>, &'a str, &'a [Step<'a>]);
+
+/// The same with steps before the shortage in front of those during it, and steps after it.
+pub type Shortage<'a> = (Option<usize>, &'a str, [&'a [Step<'a>]; 3]);
+
+/// Plays each shortage on texts of these kinds.
+pub fn play_shortages(
     rt: &impl Abort,
     alloc: Global,
-    text: &mut S,
-    kind: Kind,
-    steps: &[Step],
-) -> Tally {
-    let hoard = all_memory(rt, alloc);
-    let answer = play(text, kind, "", steps);
-    drop(hoard);
-    answer
-}
-
-/// A text, and the steps that are played on it before, during and after a shortage of memory.
-#[derive(Clone, Copy)]
-pub struct Shortage<'a> {
-    /// The room that the text is made with; `None` where it is made new.
-    pub room: Option<usize>,
-    pub start: &'a str,
-    pub before: &'a [Step<'a>],
-    pub during: &'a [Step<'a>],
-    pub after: &'a [Step<'a>],
-}
-
-/// The empty text, made new, and no steps.
-pub const NEW: Shortage<'static> = Shortage {
-    room: None,
-    start: "",
-    before: &[],
-    during: &[],
-    after: &[],
-};
-
-/// What decides where an `InlinableString` lies.
-pub const INLINABLE: Home = Home::Either(30);
-
-/// Goes through a shortage with this text.
-fn play_shortage<S: StringExt>(
-    rt: &impl Abort,
-    alloc: Global,
-    text: &mut S,
-    home: Home,
-    shortage: &Shortage,
-) -> Tally {
-    let kind = Kind {
-        home,
-        room: shortage.room,
-    };
-    let before = play(text, kind, "", shortage.before)?;
-    let during = play_without_memory(rt, alloc, text, kind, shortage.during)?;
-    let after = play(text, kind, "", shortage.after)?;
-    Ok(before.saturating_add(during).saturating_add(after))
-}
-
-/// Goes through each shortage with a text of its own, of a type with this limit.
-pub fn play_shortages<S: EmptyText + Drop>(
-    rt: &impl Abort,
-    alloc: Global,
-    home: Home,
+    kinds: &[Kind],
     shortages: &[Shortage],
 ) -> Tally {
     let mut count = 0usize;
-    for (i, shortage) in shortages.iter().enumerate() {
-        let mut text: S = text_of(rt, alloc, shortage.room, shortage.start);
-        let answer = play_shortage(rt, alloc, &mut text, home, shortage);
-        count = and_list(count, i, answer)?;
+    for (list, &(room, start, [before, during, after])) in shortages.iter().enumerate() {
+        let row = Row {
+            before,
+            ..held(start, during, after)
+        };
+        let right = play(rt, alloc, (kinds, 30, &[room]), list, row)?;
+        count = count.saturating_add(right);
     }
     Ok(count)
 }
 
-/// Goes through each shortage with an inline-or-heap text of its own.
-fn assert_inline_shortages(rt: &impl Abort, alloc: Global, shortages: &[Shortage]) {
-    let answer = play_shortages::<InlinableString>(rt, alloc, INLINABLE, shortages);
-    assert_right(rt, answer);
+fn assert_shortages(rt: &impl Abort, alloc: Global, kinds: &[Kind], shortages: &[Shortage]) {
+    assert_right(rt, play_shortages(rt, alloc, kinds, shortages));
 }
 
-/// Goes through each shortage with a `String` of its own.
-fn assert_string_shortages(rt: &impl Abort, alloc: Global, shortages: &[Shortage]) {
-    assert_right(
-        rt,
-        play_shortages::<String>(rt, alloc, Home::Heap, shortages),
-    );
-}
-
-/// Goes through each shortage with both.
-fn assert_shortages_on_both(rt: &impl Abort, alloc: Global, shortages: &[Shortage]) {
-    assert_inline_shortages(rt, alloc, shortages);
-    assert_string_shortages(rt, alloc, shortages);
-}
-
-/// Goes through each shortage with a boxable text of its own.
-fn assert_boxable_shortages(rt: &impl Abort, alloc: Global, shortages: &[Shortage]) {
-    for shortage in shortages {
-        let mut text = BoxableString(text_of(rt, alloc, shortage.room, shortage.start));
-        assert_right(rt, play_shortage(rt, alloc, &mut text, INLINABLE, shortage));
-    }
-}
-
-/// Plays each step on a text of this kind of its own while no memory can be had.
-pub fn play_alone_without_memory<S: EmptyText + Drop>(
+/// Plays each row on texts of these kinds and of this limit while this memory can be had.
+fn assert_short(
     rt: &impl Abort,
     alloc: Global,
-    kind: Kind,
-    start: &str,
-    steps: &[Step],
-) -> Tally {
-    let mut count = 0usize;
-    for (i, step) in steps.iter().enumerate() {
-        let mut text: S = text_of(rt, alloc, kind.room, start);
-        let answer = play_without_memory(rt, alloc, &mut text, kind, &[*step]);
-        count = and_step(count, i, answer)?;
+    kinds: &[Kind],
+    limit: usize,
+    memory: Memory,
+    rows: &[Short],
+) {
+    for (list, &(room, start, during)) in rows.iter().enumerate() {
+        let row = Row {
+            memory,
+            ..held(start, during, &[])
+        };
+        assert_right(rt, play(rt, alloc, (kinds, limit, &[room]), list, row));
     }
-    Ok(count)
 }
 
-/// Plays each step of each list on a text of its own, made new, while no memory can be had.
-pub fn play_each_alone_without_memory<S: EmptyText + Drop>(
-    rt: &impl Abort,
-    alloc: Global,
-    lists: &[(&str, &[Step])],
-) -> Tally {
-    let mut count = 0usize;
-    for (i, &(start, steps)) in lists.iter().enumerate() {
-        let kind = new_kind(INLINABLE);
-        let answer = play_alone_without_memory::<S>(rt, alloc, kind, start, steps);
-        count = and_list(count, i, answer)?;
-    }
-    Ok(count)
-}
+const INLINE: &[Kind] = &[Inlinable, Boxable];
 
-#[test]
-fn a_character_up_to_30_bytes_takes_no_memory(rt: HostRuntime) {
-    let (alloc, lists) = (rt.alloc(), CHARACTERS_THAT_FIT);
-    let answer = play_each_alone_without_memory::<InlinableString>(&rt, alloc, lists);
-    assert_right(&rt, answer);
-}
+const EACH: &[Kind] = &[Inlinable, Boxable, OfString];
 
-/// When memory is back, the text is one to go on with.
-const REFUSED_PAST_30_BYTES: &[Shortage] = &[
-    Shortage {
-        start: LETTERS_30,
-        during: &[
-            (Push('a'), NoMemory, LETTERS_30, AsMade),
-            (Insert(0, 'a'), NoMemory, LETTERS_30, AsMade),
-            (Insert(30, 'a'), NoMemory, LETTERS_30, AsMade),
-        ],
-        after: &[
-            (Pop, Char('a'), LETTERS_29, AsMade),
-            (PushStr("a"), Done, LETTERS_30, AsMade),
-            (Push('a'), Done, LETTERS_31, OnHeap),
-            (Pop, Char('a'), LETTERS_30, OnHeap),
-        ],
-        ..NEW
-    },
-    Shortage {
-        start: LETTERS_29,
-        during: &[
-            (Push('é'), NoMemory, LETTERS_29, AsMade),
-            (Insert(0, 'é'), NoMemory, LETTERS_29, AsMade),
-            (Insert(29, 'é'), NoMemory, LETTERS_29, AsMade),
-        ],
-        after: &[
-            (Pop, Char('a'), LETTERS_28, AsMade),
-            (PushStr("a"), Done, LETTERS_29, AsMade),
-            (Push('é'), Done, "aaaaaaaaaaaaaaaaaaaaaaaaaaaaaé", OnHeap),
-            (Pop, Char('é'), LETTERS_29, OnHeap),
-        ],
-        ..NEW
-    },
-    Shortage {
-        start: LETTERS_28,
-        during: &[
-            (Push('€'), NoMemory, LETTERS_28, AsMade),
-            (Insert(0, '€'), NoMemory, LETTERS_28, AsMade),
-            (Insert(28, '€'), NoMemory, LETTERS_28, AsMade),
-        ],
-        after: &[
-            (Pop, Char('a'), LETTERS_27, AsMade),
-            (PushStr("a"), Done, LETTERS_28, AsMade),
-            (Push('€'), Done, "aaaaaaaaaaaaaaaaaaaaaaaaaaaa€", OnHeap),
-            (Pop, Char('€'), LETTERS_28, OnHeap),
-        ],
-        ..NEW
-    },
-    Shortage {
-        start: LETTERS_27,
-        during: &[
-            (Push('𝄞'), NoMemory, LETTERS_27, AsMade),
-            (Insert(0, '𝄞'), NoMemory, LETTERS_27, AsMade),
-            (Insert(27, '𝄞'), NoMemory, LETTERS_27, AsMade),
-        ],
-        after: &[
-            (Pop, Char('a'), LETTERS_26, AsMade),
-            (PushStr("a"), Done, LETTERS_27, AsMade),
-            (Push('𝄞'), Done, "aaaaaaaaaaaaaaaaaaaaaaaaaaa𝄞", OnHeap),
-            (Pop, Char('𝄞'), LETTERS_27, OnHeap),
-        ],
-        ..NEW
-    },
-    Shortage {
-        start: LETTERS_29,
-        during: &[
-            (Push('€'), NoMemory, LETTERS_29, AsMade),
-            (Insert(0, '€'), NoMemory, LETTERS_29, AsMade),
-            (Insert(29, '€'), NoMemory, LETTERS_29, AsMade),
-        ],
-        after: &[
-            (Pop, Char('a'), LETTERS_28, AsMade),
-            (PushStr("a"), Done, LETTERS_29, AsMade),
-            (Push('€'), Done, "aaaaaaaaaaaaaaaaaaaaaaaaaaaaa€", OnHeap),
-            (Pop, Char('€'), LETTERS_29, OnHeap),
-        ],
-        ..NEW
-    },
-];
-
-#[test]
-fn a_character_past_30_bytes_is_refused_and_changes_nothing(rt: HostRuntime) {
-    assert_inline_shortages(&rt, rt.alloc(), REFUSED_PAST_30_BYTES);
-}
-
-/// Each growth and reservation past the room at hand. A place is tested before them.
+/// What outgrows the capacity at hand. A place is tested before memory.
 macro_rules! all_refused {
     ($content:expr) => {
         &[
@@ -265,54 +93,82 @@ macro_rules! all_refused {
     };
 }
 
-const REFUSED_INLINE: &[Shortage] = &[
-    Shortage {
-        start: LETTERS_30,
-        during: all_refused!(LETTERS_30),
-        ..NEW
-    },
-    Shortage {
-        start: LETTERS_27,
-        during: all_refused!(LETTERS_27),
-        ..NEW
-    },
+const A27_EURO: &str = "aaaaaaaaaaaaaaaaaaaaaaaaaaa€";
+
+const A29_EURO: &str = "aaaaaaaaaaaaaaaaaaaaaaaaaaaaa€";
+
+const MAX: usize = usize::MAX;
+
+const REFUSED: &[Short] = &[
+    (None, A30, all_refused!(A30)),
+    (None, A27, all_refused!(A27)),
+    (None, A27, &[(Reserve(28), NoMemory, A27, AsMade)]),
+    (None, A29, &[(Push('€'), NoMemory, A29, AsMade)]),
+    (None, A29, &[(Insert(0, '€'), NoMemory, A29, AsMade)]),
+    (None, A29, &[(Insert(29, '€'), NoMemory, A29, AsMade)]),
+    (None, "a", &[(Reserve(MAX), NoMemory, "a", AsMade)]),
+    (
+        None,
+        "",
+        &[
+            (PushStr(A27), Done, A27, AsMade),
+            (PushStr("€"), Done, A27_EURO, AsMade),
+            (PushStr("b"), NoMemory, A27_EURO, AsMade),
+            (Truncate(28), BadPlace, A27_EURO, AsMade),
+            (Truncate(27), Done, A27, AsMade),
+            (Pop, Char('a'), A26, AsMade),
+        ],
+    ),
 ];
 
-const REFUSED_ON_THE_HEAP: &[Shortage] = &[Shortage {
-    room: HEAP_ROOM,
-    start: LETTERS_31,
-    during: all_refused!(LETTERS_31),
-    ..NEW
-}];
+const REFUSED_ON_THE_HEAP: &[Short] = &[(HEAP_ROOM, A31, all_refused!(A31))];
+
+/// When memory is back, the text is one to go on with.
+const BACK: &[Shortage] = &[(
+    None,
+    "",
+    [
+        &[],
+        &[
+            (PushStr(A30), Done, A30, AsMade),
+            (Push('b'), NoMemory, A30, AsMade),
+            (Pop, Char('a'), A29, AsMade),
+        ],
+        &[(Push('€'), Done, A29_EURO, OnHeap)],
+    ],
+)];
 
 #[test]
-fn what_outgrows_the_room_at_hand_is_refused_and_changes_nothing(rt: HostRuntime) {
+fn what_outgrows_the_capacity_fails_and_changes_nothing(rt: HostRuntime) {
     let alloc = rt.alloc();
-    assert_inline_shortages(&rt, alloc, REFUSED_INLINE);
-    assert_boxable_shortages(&rt, alloc, REFUSED_INLINE);
-    assert_shortages_on_both(&rt, alloc, REFUSED_ON_THE_HEAP);
+    assert_short(&rt, alloc, INLINE, 30, Held, REFUSED);
+    assert_short(&rt, alloc, EACH, 30, Held, REFUSED_ON_THE_HEAP);
+    assert_shortages(&rt, alloc, INLINE, BACK);
 }
 
-const EDITED_INLINE: &[Shortage] = &[
-    Shortage {
-        during: &[
-            (PushStr(LETTERS_30), Done, LETTERS_30, AsMade),
-            (PushStr(""), Done, LETTERS_30, AsMade),
-            (InsertStr(30, ""), Done, LETTERS_30, AsMade),
+const EDITED_INLINE: &[Short] = &[
+    (
+        None,
+        "",
+        &[
+            (PushStr(A30), Done, A30, AsMade),
+            (PushStr(""), Done, A30, AsMade),
+            (InsertStr(30, ""), Done, A30, AsMade),
         ],
-        ..NEW
-    },
-    Shortage {
-        during: &[
-            (PushStr("foo"), Done, "foo", AsMade),
+    ),
+    (
+        None,
+        "foo",
+        &[
             (Reserve(27), Done, "foo", AsMade),
             (ReserveExact(27), Done, "foo", AsMade),
             (Reserve(28), NoMemory, "foo", AsMade),
         ],
-        ..NEW
-    },
-    Shortage {
-        during: &[
+    ),
+    (
+        None,
+        "",
+        &[
             (Reserve(30), Done, "", AsMade),
             (InsertStr(0, "abc"), Done, "abc", AsMade),
             (Remove(1), Char('b'), "ac", AsMade),
@@ -320,32 +176,42 @@ const EDITED_INLINE: &[Shortage] = &[
             (ShrinkToFit, Done, "acé", AsMade),
             (Clear, Done, "", AsMade),
         ],
-        ..NEW
-    },
+    ),
+    // It moves back inline.
+    (
+        None,
+        A31,
+        &[
+            (Pop, Char('a'), A30, OnHeap),
+            (ShrinkToFit, Done, A30, Shrunk),
+        ],
+    ),
+    (
+        HEAP_ROOM,
+        "he",
+        &[
+            (ShrinkToFit, Done, "he", Shrunk),
+            (Reserve(28), Done, "he", Shrunk),
+            (Push('€'), Done, "he€", Shrunk),
+        ],
+    ),
 ];
 
 #[test]
 fn an_inline_text_is_reserved_and_edited_without_memory(rt: HostRuntime) {
-    assert_inline_shortages(&rt, rt.alloc(), EDITED_INLINE);
+    assert_short(&rt, rt.alloc(), INLINE, 30, Held, EDITED_INLINE);
 }
 
 const TEN: &str = "0123456789";
 
-const CUT: &[Shortage] = &[Shortage {
-    before: &[(Reserve(10), Done, "", AsMade)],
-    during: &[
-        (Truncate(5), BadPlace, "", AsMade),
-        (PushStr(TEN), Done, TEN, AsMade),
-        (Pop, Char('9'), "012345678", AsMade),
-        (Remove(0), Char('0'), "12345678", AsMade),
-    ],
-    ..NEW
-}];
+const CUT: &[Step] = &[
+    (Truncate(5), BadPlace, "", AsMade),
+    (PushStr(TEN), Done, TEN, AsMade),
+    (Pop, Char('9'), "012345678", AsMade),
+    (Remove(0), Char('0'), "12345678", AsMade),
+];
 
-#[test]
-fn a_cut_takes_no_memory_and_neither_does_a_bad_place(rt: HostRuntime) {
-    assert_string_shortages(&rt, rt.alloc(), CUT);
-}
+const RESERVED_AND_CUT: &[Shortage] = &[(None, "", [&[(Reserve(10), Done, "", AsMade)], CUT, &[]])];
 
 const BYTES_REPLACED: &[Step] = &[
     (ReplaceBytes(b"olleh"), Done, "olleh", AsMade),
@@ -354,117 +220,118 @@ const BYTES_REPLACED: &[Step] = &[
     (ReplaceBytes(b"h\xC3\xA9l\x7F"), Done, "hél\u{7F}", AsMade),
 ];
 
-/// A text made new and one made on the heap.
-const REPLACED: &[Shortage] = &[
-    Shortage {
-        start: "hello",
-        during: BYTES_REPLACED,
-        ..NEW
-    },
-    Shortage {
-        room: HEAP_ROOM,
-        start: "hello",
-        during: BYTES_REPLACED,
-        ..NEW
-    },
+/// In a text made new and in one made on the heap.
+const REPLACED: &[Short] = &[
+    (None, "hello", BYTES_REPLACED),
+    (HEAP_ROOM, "hello", BYTES_REPLACED),
 ];
 
 #[test]
-fn bytes_on_the_heap_are_replaced_without_memory(rt: HostRuntime) {
-    assert_shortages_on_both(&rt, rt.alloc(), REPLACED);
+fn cuts_and_replacements_take_no_memory_and_neither_does_a_bad_place(rt: HostRuntime) {
+    assert_shortages(&rt, rt.alloc(), EACH, RESERVED_AND_CUT);
+    assert_short(&rt, rt.alloc(), EACH, 30, Held, REPLACED);
 }
 
-const COMING_BACK: &[Shortage] = &[Shortage {
-    start: LETTERS_31,
-    during: &[
-        (Pop, Char('a'), LETTERS_30, OnHeap),
-        (ShrinkToFit, Done, LETTERS_30, Shrunk),
-    ],
-    ..NEW
-}];
+const FOO_1: &str = "foo0123456789";
+
+const FOO_2: &str = "foo01234567890123456789";
+
+const FOO_3: &str = "foo012345678901234567890123456789";
+
+const FOO_4: &str = "foo0123456789012345678901234567890123456789";
+
+const FOO_5: &str = "foo01234567890123456789012345678901234567890123456789";
+
+const FIVE_TENS: &[Step] = &[
+    (PushStr(TEN), Done, FOO_1, OnHeap),
+    (PushStr(TEN), Done, FOO_2, OnHeap),
+    (PushStr(TEN), Done, FOO_3, OnHeap),
+    (PushStr(TEN), Done, FOO_4, OnHeap),
+    (PushStr(TEN), Done, FOO_5, OnHeap),
+];
+
+const TWO_PARTS: &[Step] = &[
+    (PushStr("012345"), Done, "012345", OnHeap),
+    (PushStr("6789"), Done, TEN, OnHeap),
+];
+
+const A28_CLEF: &[Step] = &[(Push('𝄞'), Done, "aaaaaaaaaaaaaaaaaaaaaaaaaaaa𝄞", OnHeap)];
+
+const FOUR_TENS: &[Step] = &[
+    (PushStr(TEN), Done, TEN, OnHeap),
+    (PushStr(TEN), Done, "01234567890123456789", OnHeap),
+    (PushStr(TEN), Done, "012345678901234567890123456789", OnHeap),
+    (PushStr(TEN), Done, TEN_4, OnHeap),
+];
+
+const TEN_4: &str = "0123456789012345678901234567890123456789";
+
+/// Texts that fill the room that was reserved, or that they were made with: the capacity that a text
+/// is made with, its start, the reservation, the text's storage after it, and the steps then.
+const FILLED: &[(Option<usize>, &str, Command, Where, &[Step])] = &[
+    (None, "foo", Reserve(50), OnHeap, FIVE_TENS),
+    (None, "foo", ReserveExact(50), OnHeap, FIVE_TENS),
+    (None, A28, Reserve(4), OnHeap, A28_CLEF),
+    (None, A28, ReserveExact(4), OnHeap, A28_CLEF),
+    (HEAP_ROOM, "", Reserve(10), AsMade, TWO_PARTS),
+    (HEAP_ROOM, "", ReserveExact(10), AsMade, TWO_PARTS),
+    (Some(40), "", Reserve(40), AsMade, FOUR_TENS),
+];
 
 #[test]
-fn a_text_comes_back_inline_without_memory(rt: HostRuntime) {
-    assert_inline_shortages(&rt, rt.alloc(), COMING_BACK);
-}
-
-/// Makes a text with this room while no memory can be had.
-fn made_without_memory<S: StringMake + Drop>(
-    rt: &impl Abort,
-    alloc: Global,
-    capacity: usize,
-) -> Option<S> {
-    let hoard = all_memory(rt, alloc);
-    let made = S::with_capacity(alloc, capacity).ok();
-    drop(hoard);
-    made
-}
-
-/// Capacities, and whether a text is made with them while no memory can be had.
-type MadeRow = (usize, bool);
-
-const MADE: &[MadeRow] = &[(0, true), (1, true), (30, true), (31, false), (40, false)];
-
-/// The first row that is wrong. A text that is made lies inline.
-pub fn wrong_made<S: StringMake + Drop>(
-    rt: &impl Abort,
-    alloc: Global,
-    rows: &[MadeRow],
-) -> Option<usize> {
-    for (i, &(capacity, is_granted)) in rows.iter().enumerate() {
-        let is_right = match made_without_memory::<S>(rt, alloc, capacity) {
-            Some(text) => is_granted && is_text(&text, "") && text.storage() == Storage::Inline,
-            None => !is_granted,
+fn reserved_room_is_filled_without_memory(rt: HostRuntime) {
+    for (list, &(room, start, reserve, place, steps)) in FILLED.iter().enumerate() {
+        let before = [(reserve, Done, start, place)];
+        let row = Row {
+            before: &before,
+            ..held(start, steps, &[])
         };
-        if !is_right {
-            return Some(i);
-        }
+        assert_right(&rt, play(&rt, rt.alloc(), (EACH, 30, &[room]), list, row));
     }
-    None
 }
 
-fn assert_each_made<S: StringMake + Drop>(rt: &impl Abort, alloc: Global, rows: &[MadeRow]) {
-    let wrong = wrong_made::<S>(rt, alloc, rows);
-    assert!(rt; wrong.is_none(), "{wrong:?}");
+#[test]
+fn a_hundred_bytes_that_were_reserved_are_filled_without_memory(rt: HostRuntime) {
+    assert_hundred(&rt, rt.alloc(), Reserve(100), Held);
+    assert_hundred(&rt, rt.alloc(), ReserveExact(100), Held);
 }
 
-/// Makes a new text while no memory can be had.
-fn assert_new<S: StringMake + Drop>(rt: &impl Abort, alloc: Global, storage: Storage) {
-    let hoard = all_memory(rt, alloc);
-    let new = S::new(alloc);
+/// Whatever it replies while no memory can be had.
+#[test]
+fn a_shrink_leaves_a_long_text_on_the_heap(rt: HostRuntime) {
+    let alloc = rt.alloc();
+    let whole = foo_and_tens(&rt, alloc);
+    let mut text: InlinableString = text_of(&rt, alloc, None, whole.as_str());
+    let hoard = all_memory(&rt, alloc);
+    let _ = text.shrink_to_fit();
     drop(hoard);
-    assert_text(rt, &new, "", storage);
+    assert_text(&rt, &text, whole.as_str(), Storage::Heap);
+}
+
+/// Whether a text is made inline with this capacity while no memory can be had.
+fn is_made<S: StringMake + Drop>(rt: &impl Abort, alloc: Global, capacity: usize) -> bool {
+    let hoard = all_memory(rt, alloc);
+    let made = S::with_capacity(alloc, capacity);
+    drop(hoard);
+    match made {
+        Ok(text) => is_lying(&text, "", Storage::Inline),
+        Err(_) => false,
+    }
 }
 
 #[test]
 fn a_text_is_made_without_memory_where_its_room_is_inline(rt: HostRuntime) {
     let alloc = rt.alloc();
-    assert_each_made::<InlinableString>(&rt, alloc, MADE);
-    assert_each_made::<InlinableStringN<0>>(&rt, alloc, &[(1, false)]);
-    assert_each_made::<String>(&rt, alloc, &[(1, false)]);
-    assert_new::<String>(&rt, alloc, Storage::Heap);
-}
-
-/// Makes the text of as many letters as its limit, and pushes one more that is refused.
-fn filled_without_memory<S: EmptyText + Drop>(rt: &impl Abort, alloc: Global, limit: usize) -> S {
-    let hoard = all_memory(rt, alloc);
-    let mut text: S = letters(rt, alloc, None, limit);
-    let is_refused = text.push('a').is_err();
+    for (capacity, wanted) in [(0, true), (1, true), (30, true), (31, false), (40, false)] {
+        assert!(rt;
+            is_made::<InlinableString>(&rt, alloc, capacity) == wanted,
+            "{capacity}"
+        );
+    }
+    assert!(rt; !is_made::<InlinableStringN<0>>(&rt, alloc, 1));
+    assert!(rt; !is_made::<String>(&rt, alloc, 1));
+    let hoard = all_memory(&rt, alloc);
+    let new = <String as StringMake>::new(alloc);
     drop(hoard);
-    assert!(rt; is_refused);
-    text
-}
-
-fn assert_filled_inline<S: EmptyText + Drop>(rt: &impl Abort, alloc: Global, limit: usize) {
-    let mut text: S = filled_without_memory(rt, alloc, limit);
-    let full = whole_of(rt, alloc, "a", limit);
-    assert_text(rt, &text, full.as_str(), Storage::Inline);
-    let is_pushed = text.push('a').is_ok() && text.len() == limit.saturating_add(1);
-    assert!(rt; is_pushed && text.storage() == Storage::Heap);
-}
-
-#[test]
-fn as_many_bytes_as_the_limit_take_no_memory(rt: HostRuntime) {
-    assert_filled_inline::<InlinableString>(&rt, rt.alloc(), 30);
-    assert_filled_inline::<InlinableStringN<300>>(&rt, rt.alloc(), 300);
+    assert_text(&rt, &new, "", Storage::Heap);
 }

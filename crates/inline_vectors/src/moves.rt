@@ -1,8 +1,10 @@
-//! Texts that move from one capacity to another, with all memory held but for one block.
+//! Texts that move from one capacity to another: with no memory, or with one block.
 ghost use Rattle.std.specs.Prelude.{◌≤◌};
 
-use crate::held::{all_but, all_memory};
-use crate::texts::{is_text, text_of};
+use crate::held::Memory::{self, Held, OneBlock};
+use crate::held::{all_memory, hold};
+use crate::texts::{is_lying, text_of};
+use crate::ways::HEAP_ROOM;
 use Storage::{Heap, Inline};
 use inlinable_string::run::Command::{PushStr, ShrinkToFit};
 use inlinable_string::run::Reply::{Done, NoChar};
@@ -11,107 +13,82 @@ use inlinable_string::{InlinableString, InlinableStringN, Storage, StringExt};
 use std::alloc::Global;
 use std::process::Abort;
 use test_support::letters::{LETTERS_30, LETTERS_31};
-use test_support::step::HEAP_ROOM;
 
-mod wrong_tables;
-
-/// A text, the room that it is made with, the one block of memory that can be had, of so many
-/// bytes, and where the text lies after the move, or in the value that is handed back.
+/// The limits before the move and after it, a text and the capacity that it is made with, the memory
+/// that is left, and where the text is after the move, or in the value that is handed back.
 pub type MoveRow<'a> = (
+    usize,
+    usize,
     &'a str,
     Option<usize>,
-    Option<usize>,
+    Memory,
     Result<Storage, Storage>,
 );
 
-const TEN_CLEFS: &str = "𝄞𝄞𝄞𝄞𝄞𝄞𝄞𝄞𝄞𝄞";
+/// 40 bytes.
+const CLEFS: &str = "𝄞𝄞𝄞𝄞𝄞𝄞𝄞𝄞𝄞𝄞";
 
-// The C library has blocks of 24 bytes, of 40, of 56 and so on, so a request of 41 bytes would not
-// be granted.
-const FROM_48_TO_8: &[MoveRow] = &[
-    (TEN_CLEFS, None, Some(40), Ok(Heap)),
-    (TEN_CLEFS, None, None, Err(Inline)),
+// The C library has blocks of 24 bytes, of 40, of 56 and so on, so that it refuses 41 bytes where
+// it has one of 40.
+const MOVES: &[MoveRow] = &[
+    (48, 8, CLEFS, None, OneBlock(40), Ok(Heap)),
+    (48, 8, CLEFS, None, Held, Err(Inline)),
+    (30, 8, LETTERS_30, None, OneBlock(40), Ok(Heap)),
+    (30, 8, LETTERS_30, None, Held, Err(Inline)),
+    (30, 8, "123456789", None, Held, Err(Inline)),
+    (30, 8, "12345678", None, Held, Ok(Inline)),
+    (30, 8, "12345678", HEAP_ROOM, Held, Ok(Inline)),
+    (30, 8, "123456789", HEAP_ROOM, Held, Ok(Heap)),
+    (30, 8, LETTERS_31, HEAP_ROOM, Held, Ok(Heap)),
+    (30, 2, "hi", HEAP_ROOM, Held, Ok(Inline)),
+    (30, 2, "é", None, Held, Ok(Inline)),
+    (30, 1, "hi", HEAP_ROOM, Held, Ok(Heap)),
+    (30, 1, "é", HEAP_ROOM, Held, Ok(Heap)),
+    (30, 1, "é", None, OneBlock(24), Ok(Heap)),
+    (30, 0, "", None, Held, Ok(Inline)),
+    (30, 0, "", HEAP_ROOM, Held, Ok(Inline)),
+    (30, 0, "a", HEAP_ROOM, Held, Ok(Heap)),
+    (30, 0, "a", None, Held, Err(Inline)),
+    (8, 30, "12345678", None, Held, Ok(Inline)),
+    (8, 30, LETTERS_30, HEAP_ROOM, Held, Ok(Inline)),
+    (8, 30, LETTERS_31, HEAP_ROOM, Held, Ok(Heap)),
 ];
 
-const FROM_30_TO_8: &[MoveRow] = &[
-    (LETTERS_30, None, Some(40), Ok(Heap)),
-    (LETTERS_30, None, None, Err(Inline)),
-    ("123456789", None, None, Err(Inline)),
-    ("12345678", None, None, Ok(Inline)),
-    ("12345678", HEAP_ROOM, None, Ok(Inline)),
-    ("123456789", HEAP_ROOM, None, Ok(Heap)),
-    (LETTERS_31, HEAP_ROOM, None, Ok(Heap)),
-];
-
-const FROM_30_TO_2: &[MoveRow] = &[
-    ("hi", HEAP_ROOM, None, Ok(Inline)),
-    ("é", None, None, Ok(Inline)),
-];
-
-const FROM_30_TO_1: &[MoveRow] = &[
-    ("hi", HEAP_ROOM, None, Ok(Heap)),
-    ("é", HEAP_ROOM, None, Ok(Heap)),
-    ("é", None, Some(24), Ok(Heap)),
-];
-
-const FROM_30_TO_0: &[MoveRow] = &[
-    ("", None, None, Ok(Inline)),
-    ("", HEAP_ROOM, None, Ok(Inline)),
-    ("a", HEAP_ROOM, None, Ok(Heap)),
-    ("a", None, None, Err(Inline)),
-];
-
-const FROM_8_TO_30: &[MoveRow] = &[
-    ("12345678", None, None, Ok(Inline)),
-    (LETTERS_30, HEAP_ROOM, None, Ok(Inline)),
-    (LETTERS_31, HEAP_ROOM, None, Ok(Heap)),
-];
-
-/// Whether the text is this, lies there, and has the capacity if one is to be kept.
-fn is_lying<S: StringExt>(
-    text: &S,
-    content: &str,
-    storage: Storage,
-    capacity: Option<usize>,
-) -> bool {
-    let has_kept = match capacity {
-        Some(capacity) => text.capacity() == capacity,
-        None => true,
-    };
-    is_text(text, content) && text.storage() == storage && has_kept
-}
-
-/// Whether the text is moved, or handed back, as the row says. One that lies on the heap before and
-/// after keeps its capacity, and so does one that is handed back.
+/// Whether the text is moved, or handed back with its capacity, as the row says. One that is on the
+/// heap before and after keeps its capacity.
 fn is_moved<const N: usize, const M: usize>(rt: &impl Abort, alloc: Global, row: &MoveRow) -> bool
     requires from { N ≤ 300 }
     requires to { M ≤ 300 }
 {
-    let &(content, room, block, answer) = row;
+    let &(_, _, content, room, memory, answer) = row;
     let text: InlinableStringN<N> = text_of(rt, alloc, room, content);
     let (storage, capacity) = (text.storage(), text.capacity());
-    let hoard = all_but(rt, alloc, block);
+    let hoard = hold(rt, alloc, memory);
     let moved = text.with_limit::<M>();
     drop(hoard);
     match (moved, answer) {
-        (Ok(moved), Ok(Heap)) if storage == Heap => is_lying(&moved, content, Heap, Some(capacity)),
-        (Ok(moved), Ok(storage)) => is_lying(&moved, content, storage, None),
-        (Err(kept), Err(storage)) => is_lying(&kept, content, storage, Some(capacity)),
+        (Ok(moved), Ok(wanted)) => {
+            let is_kept = storage == Inline || wanted == Inline || moved.capacity() == capacity;
+            is_kept && is_lying(&moved, content, wanted)
+        }
+        (Err(kept), Err(wanted)) => kept.capacity() == capacity && is_lying(&kept, content, wanted),
         _ => false,
     }
 }
 
 /// The first row that is wrong.
-pub fn wrong_move<const N: usize, const M: usize>(
-    rt: &impl Abort,
-    alloc: Global,
-    rows: &[MoveRow],
-) -> Option<usize>
-    requires from { N ≤ 300 }
-    requires to { M ≤ 300 }
-{
+pub fn wrong_move(rt: &impl Abort, alloc: Global, rows: &[MoveRow]) -> Option<usize> {
     for (i, row) in rows.iter().enumerate() {
-        if !is_moved::<N, M>(rt, alloc, row) {
+        let is_right = match (row.0, row.1) {
+            (48, 8) => is_moved::<48, 8>(rt, alloc, row),
+            (30, 8) => is_moved::<30, 8>(rt, alloc, row),
+            (30, 2) => is_moved::<30, 2>(rt, alloc, row),
+            (30, 1) => is_moved::<30, 1>(rt, alloc, row),
+            (30, 0) => is_moved::<30, 0>(rt, alloc, row),
+            (8, 30) => is_moved::<8, 30>(rt, alloc, row),
+            _ => false,
+        };
+        if !is_right {
             return Some(i);
         }
     }
@@ -119,28 +96,17 @@ pub fn wrong_move<const N: usize, const M: usize>(
 }
 
 #[test]
-fn a_text_moves_to_another_capacity_and_only_one_that_outgrows_it_asks_once(rt: HostRuntime) {
-    let alloc = rt.alloc();
-    let wrong = [
-        wrong_move::<48, 8>(&rt, alloc, FROM_48_TO_8),
-        wrong_move::<30, 8>(&rt, alloc, FROM_30_TO_8),
-        wrong_move::<30, 2>(&rt, alloc, FROM_30_TO_2),
-        wrong_move::<30, 1>(&rt, alloc, FROM_30_TO_1),
-        wrong_move::<30, 0>(&rt, alloc, FROM_30_TO_0),
-        wrong_move::<8, 30>(&rt, alloc, FROM_8_TO_30),
-    ];
-    assert!(&rt; wrong == [None; 6], "{wrong:?}");
+fn a_text_moves_to_another_capacity_and_requests_memory_only_where_it_outgrows_it(rt: HostRuntime) {
+    let wrong = wrong_move(&rt, rt.alloc(), MOVES);
+    assert!(&rt; wrong.is_none(), "{wrong:?}");
 }
 
 #[test]
-fn a_moved_heap_text_has_the_room_that_was_reserved(rt: HostRuntime) {
+fn a_moved_heap_text_has_the_capacity_that_was_reserved(rt: HostRuntime) {
     let alloc = rt.alloc();
     let mut text: InlinableString = text_of(&rt, alloc, None, "foo");
     text.reserve(100).expect(&rt, "memory");
-    let mut moved = text
-        .with_limit::<2>()
-        .ok()
-        .expect(&rt, "it lies on the heap");
+    let mut moved = text.with_limit::<2>().ok().expect(&rt, "a heap text");
     let mut replies = [NoChar; 10];
     let hoard = all_memory(&rt, alloc);
     run(&mut moved, &[PushStr("0123456789"); 10], &mut replies);
@@ -150,9 +116,9 @@ fn a_moved_heap_text_has_the_room_that_was_reserved(rt: HostRuntime) {
 }
 
 #[test]
-fn a_text_above_the_new_capacity_stays_on_the_heap_when_it_is_shrunk(rt: HostRuntime) {
+fn a_text_above_the_new_limit_stays_on_the_heap_when_it_is_shrunk(rt: HostRuntime) {
     let text: InlinableString = text_of(&rt, rt.alloc(), None, "é");
     let mut moved = text.with_limit::<1>().ok().expect(&rt, "memory");
     run(&mut moved, &[ShrinkToFit], &mut [NoChar]);
-    assert!(&rt; is_lying(&moved, "é", Heap, None));
+    assert!(&rt; is_lying(&moved, "é", Heap));
 }

@@ -1,114 +1,86 @@
 //! Each byte offset of a text with characters of every length, and those past its end, given to
-//! each call that takes a place.
-use crate::steps::{List, assert_each_alone};
+//! each call that takes one.
+use crate::kinds::Kind::Inlinable;
+use crate::player::{EVERYWHERE, Kinds, assert_right, play_each_alone, within};
+use crate::steps::Where::{AsMade, OnHeap};
+use crate::steps::{List, Step};
 use inlinable_string::run::Command::{Insert, InsertStr, Remove, Truncate};
 use inlinable_string::run::Reply::{BadPlace, Char, Done};
-use test_support::step::Step;
-use test_support::step::Where::AsMade;
+use std::alloc::Global;
+use std::process::Abort;
+use test_support::step::HEAP_ROOM;
 
 /// A character of each length. Its places are 0, 1, 3, 6 and 10.
 const TEXT: &str = "aé€𝄞";
 
-const INSERTED: &[List] = &[(
-    TEXT,
-    &[
-        (Insert(0, 'x'), Done, "xaé€𝄞", AsMade),
-        (Insert(1, 'x'), Done, "axé€𝄞", AsMade),
-        (Insert(3, 'x'), Done, "aéx€𝄞", AsMade),
-        (Insert(6, 'x'), Done, "aé€x𝄞", AsMade),
-        (Insert(10, 'x'), Done, "aé€𝄞x", AsMade),
-        // No places.
-        (Insert(2, 'x'), BadPlace, TEXT, AsMade),
-        (Insert(4, 'x'), BadPlace, TEXT, AsMade),
-        (Insert(5, 'x'), BadPlace, TEXT, AsMade),
-        (Insert(7, 'x'), BadPlace, TEXT, AsMade),
-        (Insert(8, 'x'), BadPlace, TEXT, AsMade),
-        (Insert(9, 'x'), BadPlace, TEXT, AsMade),
-        (Insert(11, 'x'), BadPlace, TEXT, AsMade),
-        (Insert(usize::MAX, 'x'), BadPlace, TEXT, AsMade),
-    ],
-)];
-
-#[test]
-fn a_character_goes_in_at_each_place_and_nowhere_else(rt: HostRuntime) {
-    assert_each_alone(&rt, rt.alloc(), INSERTED);
+/// What is inserted at each place.
+macro_rules! inserted {
+    ($place:expr) => {
+        &[
+            (Insert(0, 'x'), Done, "xaé€𝄞", $place),
+            (Insert(1, 'x'), Done, "axé€𝄞", $place),
+            (Insert(3, 'x'), Done, "aéx€𝄞", $place),
+            (Insert(6, 'x'), Done, "aé€x𝄞", $place),
+            (Insert(10, 'x'), Done, "aé€𝄞x", $place),
+            (InsertStr(0, "né"), Done, "néaé€𝄞", $place),
+            (InsertStr(1, "né"), Done, "anéé€𝄞", $place),
+            (InsertStr(3, "né"), Done, "aéné€𝄞", $place),
+            (InsertStr(6, "né"), Done, "aé€né𝄞", $place),
+            (InsertStr(10, "né"), Done, "aé€𝄞né", $place),
+        ]
+    };
 }
 
-const TEXTS_INSERTED: &[List] = &[(
-    TEXT,
-    &[
-        (InsertStr(0, "né"), Done, "néaé€𝄞", AsMade),
-        (InsertStr(1, "né"), Done, "anéé€𝄞", AsMade),
-        (InsertStr(3, "né"), Done, "aéné€𝄞", AsMade),
-        (InsertStr(6, "né"), Done, "aé€né𝄞", AsMade),
-        (InsertStr(10, "né"), Done, "aé€𝄞né", AsMade),
-        // No places.
-        (InsertStr(2, "né"), BadPlace, TEXT, AsMade),
-        (InsertStr(4, "né"), BadPlace, TEXT, AsMade),
-        (InsertStr(5, "né"), BadPlace, TEXT, AsMade),
-        (InsertStr(7, "né"), BadPlace, TEXT, AsMade),
-        (InsertStr(8, "né"), BadPlace, TEXT, AsMade),
-        (InsertStr(9, "né"), BadPlace, TEXT, AsMade),
-        (InsertStr(11, "né"), BadPlace, TEXT, AsMade),
-        (InsertStr(usize::MAX, "né"), BadPlace, TEXT, AsMade),
-    ],
-)];
+const INSERTED: &[Step] = inserted!(AsMade);
 
-#[test]
-fn a_text_goes_in_at_each_place_and_nowhere_else(rt: HostRuntime) {
-    assert_each_alone(&rt, rt.alloc(), TEXTS_INSERTED);
+/// The same in a text that is full.
+const OUTGROWN: &[Step] = inserted!(OnHeap);
+
+const CUT: &[Step] = &[
+    (Truncate(0), Done, "", AsMade),
+    (Truncate(1), Done, "a", AsMade),
+    (Truncate(3), Done, "aé", AsMade),
+    (Truncate(6), Done, "aé€", AsMade),
+    (Truncate(10), Done, TEXT, AsMade),
+    (Remove(0), Char('a'), "é€𝄞", AsMade),
+    (Remove(1), Char('é'), "a€𝄞", AsMade),
+    (Remove(3), Char('€'), "aé𝄞", AsMade),
+    (Remove(6), Char('𝄞'), "aé€", AsMade),
+    // None begins at the end.
+    (Remove(10), BadPlace, TEXT, AsMade),
+];
+
+/// Offsets that are no places.
+const OTHERS: &[usize] = &[2, 4, 5, 7, 8, 9, 11, usize::MAX];
+
+fn assert_places(rt: &impl Abort, alloc: Global, kinds: Kinds, inserted: &[Step]) {
+    let lists: [List; 2] = [(TEXT, inserted), (TEXT, CUT)];
+    assert_right(rt, play_each_alone(rt, alloc, kinds, &lists));
+    for &offset in OTHERS {
+        let refused = [
+            (Insert(offset, 'x'), BadPlace, TEXT, AsMade),
+            (InsertStr(offset, "né"), BadPlace, TEXT, AsMade),
+            (Truncate(offset), BadPlace, TEXT, AsMade),
+            (Remove(offset), BadPlace, TEXT, AsMade),
+        ];
+        assert_right(rt, play_each_alone(rt, alloc, kinds, &[(TEXT, &refused)]));
+    }
 }
 
-const CUT: &[List] = &[(
-    TEXT,
-    &[
-        (Truncate(0), Done, "", AsMade),
-        (Truncate(1), Done, "a", AsMade),
-        (Truncate(3), Done, "aé", AsMade),
-        (Truncate(6), Done, "aé€", AsMade),
-        (Truncate(10), Done, TEXT, AsMade),
-        // No places.
-        (Truncate(2), BadPlace, TEXT, AsMade),
-        (Truncate(4), BadPlace, TEXT, AsMade),
-        (Truncate(5), BadPlace, TEXT, AsMade),
-        (Truncate(7), BadPlace, TEXT, AsMade),
-        (Truncate(8), BadPlace, TEXT, AsMade),
-        (Truncate(9), BadPlace, TEXT, AsMade),
-        (Truncate(11), BadPlace, TEXT, AsMade),
-        (Truncate(usize::MAX), BadPlace, TEXT, AsMade),
-    ],
-)];
-
 #[test]
-fn a_text_is_cut_at_each_place_and_nowhere_else(rt: HostRuntime) {
-    assert_each_alone(&rt, rt.alloc(), CUT);
+fn each_place_is_taken_and_no_other_offset(rt: HostRuntime) {
+    assert_places(&rt, rt.alloc(), EVERYWHERE, INSERTED);
 }
 
-const TAKEN_OUT: &[List] = &[(
-    TEXT,
-    &[
-        (Remove(0), Char('a'), "é€𝄞", AsMade),
-        (Remove(1), Char('é'), "a€𝄞", AsMade),
-        (Remove(3), Char('€'), "aé𝄞", AsMade),
-        (Remove(6), Char('𝄞'), "aé€", AsMade),
-        // None begins at the end.
-        (Remove(10), BadPlace, TEXT, AsMade),
-        // No places.
-        (Remove(2), BadPlace, TEXT, AsMade),
-        (Remove(4), BadPlace, TEXT, AsMade),
-        (Remove(5), BadPlace, TEXT, AsMade),
-        (Remove(7), BadPlace, TEXT, AsMade),
-        (Remove(8), BadPlace, TEXT, AsMade),
-        (Remove(9), BadPlace, TEXT, AsMade),
-        (Remove(11), BadPlace, TEXT, AsMade),
-        (Remove(usize::MAX), BadPlace, TEXT, AsMade),
-    ],
-)];
-
+/// The text has no room left, or much.
 #[test]
-fn a_character_is_taken_out_where_it_begins_and_nowhere_else(rt: HostRuntime) {
-    assert_each_alone(&rt, rt.alloc(), TAKEN_OUT);
+fn places_are_the_same_at_each_limit(rt: HostRuntime) {
+    assert_places(&rt, rt.alloc(), within(10), OUTGROWN);
+    assert_places(&rt, rt.alloc(), within(13), INSERTED);
+    assert_places(&rt, rt.alloc(), within(300), INSERTED);
 }
 
-/// All tables of places.
-pub const ALL: &[&[List]] = &[INSERTED, TEXTS_INSERTED, CUT, TAKEN_OUT];
+#[test]
+fn places_are_the_same_on_the_heap(rt: HostRuntime) {
+    assert_places(&rt, rt.alloc(), (&[Inlinable], 3, &[HEAP_ROOM]), INSERTED);
+}

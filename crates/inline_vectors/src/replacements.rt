@@ -1,64 +1,53 @@
 //! Which bytes take the place of a text's: as many as it has, and UTF-8.
-ghost use Rattle.std.specs.Prelude.{◌≤◌};
-
-use crate::steps::reply_by_call;
-use crate::texts::letters;
+use crate::player::{Tally, ample, assert_right, play, within};
+use crate::steps::Where::AsMade;
+use crate::texts::whole_of;
 use inlinable_string::run::Command::ReplaceBytes;
 use inlinable_string::run::Reply::{self, Done, NotUtf8};
 use std::alloc::Global;
 use std::process::Abort;
-use test_support::ArrayText;
+use std::str;
 
-/// These bytes from `at` on, and 'a' before and behind them.
-fn letters_around<const N: usize>(rt: &impl Abort, at: usize, bytes: &[u8]) -> [u8; N] {
-    assert!(rt; bytes.len() <= N && at <= N - bytes.len());
-    let mut joined = [b'a'; N];
-    let cells = &mut joined[..];
-    cells[at..at + bytes.len()].copy_from_slice(bytes);
-    joined
-}
-
-/// Puts bytes in the place of as many letters that fill a text: from `at` on those of `sequence`,
-/// letters else. Whether it has this reply, and the bytes are as it says.
-pub fn is_replaced_at<const N: usize>(
+/// Replaces a text of `limit` letters by bytes: those of `sequence` from `at` on, and letters else.
+pub fn play_replaced(
     rt: &impl Abort,
     alloc: Global,
+    limit: usize,
     sequence: &[u8],
     at: usize,
     reply: Reply,
-) -> bool
-    requires { N ≤ 300 }
-{
-    let bytes: [u8; N] = letters_around(rt, at, sequence);
-    let mut text: ArrayText<N> = letters(rt, alloc, None, N);
-    let given = reply_by_call(&mut text, ReplaceBytes(&bytes));
-    let left = if reply == Done { bytes } else { [b'a'; N] };
-    given == reply && text.0.into_bytes() == left
-}
-
-fn assert_replaced_at<const N: usize>(
-    rt: &impl Abort,
-    alloc: Global,
-    sequence: &[u8],
-    at: usize,
-    reply: Reply,
-)
-    requires { N ≤ 300 }
-{
-    assert!(rt;
-        is_replaced_at::<N>(rt, alloc, sequence, at, reply),
-        "{sequence:?} from {at}"
-    );
+) -> Tally {
+    let letters = whole_of(rt, alloc, "a", limit);
+    let mut bytes = Vec::from_slice(alloc, letters.as_bytes()).expect(rt, "memory");
+    for (i, &byte) in sequence.iter().enumerate() {
+        *bytes
+            .get_mut(at.saturating_add(i))
+            .expect(rt, "a byte of the text") = byte;
+    }
+    let content = match str::from_utf8(&bytes) {
+        Ok(content) if reply == Done => content,
+        _ => letters.as_str(),
+    };
+    let steps = [(ReplaceBytes(&bytes), reply, content, AsMade)];
+    play(
+        rt,
+        alloc,
+        within(limit),
+        at,
+        ample(letters.as_str(), &steps),
+    )
 }
 
 /// At both ends of a text, and in its middle.
 fn assert_replaced(rt: &impl Abort, alloc: Global, sequence: &[u8], reply: Reply) {
-    assert_replaced_at::<5>(rt, alloc, sequence, 0, reply);
-    assert_replaced_at::<5>(rt, alloc, sequence, 1, reply);
-    assert!(rt; sequence.len() <= 30);
-    assert_replaced_at::<30>(rt, alloc, sequence, 0, reply);
-    assert_replaced_at::<30>(rt, alloc, sequence, 13, reply);
-    assert_replaced_at::<30>(rt, alloc, sequence, 30 - sequence.len(), reply);
+    for (limit, at) in [
+        (8, 0),
+        (8, 1),
+        (30, 13),
+        (30, 30usize.saturating_sub(sequence.len())),
+    ] {
+        assert_right(rt, play_replaced(rt, alloc, limit, sequence, at, reply));
+    }
 }
 
 /// The byte ranges of a character's UTF-8, from its first byte on.
@@ -89,7 +78,7 @@ fn sequence_of(ranges: &[(u8, u8)], takes_last: bool, changed: Option<(usize, u8
     sequence
 }
 
-/// Puts that sequence in the place of letters.
+/// Replaces letters by that sequence.
 fn assert_sequence(
     rt: &impl Abort,
     alloc: Global,
@@ -103,47 +92,33 @@ fn assert_sequence(
     assert_replaced(rt, alloc, &sequence[..ranges.len()], reply);
 }
 
-/// Bytes at the ends of each range.
-fn assert_ends(rt: &impl Abort, alloc: Global, ranges: &[(u8, u8)], takes_last: bool) {
-    assert_sequence(rt, alloc, ranges, takes_last, None, Done);
-    for (i, &(first, last)) in ranges.iter().enumerate() {
-        assert_sequence(rt, alloc, ranges, takes_last, Some((i, first)), Done);
-        assert_sequence(rt, alloc, ranges, takes_last, Some((i, last)), Done);
-    }
-}
-
 #[test]
 fn bytes_at_the_ends_of_each_range_are_taken(rt: HostRuntime) {
+    let alloc = rt.alloc();
     for ranges in RANGES {
-        assert_ends(&rt, rt.alloc(), ranges, false);
-        assert_ends(&rt, rt.alloc(), ranges, true);
+        for takes_last in [false, true] {
+            for (i, &(first, last)) in ranges.iter().enumerate() {
+                assert_sequence(&rt, alloc, ranges, takes_last, Some((i, first)), Done);
+                assert_sequence(&rt, alloc, ranges, takes_last, Some((i, last)), Done);
+            }
+        }
     }
 }
 
-/// Bytes beside the ends of each range but the first byte's.
-fn assert_outside(rt: &impl Abort, alloc: Global, ranges: &[(u8, u8)], takes_last: bool) {
-    for (i, &(first, last)) in ranges.iter().enumerate().skip(1) {
-        let before = first.wrapping_sub(1);
-        assert_sequence(rt, alloc, ranges, takes_last, Some((i, before)), NotUtf8);
-        let after = last.wrapping_add(1);
-        assert_sequence(rt, alloc, ranges, takes_last, Some((i, after)), NotUtf8);
-    }
-}
-
-/// The sequence ends too early.
-fn assert_cut_short(rt: &impl Abort, alloc: Global, ranges: &[(u8, u8)], takes_last: bool) {
-    for end in 1..ranges.len() {
-        assert_sequence(rt, alloc, &ranges[..end], takes_last, None, NotUtf8);
-    }
-}
-
+/// A sequence that ends too early, or has a byte beside the ends of its range. The first bytes that
+/// begin no character have a test of their own.
 #[test]
 fn bytes_just_outside_of_a_range_are_refused(rt: HostRuntime) {
+    let alloc = rt.alloc();
     for ranges in RANGES {
-        assert_outside(&rt, rt.alloc(), ranges, false);
-        assert_outside(&rt, rt.alloc(), ranges, true);
-        assert_cut_short(&rt, rt.alloc(), ranges, false);
-        assert_cut_short(&rt, rt.alloc(), ranges, true);
+        for takes_last in [false, true] {
+            for (i, &(first, last)) in ranges.iter().enumerate().skip(1) {
+                let (before, after) = (first.wrapping_sub(1), last.wrapping_add(1));
+                assert_sequence(&rt, alloc, ranges, takes_last, Some((i, before)), NotUtf8);
+                assert_sequence(&rt, alloc, ranges, takes_last, Some((i, after)), NotUtf8);
+                assert_sequence(&rt, alloc, &ranges[..i], takes_last, None, NotUtf8);
+            }
+        }
     }
 }
 
@@ -166,56 +141,38 @@ const ILL_FORMED: &[&[u8]] = &[
     b"\xBF",
     b"\xC3\xA9\x80",
     b"\xE2\x82\xAC\xBF",
-    // A longer form than the character's.
+    // A longer form than the character's, a surrogate, and no first byte.
     b"\xC0\x80",
-    b"\xC1\xBF",
     b"\xE0\x80\x80",
-    b"\xE0\x9F\xBF",
     b"\xF0\x80\x80\x80",
-    b"\xF0\x8F\xBF\xBF",
-    // A surrogate.
-    b"\xED\xA0\x80",
     b"\xED\xBF\xBF",
-    // A number above that of the last character.
-    b"\xF4\x90\x80\x80",
-    b"\xF5\x80\x80\x80",
     b"\xFF",
     // A character that is cut short by the next one.
     b"\xF0\x9D\xC3\xA9",
 ];
 
-/// Bytes, where they begin among the letters, and the reply.
-type ReplacedRow<'a> = (&'a [u8], usize, Reply);
+/// A limit, bytes, where they begin among the letters, and the reply.
+type ReplacedRow<'a> = (usize, &'a [u8], usize, Reply);
 
-const REPLACED_AT_1: &[ReplacedRow] = &[(b"\x80", 0, NotUtf8)];
-
-const REPLACED_AT_3: &[ReplacedRow] = &[(b"\xED\xA0\x80", 0, NotUtf8), (b"\xED\x9F\xBF", 0, Done)];
-
-const REPLACED_AT_4: &[ReplacedRow] = &[
-    (b"\xF4\x90\x80\x80", 0, NotUtf8),
-    (b"\xF4\x8F\xBF\xBF", 0, Done),
+const REPLACED: &[ReplacedRow] = &[
+    (1, b"\x80", 0, NotUtf8),
+    (3, b"\xED\xA0\x80", 0, NotUtf8),
+    (3, b"\xED\x9F\xBF", 0, Done),
+    (4, b"\xF4\x90\x80\x80", 0, NotUtf8),
+    (4, b"\xF4\x8F\xBF\xBF", 0, Done),
+    (300, b"\xF0\x9D\x84", 297, NotUtf8),
+    (300, b"\xF0\x9D\x84\x9E", 296, Done),
 ];
-
-const REPLACED_AT_300: &[ReplacedRow] = &[
-    (b"\xF0\x9D\x84", 297, NotUtf8),
-    (b"\xF0\x9D\x84\x9E", 296, Done),
-];
-
-fn assert_each_replaced<const N: usize>(rt: &impl Abort, alloc: Global, rows: &[ReplacedRow])
-    requires { N ≤ 300 }
-{
-    for &(sequence, at, reply) in rows {
-        assert_replaced_at::<N>(rt, alloc, sequence, at, reply);
-    }
-}
 
 #[test]
 fn ill_formed_bytes_of_every_kind_are_refused(rt: HostRuntime) {
     for sequence in ILL_FORMED {
         assert_replaced(&rt, rt.alloc(), sequence, NotUtf8);
     }
-    assert_each_replaced::<4>(&rt, rt.alloc(), REPLACED_AT_4);
-    assert_each_replaced::<3>(&rt, rt.alloc(), REPLACED_AT_3);
-    assert_each_replaced::<1>(&rt, rt.alloc(), REPLACED_AT_1);
-    assert_each_replaced::<300>(&rt, rt.alloc(), REPLACED_AT_300);
+    for &(limit, sequence, at, reply) in REPLACED {
+        assert_right(
+            &rt,
+            play_replaced(&rt, rt.alloc(), limit, sequence, at, reply),
+        );
+    }
 }

@@ -1,13 +1,23 @@
-//! Room: when a reservation goes to the heap, what it is good for, and when a text comes back.
-use crate::steps::{List, assert_each, assert_each_alone, assert_right, play_on_all};
-use inlinable_string::run::Command::{Pop, Push, PushStr, Reserve, ReserveExact, ShrinkToFit};
-use inlinable_string::run::Reply::{Char, Done, NoMemory};
+//! Room: when a reservation moves a text to the heap, what it is good for, and when a text moves
+//! back inline.
+use crate::held::Memory::{self, Ample};
+use crate::kinds::Kind::{Boxable, Inlinable, Own, String as OfString};
+use crate::player::{
+    EACH_WAY, Kinds, Row, assert_each, assert_each_alone, assert_right, play, play_each,
+};
+use crate::steps::List;
+use crate::steps::Where::{AsMade, OnHeap, Shrunk};
+use crate::texts::whole_of;
+use inlinable_string::run::Command::{
+    self, Clear, Pop, Push, PushStr, Reserve, ReserveExact, ShrinkToFit,
+};
+use inlinable_string::run::Reply::{Char, Done, NoChar, NoMemory};
 use inlinable_string::{InlinableString, StringMake};
 use std::alloc::Global;
 use std::process::Abort;
-use test_support::letters::{LETTERS_30, LETTERS_31};
-use test_support::step::Step;
-use test_support::step::Where::{AsMade, OnHeap, Shrunk};
+use test_support::letters::{LETTERS_30 as A30, LETTERS_31 as A31};
+
+const MAX: usize = usize::MAX;
 
 /// That there is the room is asserted after each reservation that is granted.
 const RESERVED: &[List] = &[
@@ -29,6 +39,8 @@ const RESERVED: &[List] = &[
             (ReserveExact(30), Done, "", AsMade),
             (Reserve(31), Done, "", OnHeap),
             (ReserveExact(31), Done, "", OnHeap),
+            (Reserve(100), Done, "", OnHeap),
+            (ReserveExact(100), Done, "", OnHeap),
         ],
     ),
     (
@@ -36,10 +48,10 @@ const RESERVED: &[List] = &[
         &[
             (Reserve(1_000_000), Done, "a", OnHeap),
             (ReserveExact(1_000_000), Done, "a", OnHeap),
-            (Reserve(usize::MAX), NoMemory, "a", AsMade),
-            (ReserveExact(usize::MAX), NoMemory, "a", AsMade),
-            (Reserve(usize::MAX - 1), NoMemory, "a", AsMade),
-            (ReserveExact(usize::MAX - 1), NoMemory, "a", AsMade),
+            (Reserve(MAX), NoMemory, "a", AsMade),
+            (ReserveExact(MAX), NoMemory, "a", AsMade),
+            (Reserve(MAX - 1), NoMemory, "a", AsMade),
+            (ReserveExact(MAX - 1), NoMemory, "a", AsMade),
         ],
     ),
 ];
@@ -49,114 +61,139 @@ fn a_reservation_stays_inline_up_to_a_sum_of_30(rt: HostRuntime) {
     assert_each_alone(&rt, rt.alloc(), RESERVED);
 }
 
-const TEN: &str = "0123456789";
-
-/// 103 bytes.
-const FOO_AND_HUNDRED: &str = "foo0123456789012345678901234567890123456789\
-    0123456789012345678901234567890123456789\
-    01234567890123456789";
-
-/// Room for 100 bytes more is reserved and filled, and the text is shrunk.
-const FILLED: &[List] = &[(
-    "foo",
-    &[
-        (Reserve(100), Done, "foo", OnHeap),
-        (PushStr(TEN), Done, "foo0123456789", OnHeap),
-        (PushStr(TEN), Done, "foo01234567890123456789", OnHeap),
-        (
-            PushStr(TEN),
-            Done,
-            "foo012345678901234567890123456789",
-            OnHeap,
-        ),
-        (
-            PushStr(TEN),
-            Done,
-            "foo0123456789012345678901234567890123456789",
-            OnHeap,
-        ),
-        (
-            PushStr(TEN),
-            Done,
-            "foo0123456789012345678901234567890123456789\
-            0123456789",
-            OnHeap,
-        ),
-        (
-            PushStr(TEN),
-            Done,
-            "foo0123456789012345678901234567890123456789\
-            01234567890123456789",
-            OnHeap,
-        ),
-        (
-            PushStr(TEN),
-            Done,
-            "foo0123456789012345678901234567890123456789\
-            012345678901234567890123456789",
-            OnHeap,
-        ),
-        (
-            PushStr(TEN),
-            Done,
-            "foo0123456789012345678901234567890123456789\
-            0123456789012345678901234567890123456789",
-            OnHeap,
-        ),
-        (
-            PushStr(TEN),
-            Done,
-            "foo0123456789012345678901234567890123456789\
-            0123456789012345678901234567890123456789\
-            0123456789",
-            OnHeap,
-        ),
-        (PushStr(TEN), Done, FOO_AND_HUNDRED, OnHeap),
-        (ShrinkToFit, Done, FOO_AND_HUNDRED, OnHeap),
-    ],
-)];
-
-#[test]
-fn a_long_text_stays_on_the_heap_when_it_is_shrunk(rt: HostRuntime) {
-    assert_each(&rt, rt.alloc(), FILLED);
-}
-
-const COMING_BACK: &[List] = &[(
-    LETTERS_31,
-    &[
-        (ShrinkToFit, Done, LETTERS_31, OnHeap),
-        (Pop, Char('a'), LETTERS_30, OnHeap),
-        (ShrinkToFit, Done, LETTERS_30, Shrunk),
-        (Push('b'), Done, "aaaaaaaaaaaaaaaaaaaaaaaaaaaaaab", OnHeap),
-    ],
-)];
-
-#[test]
-fn a_text_comes_back_inline_when_it_is_shrunk_at_30_bytes(rt: HostRuntime) {
-    assert_each(&rt, rt.alloc(), COMING_BACK);
-}
-
-/// A short text that is shrunk comes back inline, and a `String`, however short, does not.
-const SHRUNK: &[List] = &[
-    ("", &[(ShrinkToFit, Done, "", Shrunk)]),
-    ("foo", &[(ShrinkToFit, Done, "foo", Shrunk)]),
-    (LETTERS_30, &[(ShrinkToFit, Done, LETTERS_30, Shrunk)]),
+/// Reservations in turn, and an edit after one that fails.
+const RESERVED_IN_TURN: &[List] = &[
+    (
+        "foo",
+        &[
+            (ReserveExact(27), Done, "foo", AsMade),
+            (Reserve(27), Done, "foo", AsMade),
+            (ReserveExact(28), Done, "foo", OnHeap),
+        ],
+    ),
+    (
+        "a",
+        &[
+            (ReserveExact(MAX), NoMemory, "a", AsMade),
+            (Reserve(MAX), NoMemory, "a", AsMade),
+            (Push('b'), Done, "ab", AsMade),
+        ],
+    ),
 ];
 
 #[test]
-fn a_string_stays_on_the_heap_however_short_it_is_shrunk(rt: HostRuntime) {
+fn reservations_stand_in_turn(rt: HostRuntime) {
+    assert_each(&rt, rt.alloc(), RESERVED_IN_TURN);
+}
+
+/// "foo" and ten times ten digits.
+pub fn foo_and_tens(rt: &impl Abort, alloc: Global) -> String {
+    let tens = whole_of(rt, alloc, "0123456789", 10);
+    let mut whole = whole_of(rt, alloc, "foo", 1);
+    whole.push_str(tens.as_str()).expect(rt, "memory");
+    whole
+}
+
+/// Reserves room for 100 bytes more in "foo", fills it with this memory, and shrinks the text.
+pub fn assert_hundred(rt: &impl Abort, alloc: Global, reserve: Command, memory: Memory) {
+    let whole = foo_and_tens(rt, alloc);
+    let whole = whole.as_str();
+    let foo = whole.get(..3).unwrap_or(whole);
+    let ten = whole.get(3..13).unwrap_or(whole);
+    let mut during = Vec::new(alloc);
+    for count in 1..=10usize {
+        let content = whole
+            .get(..count.saturating_mul(10).saturating_add(3))
+            .unwrap_or(foo);
+        during
+            .push((PushStr(ten), Done, content, OnHeap))
+            .expect(rt, "memory");
+    }
+    let before = [(reserve, Done, foo, OnHeap)];
+    let after = [(ShrinkToFit, Done, whole, OnHeap)];
+    let row = Row {
+        start: foo,
+        before: &before,
+        during: &during,
+        after: &after,
+        memory,
+        ways: EACH_WAY,
+    };
+    assert_right(rt, play(rt, alloc, NOT_ARRAYS, 0, row));
+}
+
+const NOT_ARRAYS: Kinds = (&[Inlinable, Boxable, OfString, Own], 30, &[None]);
+
+#[test]
+fn a_long_text_stays_on_the_heap_when_it_is_shrunk(rt: HostRuntime) {
+    assert_hundred(&rt, rt.alloc(), Reserve(100), Ample);
+    assert_hundred(&rt, rt.alloc(), ReserveExact(100), Ample);
+}
+
+const SHRUNK: &[List] = &[
+    ("", &[(ShrinkToFit, Done, "", Shrunk)]),
+    ("foo", &[(ShrinkToFit, Done, "foo", Shrunk)]),
+    (A30, &[(ShrinkToFit, Done, A30, Shrunk)]),
+    (A31, &[(ShrinkToFit, Done, A31, OnHeap)]),
+    (
+        "foo",
+        &[
+            (Reserve(100), Done, "foo", OnHeap),
+            (ShrinkToFit, Done, "foo", Shrunk),
+        ],
+    ),
+    (
+        A31,
+        &[
+            (Pop, Char('a'), A30, OnHeap),
+            (ShrinkToFit, Done, A30, Shrunk),
+        ],
+    ),
+    (
+        "",
+        &[
+            (PushStr(A31), Done, A31, OnHeap),
+            (Pop, Char('a'), A30, OnHeap),
+            (ShrinkToFit, Done, A30, Shrunk),
+            (Push('b'), Done, "aaaaaaaaaaaaaaaaaaaaaaaaaaaaaab", OnHeap),
+        ],
+    ),
+    (
+        "",
+        &[(Pop, NoChar, "", AsMade), (ShrinkToFit, Done, "", Shrunk)],
+    ),
+    (
+        "he",
+        &[
+            (Clear, Done, "", AsMade),
+            (PushStr("llo"), Done, "llo", AsMade),
+            (ShrinkToFit, Done, "llo", Shrunk),
+        ],
+    ),
+    (
+        "",
+        &[
+            (PushStr("he"), Done, "he", AsMade),
+            (ShrinkToFit, Done, "he", Shrunk),
+            (Reserve(28), Done, "he", Shrunk),
+        ],
+    ),
+];
+
+/// A text on the heap moves back inline at 30 bytes and fewer, and a `String` never does.
+#[test]
+fn a_text_moves_back_inline_when_it_is_shrunk_at_30_bytes(rt: HostRuntime) {
     assert_each(&rt, rt.alloc(), SHRUNK);
 }
 
-fn assert_too_large<S: StringMake + Drop>(rt: &impl Abort, alloc: Global) {
-    assert!(rt; S::with_capacity(alloc, usize::MAX).is_err());
-}
+const WITH_ROOM: Kinds = (&[Inlinable, Boxable, OfString, Own], 30, &[Some(100_000)]);
 
-/// Each kind of text is made with room for 0, 10, 30, 31 and 100 bytes, and for many.
+/// Each kind of text is made with the capacities of every table, and with many.
 #[test]
 fn a_text_is_made_inline_with_room_for_up_to_30_bytes(rt: HostRuntime) {
-    assert_each(&rt, rt.alloc(), &[("", &[])]);
-    assert_right(&rt, play_on_all(&rt, rt.alloc(), Some(100_000), "", &[]));
-    assert_too_large::<InlinableString>(&rt, rt.alloc());
-    assert_too_large::<String>(&rt, rt.alloc());
+    let alloc = rt.alloc();
+    assert_right(&rt, play_each(&rt, alloc, WITH_ROOM, &[("", &[])]));
+    let inlinable = <InlinableString as StringMake>::with_capacity(alloc, MAX);
+    let string = <String as StringMake>::with_capacity(alloc, MAX);
+    assert!(rt; inlinable.is_err() && string.is_err());
 }

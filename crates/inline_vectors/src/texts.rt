@@ -37,6 +37,13 @@ pub fn letters<S: EmptyText + Drop>(
     text
 }
 
+/// This many times this part.
+pub fn whole_of(rt: &impl Abort, alloc: Global, part: &str, times: usize) -> String {
+    let whole = part.repeat(alloc, times).expect(rt, "memory");
+    assert!(rt; whole.len() == part.len().saturating_mul(times));
+    whole
+}
+
 /// Whether the text is this, by all calls that look at it.
 pub fn is_text<S: StringExt>(text: &S, content: &str) -> bool
     ensures { IsTrue result → bytes_of (S.state text.now).text ≡ content.now }

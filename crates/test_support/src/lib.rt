@@ -1,5 +1,5 @@
-//! What tests share: all memory held, a count of the requests that were refused, user-defined texts
-//! under the trait `StringExt`, steps for tables, and what playing a table answers.
+//! What tests share: all memory held, whether an allocation has failed, and user-defined texts under
+//! the trait `StringExt`.
 #![tactic(auto)]
 
 mod array_text;
@@ -9,7 +9,6 @@ mod hoard;
 pub mod letters;
 mod refusals;
 pub mod step;
-pub mod tally;
 
 pub use array_text::ArrayText;
 pub use empty_text::EmptyText;

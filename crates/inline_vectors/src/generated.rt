@@ -1,8 +1,12 @@
 //! Generated lists of commands, on texts of several limits, with the plain program beside each.
 ghost use Rattle.std.specs.Prelude.{◌<◌, ◌≤◌, length};
 
-use super::{is_array, made, policy_of};
-use crate::beside::{Wrong, plain_start, wrong_verdict};
+use crate::beside::{is_agreed, plain_start};
+use crate::kinds::Kind::{self, Array, Inlinable, String as OfString};
+use crate::kinds::Way::{Dyn, Run};
+use crate::kinds::{DynText, Made, Played, Text, Way, policy_of};
+use crate::player::Wrong;
+use inlinable_string::Storage;
 use inlinable_string::run::Command::{
     self, Clear, Insert, InsertStr, Pop, Push, PushStr, Remove, ReplaceBytes, Reserve,
     ReserveExact, ShrinkToFit, Truncate,
@@ -10,16 +14,10 @@ use inlinable_string::run::Command::{
 use inlinable_string::run::Reply::{
     self, BadPlace, Char, Done, NoChar, NoMemory, NotUtf8, WrongLength,
 };
-use inlinable_string::run::{run, run_dyn};
-use inlinable_string::{InlinableString, InlinableStringN, Storage, StringExt};
-use inline_model::plain::room::PlainText;
 use inline_model::plain::text::{edit, size_of};
-use inline_model::verdict::{Seen, seen_of, seen_of_dyn};
 use std::alloc::{AllocError, Global};
 use std::process::Abort;
 use std::test::Fail;
-use test_support::step::Home;
-use test_support::{ArrayText, EmptyText};
 
 const SEED: u64 = 20_251_122;
 
@@ -73,35 +71,6 @@ const CAPACITIES: &[Option<usize>] = &[None, None, None, Some(8), Some(31), Some
 const NARROW: &str = "The quick brown fox jumps over the lazy dog, and the dog sleeps on and on.";
 
 const WIDE: &str = "éaé€é𝄞a€aéééaaa𝄞𝄞€a€éa€€aé𝄞éaé€é𝄞a€aéééaaa𝄞𝄞€a€éa€€aé𝄞";
-
-/// The commands that are drawn, each as often as it stands here. What one is given is drawn anew.
-/// One that isn't drawn fails the test, which counts each.
-const DRAWN: &[Command] = &[
-    Push('a'),
-    Push('a'),
-    Push('a'),
-    PushStr(""),
-    PushStr(""),
-    PushStr(""),
-    Insert(0, 'a'),
-    Insert(0, 'a'),
-    Insert(0, 'a'),
-    InsertStr(0, ""),
-    InsertStr(0, ""),
-    Truncate(0),
-    Truncate(0),
-    Pop,
-    Pop,
-    Remove(0),
-    Remove(0),
-    Remove(0),
-    Clear,
-    ReplaceBytes(&[]),
-    ReplaceBytes(&[]),
-    Reserve(0),
-    ReserveExact(0),
-    ShrinkToFit,
-];
 
 /// Numbers below bounds, by a linear congruence whose upper bits are taken.
 #[derive(Drop)]
@@ -186,21 +155,22 @@ impl Draws {
         }
     }
 
-    /// A command, of which it is known what text it is given to.
+    /// A command, of which it is known what text it is given to. One that isn't drawn fails the
+    /// test, which counts each.
     fn command(&mut self, text: &[char]) -> Command<'static> {
-        match self.one_of(DRAWN) {
-            Push(_) => Push(self.one_of(CHARS)),
-            PushStr(_) => PushStr(self.string(text)),
-            Insert(_, _) => Insert(self.place(text), self.one_of(CHARS)),
-            InsertStr(_, _) => InsertStr(self.place(text), self.string(text)),
-            Truncate(_) => Truncate(self.place(text)),
-            Pop => Pop,
-            Remove(_) => Remove(self.place(text)),
-            Clear => Clear,
-            ReplaceBytes(_) => ReplaceBytes(self.bytes(text)),
-            Reserve(_) => Reserve(self.room(text)),
-            ReserveExact(_) => ReserveExact(self.room(text)),
-            ShrinkToFit => ShrinkToFit,
+        match self.below(24) {
+            0..=2 => Push(self.one_of(CHARS)),
+            3..=5 => PushStr(self.string(text)),
+            6..=8 => Insert(self.place(text), self.one_of(CHARS)),
+            9..=10 => InsertStr(self.place(text), self.string(text)),
+            11..=12 => Truncate(self.place(text)),
+            13..=14 => Pop,
+            15..=17 => Remove(self.place(text)),
+            18 => Clear,
+            19..=20 => ReplaceBytes(self.bytes(text)),
+            21 => Reserve(self.room(text)),
+            22 => ReserveExact(self.room(text)),
+            _ => ShrinkToFit,
         }
     }
 }
@@ -236,74 +206,83 @@ impl List {
     }
 }
 
-/// Gives a list to a new text with the plain program beside it. Answers where the text lies then,
-/// or what is wrong.
-fn end_of_list<S: EmptyText + Drop>(
+/// Gives a list to an empty text with the plain program beside it. Answers where the text is stored
+/// then, or what is wrong. An array fails to grow, so the plain program alone knows its replies.
+fn end_of<T: Played + Drop>(
     rt: &impl Abort,
     alloc: Global,
-    home: Home,
-    capacity: Option<usize>,
+    mut text: T,
+    made: Made,
+    way: Way,
     list: &List,
 ) -> Result<Storage, Wrong> {
-    let mut text: S = made(rt, alloc, capacity);
-    let start = plain_start(rt, alloc, seen_of(&text), policy_of(home));
-    let mut replies = [BadPlace; MOST_COMMANDS];
+    let start = plain_start(rt, alloc, text.seen(), policy_of(made));
+    let mut room = [BadPlace; MOST_COMMANDS];
     let count = list.commands.len();
     assert!(rt; count <= MOST_COMMANDS);
-    run(&mut text, &list.commands, &mut replies[..count]);
-    end_of(
-        rt,
-        alloc,
-        start,
-        home,
-        list,
-        &replies[..count],
-        seen_of(&text),
-    )
+    text.give(way, &list.commands, &mut room[..count]);
+    let replies = &room[..count];
+    let is_told = match made.kind {
+        Array => true,
+        _ => replies == list.replies.as_slice(),
+    };
+    if !is_told {
+        Err(Wrong::Reply)
+    } else if is_agreed(rt, alloc, start, &list.commands, replies, text.seen()) {
+        Ok(text.seen().storage)
+    } else {
+        Err(Wrong::Plain)
+    }
 }
 
-/// The same on a text behind a `dyn`.
-fn end_of_list_dyn(
+/// Gives a list to a new text of this limit.
+fn end_within<const N: usize>(
     rt: &impl Abort,
     alloc: Global,
-    text: &mut dyn StringExt,
-    home: Home,
+    kind: Kind,
+    room: Option<usize>,
     list: &List,
-) -> Result<Storage, Wrong> {
-    let start = plain_start(rt, alloc, seen_of_dyn(text), policy_of(home));
-    let mut replies = [BadPlace; MOST_COMMANDS];
-    let count = list.commands.len();
-    assert!(rt; count <= MOST_COMMANDS);
-    run_dyn(text, &list.commands, &mut replies[..count]);
-    end_of(
-        rt,
-        alloc,
-        start,
-        home,
-        list,
-        &replies[..count],
-        seen_of_dyn(text),
-    )
+) -> Result<Storage, Wrong>
+    requires { N ≤ 300 }
+{
+    let made = Made {
+        kind,
+        limit: N,
+        room,
+    };
+    let text: Text<N> = Text::empty(rt, alloc, made);
+    end_of(rt, alloc, text, made, Run, list)
 }
 
-/// Where a text lies that is seen so after these replies, or what is wrong with them or with it. To
-/// an array memory is refused, so the plain program alone tells its replies.
-fn end_of(
+fn end_of_string(
     rt: &impl Abort,
     alloc: Global,
-    start: PlainText,
-    home: Home,
+    room: Option<usize>,
     list: &List,
-    replies: &[Reply],
-    end: Seen<'_>,
 ) -> Result<Storage, Wrong> {
-    if !is_array(home) && replies != list.replies.as_slice() {
-        return Err(Wrong::Replies);
-    }
-    match wrong_verdict(rt, alloc, start, &list.commands, replies, end) {
-        Some(wrong) => Err(wrong),
-        None => Ok(end.storage),
-    }
+    let made = Made {
+        kind: OfString,
+        limit: 0,
+        room,
+    };
+    let text = DynText::empty(rt, alloc, made).expect(rt, "a `dyn` of a string");
+    end_of(rt, alloc, text, made, Dyn, list)
+}
+
+/// Gives a list to a text of each kind. Answers how many these were, and where that of 30 inline
+/// bytes is stored then, or what is wrong.
+pub fn ends_of(
+    rt: &impl Abort,
+    alloc: Global,
+    room: Option<usize>,
+    list: &List,
+) -> Result<(usize, Storage), Wrong> {
+    let none = end_within::<0>(rt, alloc, Inlinable, room, list)?;
+    let eight = end_within::<8>(rt, alloc, Inlinable, room, list)?;
+    let string = end_of_string(rt, alloc, room, list)?;
+    let array = end_within::<30>(rt, alloc, Array, None, list)?;
+    let thirty = end_within::<30>(rt, alloc, Inlinable, room, list)?;
+    Ok(([none, eight, string, array, thirty].len(), thirty))
 }
 
 /// Which of the seven kinds a reply is.
@@ -379,23 +358,6 @@ impl Counts {
             && self.commands.iter().all(least)
             && self.replies.iter().all(least)
     }
-}
-
-/// Gives a list to a text of each kind. Answers how many these were, and where that of 30 inline
-/// bytes lies then, or what is wrong.
-pub fn ends_of(
-    rt: &impl Abort,
-    alloc: Global,
-    capacity: Option<usize>,
-    list: &List,
-) -> Result<(usize, Storage), Wrong> {
-    let none = end_of_list::<InlinableStringN<0>>(rt, alloc, Home::Either(0), capacity, list)?;
-    let eight = end_of_list::<InlinableStringN<8>>(rt, alloc, Home::Either(8), capacity, list)?;
-    let mut text: String = made(rt, alloc, capacity);
-    let string = end_of_list_dyn(rt, alloc, &mut text, Home::Heap, list)?;
-    let array = end_of_list::<ArrayText<30>>(rt, alloc, Home::Array(30), None, list)?;
-    let thirty = end_of_list::<InlinableString>(rt, alloc, Home::Either(30), capacity, list)?;
-    Ok(([none, eight, string, array, thirty].len(), thirty))
 }
 
 /// Gives each list to a text of each kind. Answers of what sorts the lists were, or the number of
