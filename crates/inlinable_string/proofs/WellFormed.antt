@@ -1,5 +1,5 @@
 -- The states of the test for UTF-8, and the ranges of bytes that each has before it.
-use Rattle.inlinable_string.proofs.Common.{common_steps, ◌≡◌, ◌↔◌, inl, inr, ℕ, zero, suc, ◌+◌, ◌-◌, ◌*◌, ◌/◌, ◌%◌, ◌<◌, ◌≤◌, Bool, true, false, List, [], ◌∷◌, ◌++◌, length, take, drop, refl, ap, sym, ◌∙◌, arith, subst, ⊎_elim, IsAscii, IsUtf8, IsUtf8-append, IsUtf8-encode, encode_utf8, encode_utf8_all, append-nil, take_all, take_more, length-encode, len_utf8_bounds, nil_from_length, eqb-true, take-append-drop, drop_at, append_assoc, ◌==◌, if◌then◌else◌, nat_lt, nat_eq, cases_lt, cases_Bool, cond-true, cond-false, and_parts, nat_tests, ltb-true, lt-ltb, le-ltb, slice_index, following, count_in, char_len}
+use Rattle.inlinable_string.proofs.Common.{common_steps, ◌≡◌, ◌↔◌, inl, ℕ, zero, suc, ◌+◌, ◌*◌, ◌/◌, ◌%◌, ◌<◌, ◌≤◌, Bool, true, false, List, [], ◌∷◌, ◌++◌, length, take, drop, refl, ap, sym, ◌∙◌, arith, subst, ⊎_elim, IsAscii, IsUtf8, IsUtf8-append, IsUtf8-encode, encode_utf8, encode_utf8_all, append-nil, take_all, take_more, length-encode, len_utf8_bounds, nil_from_length, eqb-true, take-append-drop, drop_at, append_assoc, if◌then◌else◌, nat_lt, nat_eq, cases_lt, cases_Bool, cond-true, cond-false, and_parts, nat_tests, ltb-true, lt-ltb, le-ltb, slice_index, following, count_in, char_len}
 use Rattle.std.specs.Int.{is_in_range}
 use Rattle.std.specs.Prelude.{◌&&◌, ◌^◌}
 use Rattle.inlinable_string.specs.WellFormed.{Follows, nothing, ranges_of, is_state, state_of, Leads}
@@ -211,9 +211,6 @@ row_leads b n byte is =
 -- the bytes before i are read
 abbrev pub IsRead : ℕ → List ℕ → ℕ → ℕ → Type 0
 IsRead from bs i to = Leads from (take i bs) to
-
-pub read_none : (from : ℕ) (bs : List ℕ) → is_state from ≡ true → IsRead from bs 0 from
-read_none from bs known = record { known = known; rest = λ s. ((λ f. f), (λ f. f)) }
 
 -- one byte more is read
 pub read_one : (from : ℕ) (bs : List ℕ) (i bits row : ℕ) → IsRead from bs i (state_of bits)
