@@ -9,7 +9,7 @@ MUST_FAIL = {'inlinable_string': 29}
 EDITS = {'inlinable_string': 158, 'inline_model': 20, 'inline_uses': 22, 'script_language': 34}
 
 # By crate: requests for memory refused one after the other, and how often a test met one.
-REFUSALS = {'inline_refusals': (7, 140)}
+REFUSALS = {'inline_refusals': (7, 155)}
 
 # Lines that `side_by_side` answers, whose digests stand in `replay/digests`: how many there are of each
 # kind; and of each name below how many there must be among the lines and their answers.
