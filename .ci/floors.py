@@ -4,121 +4,86 @@ A number is raised when something is added. It is lowered only in the commit tha
 counts, with the reason.
 """
 
-# Edits in `must-fail-together/`, by crate.
-EDITS = {'inlinable_string': 220, 'inline_model': 34, 'inline_uses': 26, 'script_language': 51}
+# Edits in `must-fail-together/` and in `must-fail/`, by crate: just as many.
+MUST_FAIL = {'inlinable_string': 29}
+EDITS = {'inlinable_string': 158, 'inline_model': 20, 'inline_uses': 22, 'script_language': 34}
 
 # By crate: requests for memory refused one after the other, and how often a test met one.
-REFUSALS = {'inline_refusals': (4, 106), 'inline_script': (7, 55)}
+REFUSALS = {'inline_refusals': (7, 140)}
 
-# The stored cases of the files in `replay/`, and the scripts whose answers are kept as digests: all of them.
-STORED = {'named.cases': 258, 'drawn.cases': 63, 'digests': 100_000}
-# Of those scripts, and of the lines below, so many are run, the first, unless all are asked for.
-SCRIPTS_RUN, LINES_RUN = 40_000, 100_000
+# Lines that `side_by_side` answers, whose digests stand in `replay/digests`: how many there are of each
+# kind; and of each name below how many there must be among the lines and their answers.
+BESIDE = {'calls': 40_000, 'script': 40_000}
+BESIDE_OF_EACH = 50
+BESIDE_TEXTS = {
+    'InlineString': 'default cmp partial_cmp',
+    **dict.fromkeys(('InlinableString', 'InlinableStringN<8>'), (
+        'default from_str from_string from_chars from_strs collect with_capacity from_utf8 from_utf8_unchecked '
+        'from_utf8_lossy from_utf16 from_utf16_lossy add extend extend_chars extend_char_refs extend_strs reserve '
+        'reserve_exact shrink_to_fit capacity cmp partial_cmp')),
+    'String': (
+        'collect with_capacity from_utf8 from_utf8_unchecked from_utf8_lossy from_utf16 from_utf16_lossy extend '
+        'reserve reserve_exact shrink_to_fit capacity cmp partial_cmp')}
+BESIDE_NAMES = (
+    *(f'{name} {word}' for name, words in BESIDE_TEXTS.items() for word in (
+        'new from clone push push_str insert insert_str write_str write_char pop remove truncate clear len is_empty '
+        f'as_bytes as_str into_bytes eq eq_str hash display padded cut debug {words}').split()),
+    *(f'{name} {refusal}' for name in BESIDE_TEXTS for refusal in (
+        'insert bad_place', 'insert_str bad_place', 'truncate bad_place', 'remove bad_place', 'pop none', 'eq true',
+        'eq false', 'eq_str true', 'eq_str false', 'cmp less', 'cmp equal', 'cmp greater', 'partial_cmp less',
+        'partial_cmp equal', 'partial_cmp greater')),
+    *(f'InlineString {refusal}' for refusal in (
+        'push full', 'push_str full', 'insert full', 'insert_str full', 'write_str write_fault',
+        'write_char write_fault', 'from too_long', 'eq too_long')),
+    *(f'{name} {answer}' for name in BESIDE_TEXTS if name != 'InlineString' for answer in (
+        'reserve no_memory', 'reserve_exact no_memory', 'with_capacity no_memory', 'from_utf8 done',
+        'from_utf8 not_utf8', 'from_utf8_lossy borrowed', 'from_utf8_lossy owned', 'from_utf16 done',
+        'from_utf16 unpaired')),
+    *(f'{name} {word} promotes' for name in ('InlinableString', 'InlinableStringN<8>') for word in (
+        'push push_str insert insert_str write_str write_char add extend extend_chars extend_char_refs extend_strs '
+        'reserve reserve_exact').split()),
+    *(f'{name} shrink_to_fit demotes' for name in ('InlinableString', 'InlinableStringN<8>')),
+    *(f'{name} ends inline' for name in BESIDE_TEXTS if name != 'String'),
+    *(f'{name} ends heap' for name in BESIDE_TEXTS if name != 'InlineString'),
+    *(f'script {word} {end}' for word in ('inline', 'inline0', 'inline8', 'heap', 'string') for end in (
+        '0', '2', 'bad command')),
+    *(f'script {word} storage inline' for word in ('inline', 'inline0', 'inline8', 'heap')),
+    *(f'script {word} storage heap' for word in ('inline', 'inline0', 'inline8', 'heap', 'string')))
 
-# Inputs for the readers: how many have their answers by value, and how many as digests.
-READINGS = {'values': 60, 'digests': 1_000_000}
-# Of those that are run: how many there must be of each kind and of each answer.
-READINGS_OF_EACH = 2_000
-READING_KINDS = (
-    'ascii_bytes', 'characters', 'row_of_table', 'beside_row', 'overlong', 'surrogate_bytes',
-    'past_the_last', 'odd_bytes', 'cut_character', 'spoilt_characters', 'noise_bytes',
-    'ascii_units', 'character_units', 'edge_units', 'pairs', 'lone_high', 'lone_low',
-    'reversed_pair', 'several_surrogates', 'noise_units')
-READING_ANSWERS = tuple(f'{name} {answer}' for name in ('String', 'InlinableString') for answer in (
-    'from_utf8 text', 'from_utf8 fault', 'from_utf8_lossy borrowed', 'from_utf8_lossy owned',
-    'from_utf16 text', 'from_utf16 fault', 'from_utf16_lossy text'))
-
-# Pairs of texts: the same. The words are the formats, and for each type the ways in which a text of it
-# comes about.
-PAIRS = {'values': 30, 'digests': 1_000_000}
-PAIRS_OF_EACH = 2_000
-PAIR_KINDS = (
-    'equal_texts', 'front_of_other', 'other_last', 'same_size', 'an_empty_text', 'at_the_limits',
-    'escaped', 'marks', 'edges', 'any_characters')
-PAIR_WORDS = (
-    'plain', 'wide', 'left', 'right', 'center', 'cut', 'cut_left', 'cut_right', 'cut_center',
-    *(f'{name} {way}' for name in ('InlineString', 'InlinableString', 'InlinableStringN<8>')
-      for way in ('made', 'truncated', 'popped', 'removed', 'removed_wide')),
-    'InlinableString reserved', 'InlinableStringN<8> reserved',
-    'equal in two ways', 'equal where one was reserved')
-PAIR_ANSWERS = (
-    *(f'{name} {answer}' for name in ('InlineString', 'InlinableString', 'InlinableStringN<8>')
-      for answer in (
-          'lies inline', 'eq true', 'eq false', 'cmp less', 'cmp equal', 'cmp greater',
-          'partial_cmp less', 'partial_cmp equal', 'partial_cmp greater',
-          'hash DefaultHasher', 'printed Display', 'printed Debug')),
-    'InlinableString lies heap', 'InlinableStringN<8> lies heap')
-
-# Calls on one text, on the original crate too: the same. The words are the calls of each type; the
-# answers are the refusals of each call, the calls by which a text goes to the heap or comes back, and
-# where it lies at the end.
-CALLS = {'values': 60, 'digests': 1_000_000}
-CALLS_OF_EACH = 300
-CALL_KINDS = (
-    'growths', 'cuts', 'slides', 'makers', 'room', 'readers', 'joins', 'comparisons', 'prints', 'views')
-CALL_WORDS = (
-    *(f'{name} {word}' for name in ('InlineString', 'InlinableString') for word in (
-        'new', 'default', 'from', 'clone', 'push', 'push_str', 'insert', 'insert_str', 'write_str',
-        'write_char', 'pop', 'remove', 'truncate', 'clear', 'len', 'is_empty', 'as_bytes', 'as_str',
-        'into_bytes', 'eq', 'eq_str', 'hash', 'display', 'padded', 'cut', 'debug')),
-    *(f'InlinableString {word}' for word in (
-        'from_str', 'from_string', 'from_chars', 'from_strs', 'collect', 'with_capacity', 'from_utf8',
-        'from_utf8_unchecked', 'from_utf8_lossy', 'from_utf16', 'from_utf16_lossy', 'add', 'extend',
-        'extend_chars', 'extend_char_refs', 'extend_strs', 'reserve', 'reserve_exact', 'shrink_to_fit',
-        'capacity', 'cmp', 'partial_cmp')))
-CALL_ANSWERS = (
-    *(f'{name} {word} bad_place' for name in ('InlineString', 'InlinableString')
-      for word in ('insert', 'insert_str', 'truncate', 'remove')),
-    *(f'{name} pop none' for name in ('InlineString', 'InlinableString')),
-    *(f'InlineString {word} full' for word in ('push', 'push_str', 'insert', 'insert_str')),
-    *(f'InlineString {word} write_fault' for word in ('write_str', 'write_char')),
-    *(f'InlineString {word} too_long' for word in ('from', 'eq')),
-    *(f'InlinableString {word} no_memory' for word in ('reserve', 'reserve_exact', 'with_capacity')),
-    'InlinableString from_utf8 not_utf8', 'InlinableString from_utf16 unpaired',
-    'InlinableString from_utf8_lossy borrowed', 'InlinableString from_utf8_lossy owned',
-    *(f'{word} promotes' for word in (
-        'push', 'push_str', 'insert', 'insert_str', 'write_str', 'write_char', 'add', 'extend',
-        'extend_chars', 'extend_char_refs', 'extend_strs', 'reserve', 'reserve_exact')),
-    'shrink_to_fit demotes',
-    'InlineString ends inline', 'InlinableString ends inline', 'InlinableString ends heap')
+# The cases of `replay/named_cases.py`.
+NAMED_CASES = 65
 
 # Hostile inputs: how many, the part of them that is accepted and so runs, and how many there must be
 # of each reply and of each fault that an input can lead to. (Want of memory before a run can't be
 # brought about by an input.)
-HOSTILE_INPUTS = 20_000
+HOSTILE_INPUTS = 6_000
 HOSTILE_ACCEPTED_PART = 1 / 5
-HOSTILE_OF_EACH = 100
+HOSTILE_OF_EACH = 30
 HOSTILE_REPLIES = ('done', 'char', 'none', 'bad place', 'not utf-8', 'wrong length', 'no memory')
 HOSTILE_FAULTS = ('bad argument', 'read fault', 'input too long', 'input is not utf-8',
                   'bad command', 'write fault')
 
-# Edits in `wrong-definitions/`, by crate.
-WRONG_DEFINITIONS = {'inlinable_string': 143, 'script_language': 101}
+# Edits in `wrong-definitions/`, by crate: just as many.
+WRONG_DEFINITIONS = {'inlinable_string': 140, 'script_language': 90}
 
 # Edits in `wrong-clauses/`, and public functions of `callers` that promise something.
 WRONG_CLAUSES = 5
-CALLERS = 190
-
-# Departures that the judge over the original crate makes, each of a row of `docs/DIFFERENCES.md`.
-DEPARTURES = 10
+CALLERS = 103
 
 # Lemmas and answers to goals, in the proofs of the crates and among the words of their definitions.
-PROOFS = 1_400
+PROOFS = 1_300
 
-# Functions that `docs/PROMISES.md` names, each time that it does.
-PROMISES = 158
+# Paths and names in backticks that the documents cite.
+CITED = 400
 
-# Rows of data that each picture of `docs/` is drawn from.
-PICTURES = {'array': 8, 'ways': 23, 'bench': 16, 'gate': 12}
-
-# What `CALLING.md` quotes of the sources: fences, clauses, words, laws, and laws with a caller's line.
-QUOTED = {'blocks': 23, 'clauses': 231, 'words': 50, 'laws': 71, 'cited': 66}
+# Functions of the library that `gate quick` proves.
+QUICK_PROVED = 37
 
 # By crate, for `gate quick`: tests that must pass without being proved, and how many at most may say
 # that they need the proved build.
 # The longest come first.
-TRIED = {'inline_vectors': (76, 33), 'inline_refusals': (41, 0), 'inline_script': (23, 3),
-         'inline_uses': (13, 4), 'inlinable_string': (14, 0), 'side_by_side': (4, 0)}
+TRIED = {'inline_vectors': (60, 25), 'inline_refusals': (31, 0), 'inline_script': (10, 2),
+         'inline_uses': (13, 4), 'inlinable_string': (6, 0)}
 
 # Workloads of the bench, and on how many of them each type of text is run.
 BENCH_WORKLOADS = 74

@@ -1,76 +1,64 @@
-"""gate bench [PROGRAM ..]: holds the checksums of the bench against those of Rust's `String`.
+"""gate bench [PROGRAM ..]: compares the checksums of the bench with those of Rust's `String`.
 
-Without PROGRAM they are the two builds of `bench` that `rt ci` leaves. Each runs every workload
-of `bench/workloads.py` on every text that has it, and must give the sum that `bench/sums` holds.
-Nothing is counted or timed. Each difference is printed; the last lines are, for each program, like
-`llvm: 74 workloads, 158 runs: 158 passed, 0 failed`. There must be as many workloads, and on each
-type of text as many, as `.ci/floors.py` says.
+Without PROGRAM they are the two builds of `bench` that `rt ci` leaves. Each runs every workload of
+`bench/workloads.py` on every type of text that has it, and must give the sum that `bench/sums` has.
+Nothing is counted or timed. There must be as many workloads, and as many on each type of text, as
+`.ci/floors.py` says.
 """
+import subprocess
 import sys
 from collections import Counter
+from concurrent.futures import ThreadPoolExecutor
 from functools import partial
 
 from floors import BENCH_TEXTS, BENCH_WORKLOADS
-from gate_parts.cases import Case
 from gate_parts.options import options
-from gate_parts.programs import all_runs, chosen, run
-from gate_parts.tree import Failure, in_tree
+from gate_parts.programs import SECONDS, chosen
+from gate_parts.tree import PROCESSORS, Failure, in_tree
 
 sys.path.insert(0, in_tree('bench'))
 import sums  # noqa: E402
 
 
-def case_of(workload, text, number):
-    """The run of a workload on a type of text, which must print this number."""
-    case = Case(f'{workload.name} on {text}')
-    case.words, case.input = sums.words_of(workload, text), workload.drawn()
-    case.output, case.status = f'{number}\n'.encode(), 0
-    return case
-
-
-def cases_of(stored):
-    """A run for each workload and each text that has it."""
-    return [case_of(workload, text, stored[workload.name])
-            for workload in sums.EACH for text in workload.texts]
+def given(program, run):
+    """What a program prints of a workload on a type of text, or in words why that is no sum."""
+    workload, text = run
+    try:
+        ran = subprocess.run([program, *sums.words_of(workload, text)], input=workload.drawn(), timeout=SECONDS,
+                             stdout=subprocess.PIPE, stderr=subprocess.DEVNULL)
+    except subprocess.TimeoutExpired:
+        return 'nothing in time'
+    printed = ran.stdout.decode(errors='replace')
+    return f'{printed.strip()} with status {ran.returncode}' if ran.returncode else printed
 
 
 def shortfalls():
     """In words, of what there is less than there must be."""
     if len(sums.EACH) < BENCH_WORKLOADS:
-        yield f'there are {len(sums.EACH)} workloads, and must be {BENCH_WORKLOADS}'
+        yield f'TOO FEW: there are {len(sums.EACH)} workloads, and must be {BENCH_WORKLOADS}'
     having = Counter(text for workload in sums.EACH for text in workload.texts)
     for text, wanted in BENCH_TEXTS.items():
         if having[text] < wanted:
-            yield f'{having[text]} workloads are run on {text}, and must be {wanted}'
+            yield f'TOO FEW: {having[text]} workloads are run on {text}, and must be {wanted}'
 
 
-def failed_sums(name, program, cases):
-    """How many of the sums a program does not give; each is printed."""
-    failed = 0
-    for (output, status), case in zip(all_runs(partial(run, program), cases), cases):
-        if (output, status) != (case.output, case.status):
-            failed += 1
-            print(f'{name}: FAILED {case.name}: wanted {case.output.decode().strip()}, '
-                  f'given {output.decode(errors="replace").strip()} with status {status}')
-    return failed
-
-
-def gives_the_sums(builds):
-    """Whether every build, each a name and a path, gives all sums, and there are enough."""
-    try:
-        cases = cases_of(sums.stored_sums())
-    except sums.BadSums as fault:
-        raise Failure(fault) from None
-    lacking = list(shortfalls())
-    for text in lacking:
-        print(f'TOO FEW: {text}')
-    failed = {name: failed_sums(name, path, cases) for name, path in builds.items()}
-    for name, count in failed.items():
-        print(f'{name}: {len(sums.EACH)} workloads, {len(cases)} runs: '
-              f'{len(cases) - count} passed, {count} failed')
-    return not lacking and not any(failed.values())
+def wrong_sums(name, program, stored):
+    """In words, each sum that a program does not give; how many were compared is printed."""
+    runs = [(workload, text) for workload in sums.EACH for text in workload.texts]
+    with ThreadPoolExecutor(PROCESSORS) as pool:
+        compared = list(zip(runs, pool.map(partial(given, program), runs)))
+    wrong = [f'{name}: FAILED {workload.name} on {text}: wanted {stored[workload.name]}, given {printed.strip()}'
+             for (workload, text), printed in compared if printed != f'{stored[workload.name]}\n']
+    print(f'{name}: {len(sums.EACH)} workloads, {len(runs)} runs: {len(runs) - len(wrong)} passed, {len(wrong)} failed')
+    return wrong
 
 
 def main(words):
-    given = options('bench', __doc__, words, 'programs')
-    return gives_the_sums(chosen(given.programs, 'bench'))
+    builds = chosen(options('bench', __doc__, words, 'programs').programs, 'bench')
+    try:
+        stored = sums.stored_sums()
+    except sums.BadSums as fault:
+        raise Failure(fault) from None
+    faults = [*shortfalls(), *(fault for name, path in builds.items() for fault in wrong_sums(name, path, stored))]
+    print(*faults, sep='\n')
+    return not faults

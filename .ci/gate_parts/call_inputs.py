@@ -1,20 +1,22 @@
-"""Calls on one text, one after the other: lines with its type, and a word for each call.
+"""Lines of calls on one text, one after the other, and lines of scripts.
 
     calls InlinableString from:6162 insert@1:c3a9 reserve@28 push_str:63 shrink_to_fit
+    script inline 707573682061
 
-Behind `@` stands a place, an amount or a width, and behind `:` a text, bytes or units of UTF-16, as
-hexadecimal digits. The text starts empty and inline, and a maker puts another in its place.
-`crates/line_answers/src/calls/` says what each word calls.
+Behind `@` stands a place, an amount, a width or a way in which a text comes about, and behind `:` a text,
+bytes or units of UTF-16, as hexadecimal digits. The text starts empty, and a maker puts another in its
+place. `crates/side_by_side/src` says what each word calls.
 """
-from floors import CALL_ANSWERS, CALL_KINDS, CALL_WORDS, CALLS_OF_EACH
-from floors import CALLS as HELD
+from gate_parts.cases import Case
+from gate_parts.characters import ESCAPED, MARKS, a_char, a_string, is_alike
 from gate_parts.draw import Draw
-from gate_parts.good_scripts import CHARS, a_growth, a_string, at_the_ends, line_of, way_back
-from gate_parts.language import GREATEST, Text, command_of, width
-from gate_parts.lines import Family, Input
-from gate_parts.named_calls import HEAP, NAMED, token
-from gate_parts.pair_inputs import ALIKE, ARRAY, ESCAPED, LIMIT, MARKS, a_char, some_text
+from gate_parts.encodings import nearly_utf8, nearly_utf16
+from gate_parts.good_scripts import a_growth, at_the_ends, good_script, line_of, way_back
+from gate_parts.language import GREATEST, STARTS, Text, Undecided, answer, command_of, width
 
+ARRAY, HEAP, SHORT, STRING = 'InlineString', 'InlinableString', 'InlinableStringN<8>', 'String'
+# By type: the word of the script language whose text it is, as the model has it.
+TYPES = {ARRAY: 'inline', HEAP: 'inline', SHORT: 'inline8', STRING: 'string'}
 READERS = 'from_utf8 from_utf8_unchecked from_utf8_lossy from_utf16 from_utf16_lossy'
 # By kind: the words that are drawn most.
 KINDS = {
@@ -23,63 +25,67 @@ KINDS = {
     'slides': 'slide pop remove',
     'makers': 'new default from clone from_str from_string from_chars from_strs collect with_capacity',
     'room': 'reserve reserve_exact with_capacity shrink_to_fit capacity push_str',
-    'readers': READERS + ' into_bytes shrink_to_fit',
-    'joins': 'add extend extend_chars extend_char_refs extend_strs',
+    'readers': READERS,
+    'joins': 'add extend extend_chars extend_char_refs extend_strs write_str write_char',
     'comparisons': 'eq eq_str hash cmp partial_cmp',
     'prints': 'display padded cut debug',
     'views': 'len is_empty as_bytes as_str into_bytes clone capacity',
 }
+# How often each comes beside the others: more often, where there is more to answer.
+WEIGHTS = {**dict.fromkeys(KINDS, 1), 'readers': 3, 'joins': 2, 'room': 2, 'comparisons': 2}
 # What `good_scripts.py` draws, and what is drawn between the words of a kind.
 SCRIPTED = frozenset('push push_str insert insert_str truncate pop remove clear reserve reserve_exact '
                      'shrink_to_fit'.split())
 BETWEEN = 'push push_str insert insert_str pop remove truncate slide'.split()
-# What `InlineString` lacks, there or here.
-NOT_IN_ARRAY = frozenset(
-    f'{READERS} from_str from_string from_chars from_strs collect with_capacity reserve reserve_exact '
-    'shrink_to_fit add extend extend_chars extend_char_refs extend_strs cmp partial_cmp capacity'.split())
+# What a type lacks.
+OWN = 'default from_str from_string from_chars from_strs add extend_chars extend_char_refs extend_strs'
+LACKING = {
+    ARRAY: f'{READERS} from_str from_string from_chars from_strs collect with_capacity reserve reserve_exact '
+           'shrink_to_fit add extend extend_chars extend_char_refs extend_strs capacity'.split(),
+    HEAP: (), SHORT: (), STRING: OWN.split()}
+# Of a kind with fewer words than that there is none on a type.
+FEWEST = 3
 # How many calls there are at most, behind the one that a text begins with.
 TURNS = (3, 6, 6, 6, 20)
-# Of a kind with fewer words than that there is none on an array.
-FEWEST = 3
 # A text is cut there, so that lines stay short.
 LONGEST = 40
-SIZES = (0, 1, 2, 8, 26, 27, 28, 28, 29, 29, 30, 30, 31, 32)
-# Characters that `Debug` prints alike, beside those of these ranges.
-KNOWN = frozenset(''.join((*CHARS, ESCAPED, MARKS)))
-# Bytes that are in no character, wherever they stand between two, and units of a surrogate alone.
-NO_CHARACTER = [bytes.fromhex(digits) for digits in
-                '80 bf c3 e282 f09d84 eda080 c080 f4908080 f8 ff'.split()]
-ALONE = [bytes.fromhex(digits) for digits in 'd800 dbff dc00 dfff'.split()]
+SIZES = (0, 1, 2, 7, 8, 9, 26, 27, 28, 28, 29, 29, 30, 30, 31, 32)
+# How a text that is compared comes about, with how many bytes more it had, or where it lies on the heap.
+WAYS = {0: 0, 1: 4, 3: 4}
+ON_HEAP = 2
+# So many scripts of a hundred have one byte wrong.
+SPOILT = 10
 
 
 class Played:
     """A text as the calls leave it, as far as draws go by it."""
 
     def __init__(self, name):
-        self.is_array, self.text = name == ARRAY, Text('inline')
+        self.name, self.text = name, Text(TYPES[name])
+        self.most = self.text.limit if name == ARRAY else GREATEST
 
     def obey(self, command):
         added = ''.join(part for part in command[1:] if isinstance(part, str))
-        if not self.is_array or self.text.size + width(added) <= LIMIT:
+        if self.text.size + width(added) <= self.most:
             self.text.obey(command)
 
-    def push(self, string):
-        self.obey(['push_str', string])
-
     def becomes(self, string, storage='inline'):
-        if not self.is_array or width(string) <= LIMIT:
-            self.text = Text('inline')
-            self.text.storage = storage
+        if width(string) <= self.most:
+            self.text = Text(TYPES[self.name])
+            if storage == 'heap':
+                self.text.storage = storage
             self.text.obey(['push_str', string])
+
+
+def token(word, *given):
+    """The call as it stands in a line."""
+    return word + ''.join(f'@{each}' if isinstance(each, int) else
+                          ':' + (each.encode() if isinstance(each, str) else each).hex() for each in given)
 
 
 def alike(string):
     """Without characters that `Debug` may print in another way here and there, and not too long."""
     return ''.join(char if is_alike(char) else 'é' for char in string[:LONGEST])
-
-
-def is_alike(char):
-    return char in KNOWN or any(least <= ord(char) <= most for least, most in ALIKE)
 
 
 def scripted(played, line):
@@ -90,6 +96,15 @@ def scripted(played, line):
     return token(word, *parts)
 
 
+def any_text(draw):
+    """Of a size near an edge as often as any other, or of what prints in another form."""
+    if draw.chance(60):
+        return a_string(draw, draw.choice(SIZES))
+    if draw.chance(50):
+        return ''.join(draw.choices(ESCAPED + MARKS, draw.randint(0, 9)))
+    return ''.join(a_char(draw) for _ in range(draw.randint(0, 14)))
+
+
 # Of each sort of word: the call, as it is drawn for the text that it is made on.
 
 def slide(draw, played, _):
@@ -98,72 +113,78 @@ def slide(draw, played, _):
     return scripted(played, (at_the_ends if is_inline else way_back)(draw, played.text))
 
 
-def any_text(draw):
-    """Of a size near the edge as often as any other, or of what prints in another form."""
-    kind = draw.randrange(10)
-    if kind < 6:
-        return a_string(draw, draw.choice(SIZES))
-    return some_text(draw) if kind < 8 else ''.join(draw.choices(ESCAPED + MARKS, draw.randint(0, 9)))
-
-
 def some_strings(draw, text):
     """Texts with a comma between two: empty ones too, and more than an array has bytes at times."""
     if draw.chance(20):
-        return ',' * draw.choice((1, 28, 29, 30, 31, LIMIT - min(text.size, LIMIT), 40))
-    return ','.join(alike(some_text(draw))[:4] for _ in range(draw.randint(0, 6)))
+        return ',' * draw.choice((1, 7, 8, 28, 29, 30, 31, max(0, 30 - text.size), 40))
+    return ','.join(alike(any_text(draw))[:4] for _ in range(draw.randint(0, 6)))
+
+
+def given_to(draw, played, word):
+    """What is added or made, as it is written and as it becomes the text's."""
+    if word.endswith('strs'):
+        strings = some_strings(draw, played.text)
+        return strings, strings.replace(',', '')
+    if word == 'write_char':
+        return (alike(a_char(draw)),) * 2
+    drawn = any_text(draw) if draw.chance(30) else a_string(draw, a_growth(draw, played.text))
+    return (alike(drawn),) * 2
 
 
 def joined(draw, played, word):
-    string = alike(a_string(draw, a_growth(draw, played.text)))
-    if word == 'extend_strs':
-        string = some_strings(draw, played.text)
-    if word == 'write_char':
-        string = alike(a_char(draw))
-    played.push(string.replace(',', '') if word == 'extend_strs' else string)
-    return token(word, string)
+    written, added = given_to(draw, played, word)
+    played.obey(['push_str', added])
+    return token(word, written)
 
 
 def made(draw, played, word):
-    string = some_strings(draw, played.text) if word == 'from_strs' else alike(any_text(draw))
-    played.becomes(string.replace(',', '') if word == 'from_strs' else string)
-    return token(word, string)
+    written, string = given_to(draw, played, word)
+    played.becomes(string)
+    return token(word, written)
 
 
-def emptied(draw, played, word):
+def emptied(_, played, word):
     played.becomes('')
     return token(word)
 
 
 def with_capacity(draw, played, word):
-    capacity = draw.choice((0, 1, 8, 29, 30, 31, 32, 100, 2 ** 48, 2 ** 63 - 1, 2 ** 63, GREATEST))
+    capacity = draw.choice((0, 1, 7, 8, 9, 29, 30, 31, 32, 100, 2 ** 48, 2 ** 63 - 1, 2 ** 63, GREATEST))
     if capacity < 2 ** 48:
-        played.becomes('', 'inline' if capacity <= LIMIT else 'heap')
+        limit = played.text.limit
+        played.becomes('', 'inline' if limit is not None and capacity <= limit else 'heap')
     return token(word, capacity)
 
 
 def read(draw, played, word):
-    """Of a text, where something stands at times that is in no character."""
-    encoding, others = ('utf-16-be', ALONE) if 'utf16' in word else ('utf-8', NO_CHARACTER)
-    pieces = [char.encode(encoding) for char in alike(any_text(draw))]
+    """Of a text, with pieces between its characters that are in none at times, or of such pieces alone."""
+    encoding, pieces = ('utf-16-be', nearly_utf16) if 'utf16' in word else ('utf-8', nearly_utf8)
+    data = [char.encode(encoding) for char in alike(any_text(draw))]
     if word != 'from_utf8_unchecked':
-        while draw.chance(35):
-            pieces.insert(draw.randint(0, len(pieces)), draw.choice(others))
-    data = b''.join(pieces)
-    try:
-        string = data.decode(encoding)
-    except UnicodeDecodeError:
-        string = data.decode(encoding, 'replace') if word == 'from_utf16_lossy' else None
-    if string is not None and word != 'from_utf8_lossy':
+        data = data if draw.chance(50) else []
+        while draw.chance(50) or not data:
+            data.insert(draw.randint(0, len(data)), pieces(draw, 1))
+    data = b''.join(data)
+    string = data.decode(encoding, 'replace')
+    if not all(map(is_alike, string)):
+        string = alike(string)
+        data = string.encode(encoding)
+    # what is replaced stands as often as it may, which a draw need not know
+    is_text = data == string.encode(encoding)
+    if word != 'from_utf8_lossy' and (is_text or word == 'from_utf16_lossy'):
         played.becomes(string, 'heap')
     return token(word, data)
 
 
 def compared(draw, played, word):
-    """With the same text, with a front of it, with one that is longer, and with others."""
+    """With the same text, with a front of it, with one that is longer, and with others, in each way."""
     chars = played.text.chars
-    front, end = chars[:draw.randint(0, len(chars))], some_text(draw)
-    string = ''.join(draw.choice((chars, front, chars + list(end), front + list(end), list(end))))
-    return token(word, string)
+    front, end = chars[:draw.randint(0, len(chars))], list(any_text(draw))
+    string = alike(''.join(draw.choice((chars, chars, front, chars + end, front + end, end))))
+    if word == 'eq_str':
+        return token(word, string)
+    ways = [way for way, more in WAYS.items() if width(string) + more <= played.most or way == 0]
+    return token(word, draw.choice(ways if played.name == ARRAY else [*ways, ON_HEAP]), string)
 
 
 def printed(draw, played, word):
@@ -172,26 +193,18 @@ def printed(draw, played, word):
     return token(word, max(0, draw.choice((size - 1, size, size + 1, size + 3, draw.randint(0, 40)))))
 
 
-def alone(draw, played, word):
+def alone(_, played, word):
     return token(word)
 
 
-def into_bytes(draw, played, word):
-    """What is left is a new text."""
-    return emptied(draw, played, word)
-
-
 SORTS = {
-    slide: 'slide', emptied: 'new default into_bytes', with_capacity: 'with_capacity',
+    slide: 'slide', emptied: 'new default into_bytes', with_capacity: 'with_capacity', read: READERS,
     made: 'from from_str from_string from_chars from_strs collect',
-    read: READERS,
     joined: 'write_str write_char add extend extend_chars extend_char_refs extend_strs',
     compared: 'eq eq_str cmp partial_cmp', printed: 'padded cut',
     alone: 'clone capacity hash display debug len is_empty as_bytes as_str',
 }
 DRAWN = {word: sort for sort, words in SORTS.items() for word in words.split()}
-
-
 # What puts another text in the place of the one that is there.
 MAKERS = frozenset(word for word, sort in DRAWN.items() if sort in (emptied, made, read, with_capacity))
 
@@ -202,50 +215,43 @@ def a_call(draw, played, word):
     return DRAWN[word](draw, played, word)
 
 
-def call_input(seed, number):
+def calls_line(seed, number):
     """Calls `number` of a seed. Always the same ones."""
     draw = Draw.seeded(f'calls {seed}:{number}')
-    kind = draw.choice(tuple(KINDS))
-    words = KINDS[kind].split()
-    own = [word for word in words if word not in NOT_IN_ARRAY]
-    name = draw.choice((ARRAY, HEAP, HEAP)) if len(own) >= FEWEST else HEAP
-    if name == ARRAY:
-        words = own
-    played = Played(name)
-    tokens = []
+    kind = draw.weighted(WEIGHTS)
+    words = {name: [word for word in KINDS[kind].split() if word not in LACKING[name]] for name in TYPES}
+    name = draw.choice([name for name in TYPES if len(words[name]) >= FEWEST])
+    played, tokens = Played(name), []
     if draw.chance(80):
-        opening = 'from' if name == ARRAY or draw.chance(60) else draw.choice(READERS.split())
-        tokens.append(a_call(draw, played, opening))
+        reader = draw.choice(READERS.split())
+        tokens.append(a_call(draw, played, 'from' if name == ARRAY or draw.chance(60) else reader))
     for _ in range(draw.randint(1, draw.choice(TURNS))):
-        tokens.append(a_call(draw, played, draw.choice(words if draw.chance(70) else BETWEEN)))
-    return Input(kind, ' '.join(['calls', name, *tokens]))
+        tokens.append(a_call(draw, played, draw.choice(words[name] if draw.chance(70) else BETWEEN)))
+    return ' '.join(('calls', name, *tokens))
 
 
-def counted(drawn, answers):
-    """Its kind, each call of its type, also with its answer, where a text ends, and what took it there."""
-    _, name, *calls = drawn.line.split(' ')
-    words = [call.partition(':')[0].partition('@')[0] for call in calls]
-    names = [drawn.kind, *(f'{name} {word}' for word in words)]
-    for line in answers:
-        _, *told, storage, _, _ = line.split(' ')
-        names.append(f'{name} ends {storage}')
-        before = 'i'
-        for word, (after, outcome) in zip(words, map(storage_and_outcome, told)):
-            names.append(f'{name} {word} {outcome}')
-            if before != after and word not in MAKERS:
-                names.append(f'{word} {"promotes" if after == "h" else "demotes"}')
-            before = after
-    return names
+def spoilt(draw, data):
+    """With a byte left out, doubled or changed."""
+    at = draw.randrange(len(data) + 1)
+    byte = data[at:at + 1]
+    return data[:at] + draw.choice((b'', byte * 2, draw.randbytes(1))) + data[at + 1:]
 
 
-def storage_and_outcome(answer):
-    """The letter of the storage after a call, and the answer without a number, a character or bytes."""
-    storage, _, outcome = answer.partition(':')
-    return storage, outcome.partition('=')[0]
+def is_decided(word, data):
+    """Whether it asks for no memory that one machine grants and another refuses."""
+    try:
+        answer(Case('', [word], data))
+    except Undecided:
+        return False
+    return True
 
 
-# A line answers all calls of a text.
-CALLS = Family(
-    name='calls', drawn=call_input, kinds=tuple(KINDS), counted=counted,
-    answers=1, held=HELD, wanted=(*CALL_KINDS, *CALL_WORDS, *CALL_ANSWERS), of_each=CALLS_OF_EACH,
-    named=NAMED)
+def script_line(seed, number):
+    """Script `number` of a seed. Always the same one."""
+    draw = Draw.seeded(f'{seed}:{number}')
+    word = draw.choice(list(STARTS))
+    data = good_script(draw, word)
+    if draw.chance(SPOILT):
+        wrong = spoilt(draw, data)
+        data = wrong if is_decided(word, wrong) else data
+    return f'script {word} {data.hex()}'

@@ -11,11 +11,11 @@ import os
 import re
 
 from floors import CALLERS, WRONG_CLAUSES
-from gate_parts.edit_files import edits_that_name, texts_with
-from gate_parts.edits import breaches
+from gate_parts.edit_files import edits_of, texts_with
+from gate_parts.edits import breaches, functions_of
 from gate_parts.options import options
-from gate_parts.rooms import changed_files, check, copies, only, require_proof
-from gate_parts.said import is_proved, refused_in
+from gate_parts.rooms import changed, copies, require_proof, said_of
+from gate_parts.said import refused_in
 from gate_parts.tree import Failure, crate_folder, crates_with, text_of
 
 FOLDER = 'wrong-clauses'
@@ -27,7 +27,7 @@ ENSURES = re.compile(r'^ *ensures\b', re.MULTILINE)
 
 def wrong_clauses(library):
     """The edits of the library's contracts: they name callers alone, and go together."""
-    edits = edits_that_name(CRATE, os.path.join(crate_folder(library), FOLDER), library)
+    edits = edits_of(os.path.join(crate_folder(library), FOLDER), library, CRATE)
     texts_with(crate_folder(library), edits)
     return edits
 
@@ -53,23 +53,15 @@ def require_callers():
     return count
 
 
-def named_callers(edits):
-    """The callers that the edits name, and the words by which `rt` checks these alone."""
-    functions = sorted({goal.function for edit in edits for goal in edit.goals})
-    return functions, only(functions)
-
-
 def said_of_callers(library, edits, jobs):
     """What a check of the named callers says over the library with its weaker contracts, still proved."""
-    functions, words = named_callers(edits)
+    functions = functions_of(edits)
     with copies([library, CRATE], 1) as (place,):
-        said, _ = check(place, CRATE, jobs, *words)
-        for function in functions:
-            if not is_proved(CRATE, function, said):
-                raise Failure(f'{CRATE}/{function} is not proved as it is:\n{said}')
-        with changed_files(crate_folder(library, place), texts_with(crate_folder(library), edits)):
+        require_proof(place, CRATE, jobs, functions)
+        with changed(place, library) as room:
+            room.write(texts_with(crate_folder(library), edits))
             require_proof(place, library, jobs)
-            return check(place, CRATE, jobs, *words)[0]
+            return said_of(place, CRATE, jobs, functions)[0]
 
 
 def main(words):

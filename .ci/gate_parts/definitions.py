@@ -2,73 +2,56 @@
 
 They stand in `wrong-definitions`. With --named only those are tried whose name has the word in it.
 
-A wrong definition changes a file of `specs/`, and a law or a worked row must refuse it: a function of
-the same crate, or one of a crate above, each named with a goal that must stay open. A check of the
-named functions alone shows it, once the same check has shown that they are proved as things are.
+A wrong definition changes a file of `specs/`, and a law or a worked row must refuse it: a function that
+does nothing, of the same crate or of one above, named with a goal that must stay open. Each is tried
+over copies: the changed file and what stands on it, with a copy of the row that cites them
+(`row_copies.py`). So one check tries many, and none reaches what another changes. First each row must
+be proved in that form over copies of all definitions as they are.
 
-Several are tried in one check where none changes what the functions reach that must refuse another
-(`reach.py` tells); the others have a check of their own.
-
-A crate above can only be checked over a library that is proved. So there the wrong definition is not
-that of the library: the crate has the library's definitions copied among its own, all that it says
-cites the copies, and one of these is changed.
+Where the row reaches no changed file by its own words (it names an `impl`, or is no row), the change is
+made in the files themselves, in a check of its own.
 
 It is no refusal where an error stands in `specs/` or `src/`, since the definition is then not well
 formed, nor where a name has gone: either would refuse whatever stands on it, true or not.
 """
 import os
 import re
-import sys
 from concurrent.futures import ThreadPoolExecutor
 from functools import partial
 from queue import SimpleQueue
-from typing import List, NamedTuple, Set
+from time import monotonic
+from typing import NamedTuple, Optional, Set
 
 from floors import WRONG_DEFINITIONS
 from gate_parts.edit_files import Edit, edits_of, texts_with
 from gate_parts.edits import listed
 from gate_parts.options import options
-from gate_parts.reach import changed_by, reached_by, words_by_definition
-from gate_parts.rooms import changed_files, check, copies, more_copies, only, require_proof
+from gate_parts.rooms import changed, copies, require_proof
+from gate_parts.row_copies import File, Files, Row, add_files, add_row, row_of
 from gate_parts.said import ill_formed, is_proved, open_goals
-from gate_parts.tree import TOP, Failure, crate_folder, crates_with, text_of, write_text
+from gate_parts.tree import TOP, Failure, crate_folder, crates_with, with_those_below
 
 FOLDER = 'wrong-definitions'
-# How many are tried in one check at most: what it prints should be readable where one is not refused.
-MOST_TOGETHER = 8
-# What a crate says of definitions stands in files of these folders and endings.
-SAYING = ('specs', 'src', 'proofs')
-ENDINGS = ('.antt', '.rt')
+# How many are tried in one check: what it prints should be readable where one is not refused.
+TOGETHER = 40
+# The number of a copy, in the path of an error.
+COPY = re.compile(r'/(?:E(\d+)[A-Z]|r(\d+)\b)')
 
 
-class Task(NamedTuple):
-    """Edits that are tried in one check, and the crate whose functions must refuse them."""
-    crate: str
-    edits: List[Edit]
-
-    def goals_of(self, edit):
-        return [goal for goal in edit.goals if goal.crate == self.crate]
-
-    def functions(self):
-        return sorted({goal.function for edit in self.edits for goal in self.goals_of(edit)})
-
-
-class Reach(NamedTuple):
-    """What an edit changes, and what the functions reach that must refuse it."""
-    changed: Set[str]
-    reached: Set[str]
-
-    def is_apart_from(self, other):
-        """Neither changes what the other's functions reach, nor the imports that the other changes."""
-        return not (self.changed & (other.reached | other.changed) or other.changed & self.reached)
+class Trial(NamedTuple):
+    """A wrong definition, and a function that must refuse it: with the row and the files to copy, or in place."""
+    edit: Edit
+    function: str
+    row: Optional[Row]
+    copied: Set[File]
 
 
 def wrong_definitions(crate):
-    """The edits of the crate, as many as there must be; each changes a definition."""
+    """The edits of the crate, as many as are said; each changes a definition."""
     edits = edits_of(os.path.join(crate_folder(crate), FOLDER), crate)
-    least = WRONG_DEFINITIONS.get(crate, 1)
-    if len(edits) < least:
-        raise Failure(f'{crate} has {len(edits)} wrong definitions, and must have {least}')
+    if len(edits) != WRONG_DEFINITIONS.get(crate, 0):
+        raise Failure(f'{crate} has {len(edits)} wrong definitions, and floors.py says '
+                      f'{WRONG_DEFINITIONS.get(crate, 0)}')
     for edit in edits:
         require_definition(crate, edit)
         texts_with(crate_folder(crate), [edit])
@@ -76,126 +59,108 @@ def wrong_definitions(crate):
 
 
 def require_definition(crate, edit):
-    """The edit changes a definition, and else at most proofs, for functions of the crate alone."""
-    folders = {change.path.split('/')[0] for change in edit.changes}
-    if 'specs' not in folders or not folders <= {'specs', 'proofs'}:
-        raise Failure(f'{crate}: {edit.name} must change a file of specs/, '
-                      'and beside it only proofs/')
-    if 'proofs' in folders and {goal.crate for goal in edit.goals} != {crate}:
-        raise Failure(f'{crate}: {edit.name} changes proofs/, '
-                      'which the crates above have no copy of')
+    """The edit changes files of specs/, and no others."""
+    if any(not change.path.startswith('specs/') for change in edit.changes):
+        raise Failure(f'{crate}: {edit.name} must change files of specs/, and no others')
 
 
-def reach_of(library, crate, edit, words):
-    """What the edit changes and its functions reach; None where it has to be tried alone."""
-    changed = changed_by(crate_folder(library), edit)
-    reached = [reached_by(crate_folder(crate), crate, goal.function, words)
-               for goal in edit.goals if goal.crate == crate]
-    return None if changed is None or None in reached else Reach(changed, set().union(*reached))
+def trials_of(library, files, edit):
+    """How the edit is tried at each function that it names of the crate of these files."""
+    changed = {File(library, 'specs', os.path.basename(change.path)[:-len('.antt')]) for change in edit.changes}
+    for crate, function in sorted(edit.functions()):
+        if crate == files.crate:
+            row = row_of(crate, function)
+            copied = files.standing_on(changed, row) if row else set()
+            if not changed <= copied and crate != library:
+                raise Failure(f'{library}: {edit.name} changes nothing that {crate}/{function} reaches')
+            yield Trial(edit, function, *((row, copied) if changed <= copied else (None, set())))
 
 
-def tasks_of(library, edits):
-    """The edits in tasks: those that may go together, by the crate that must refuse them."""
-    tasks = []
-    for crate in sorted({goal.crate for edit in edits for goal in edit.goals}):
-        words = words_by_definition({os.path.join(crate_folder(name), 'specs') for name in (library, crate)})
-        groups = []
-        for edit in (edit for edit in edits if any(goal.crate == crate for goal in edit.goals)):
-            reach = reach_of(library, crate, edit, words)
-            able = [group for group in groups if reach and len(group) < MOST_TOGETHER
-                    and all(other and reach.is_apart_from(other) for _, other in group)]
-            if not able:
-                able = [[]]
-                groups += able
-            able[0].append((edit, reach))
-        tasks += [Task(crate, [edit for edit, _ in group]) for group in groups]
-    return sorted(tasks, key=lambda task: -len(task.edits))
+def require_rows(place, files, trials, jobs):
+    """Each named function is proved as things are, in the form in which it will be tried."""
+    rows = {trial.function: trial.row for trial in trials}
+    copied = [row for row in rows.values() if row]
+    with changed(place, files.crate) as room:
+        add_files(room, files, 0, set(files.texts), {})
+        named = {add_row(room, files, row, at, 0, set(files.texts)): row.function for at, row in enumerate(copied)}
+        named.update({function: function for function, row in rows.items() if not row})
+        said = room.said(jobs, named)
+    for copy, function in named.items():
+        if not is_proved(files.crate, copy, said):
+            raise Failure(f'{files.crate}/{function} is not proved as it is:\n{said}')
 
 
-def copied_definitions(room, library, crate):
-    """Gives the crate copies of the library's definitions, and lets all that it says cite these."""
-    source, target = (os.path.join(crate_folder(name, room), 'specs') for name in (library, crate))
-    names = sorted(os.path.splitext(name)[0] for name in os.listdir(source) if name != 'Lib.antt')
-    for name in names:
-        file = f'{name}.antt'
-        if os.path.exists(os.path.join(target, file)):
-            raise Failure(f'{crate} and {library} both have definitions in specs/{file}')
-        write_text(os.path.join(target, file), text_of(os.path.join(source, file)))
-    declared = os.path.join(target, 'Lib.antt')
-    write_text(declared, ''.join(f'pub mod {name}\n' for name in names) + text_of(declared))
-    cite_copies(crate_folder(crate, room), library, crate, names)
+def added(room, files, number, trial):
+    """Adds what is tried to the room; what `rt` calls the function that must refuse it."""
+    texts = texts_with(crate_folder(files.library), [trial.edit])
+    if not trial.row:
+        room.write(texts)
+        return trial.function
+    add_files(room, files, number, trial.copied, texts)
+    return add_row(room, files, trial.row, number, number, trial.copied)
 
 
-def cite_copies(folder, library, crate, names):
-    """Words of the library's types (`specs.declared..`) stay as they are."""
-    cited = re.compile(rf'\bRattle\.{library}\.specs\.({"|".join(map(re.escape, names))})\b')
-    for saying in SAYING:
-        for place, _, files in os.walk(os.path.join(folder, saying)):
-            for path in (os.path.join(place, file) for file in files if file.endswith(ENDINGS)):
-                text = text_of(path)
-                own = cited.sub(rf'Rattle.{crate}.specs.\1', text)
-                if own != text:
-                    write_text(path, own)
-
-
-def require_rows(place, tasks, jobs):
-    """Each function that an edit names is proved as things are, in the form in which it will be tried."""
-    for crate in sorted({task.crate for task in tasks}):
-        functions = sorted({name for task in tasks if task.crate == crate for name in task.functions()})
-        said, _ = check(place, crate, jobs, *only(functions))
-        for function in functions:
-            if not is_proved(crate, function, said):
-                raise Failure(f'{crate}/{function} is not proved as it is:\n{said}')
-
-
-def tried(rooms, library, task):
-    """The names of the task's edits that are not refused as they say; prints how they went."""
-    room = rooms.get()
-    try:
-        folder = crate_folder(task.crate, room)
-        with changed_files(folder, texts_with(folder, task.edits)):
-            said, _ = check(room, task.crate, 1, *only(task.functions()))
-    finally:
-        rooms.put(room)
-    wrong = {edit.name: breach for edit in task.edits for breach in breaches_of(edit, task, said)}
-    refused = [edit.name for edit in task.edits if edit.name not in wrong]
-    if refused:
-        print(f'{library}: refused by {task.crate}: {", ".join(refused)}')
-    for name, breach in wrong.items():
-        print(f'{library}: NOT AS IT MUST BE: {name}: {breach}')
-    if wrong:
-        print(said)
-    sys.stdout.flush()
-    return set(wrong)
-
-
-def breaches_of(edit, task, said):
-    """In words, what is not as the edit says; nothing where its functions refuse it by each goal."""
-    bad = ill_formed(said)
+def breach(crate, trial, name, said, number=None):
+    """In words, what is not as the edit says; None where the function, or its copy of this name, is refused
+    by each goal."""
+    bad = [line for line in ill_formed(said) if number is None or number_in(line) in (None, number)]
     if bad:
-        yield f'the definition is not well formed, or a name has gone: {bad[0]}'
-        return
-    for goal in task.goals_of(edit):
-        left = open_goals(task.crate, goal.function, said)
-        if goal.name not in left:
-            yield f'tried at {goal}, which is not refused; open goals: {", ".join(sorted(left)) or "none"}'
+        return f'the definition is not well formed, or a name has gone: {bad[0]}'
+    left = open_goals(crate, name, said)
+    for goal in trial.edit.goals:
+        if (goal.crate, goal.function) == (crate, trial.function) and goal.name not in left:
+            return f'tried at {goal}, which is not refused; open goals: {listed(left)}'
+    return None
+
+
+def number_in(error):
+    """The number of the copy that an error stands in; None where it is in no copy."""
+    found = COPY.search(error.split(':')[0])
+    return int(found[1] or found[2]) if found else None
+
+
+def tried(rooms, library, files, trials):
+    """The names of the edits that are not refused as they say; prints how they went."""
+    place, start = rooms.get(), monotonic()
+    try:
+        with changed(place, files.crate) as room:
+            names = [added(room, files, number, trial) for number, trial in enumerate(trials)]
+            said = room.said(1, names)
+    finally:
+        rooms.put(place)
+    found = [breach(files.crate, trial, name, said, number if trial.row else None)
+             for number, (trial, name) in enumerate(zip(trials, names))]
+    refused = [trial.edit.name for trial, wrong in zip(trials, found) if not wrong]
+    print(f'{library}: refused by {files.crate}, {len(refused)} after {monotonic() - start:.0f} s: {listed(refused)}',
+          *(f'{library}: NOT AS IT MUST BE: {trial.edit.name}: {wrong}'
+            for trial, wrong in zip(trials, found) if wrong), *([said] if any(found) else []), sep='\n', flush=True)
+    return {trial.edit.name for trial, wrong in zip(trials, found) if wrong}
+
+
+def batches(trials):
+    """The trials in lists, each for one check: as even as can be, and those in place alone."""
+    together = [trial for trial in trials if trial.row]
+    count = -(-len(together) // TOGETHER)
+    return [together[at::count] for at in range(count)] + [[trial] for trial in trials if not trial.row]
 
 
 def tried_all(library, edits, jobs):
     """The names of the library's wrong definitions that are not refused as they say."""
-    tasks = tasks_of(library, edits)
-    above = sorted({task.crate for task in tasks} - {library})
-    require_proof(TOP, library, jobs)
+    crates = sorted({crate for edit in edits for crate, _ in edit.functions()})
+    trials = {files: [trial for edit in edits for trial in trials_of(library, files, edit)]
+              for files in (Files(library, crate) for crate in crates)}
+    tasks = [(files, batch) for files, own in trials.items() for batch in batches(own)]
     print(f'{library}: {len(edits)} wrong definitions in {len(tasks)} checks', flush=True)
+    for below in sorted(set().union(*(with_those_below([crate]) - {crate} for crate in crates))):
+        require_proof(TOP, below, jobs)
     rooms = SimpleQueue()
-    with copies([library, *above], 1) as (place,):
-        for crate in above:
-            copied_definitions(place, library, crate)
-        require_rows(place, tasks, jobs)
-        for room in [place, *more_copies(place, min(jobs, len(tasks)) - 1)]:
-            rooms.put(room)
-        with ThreadPoolExecutor(rooms.qsize()) as pool:
-            return set().union(*pool.map(partial(tried, rooms, library), tasks))
+    with copies([library, *crates], min(jobs, len(tasks))) as places:
+        for files, own in trials.items():
+            require_rows(places[0], files, own, jobs)
+        for place in places:
+            rooms.put(place)
+        with ThreadPoolExecutor(len(places)) as pool:
+            return set().union(*pool.map(lambda task: tried(rooms, library, *task), tasks))
 
 
 def main(words):

@@ -2,11 +2,7 @@
 import hashlib
 from itertools import accumulate
 
-from gate_parts.tree import Failure
-
 LOW_BITS = 2 ** 64 - 1
-# What Vigna's `splitmix64.c` gives first, from the state 0.
-PUBLISHED = [0xe220a8397b1dcdaf, 0x6e789e6aa1b965f4, 0x06c45d188009454f]
 
 
 class Draw:
@@ -53,9 +49,3 @@ class Draw:
     def randbytes(self, count):
         return b''.join(self.bits().to_bytes(8, 'big') for _ in range(count // 8 + 1))[:count]
 
-
-def check_draws():
-    """Fails where the numbers are not the published ones."""
-    draw = Draw(0)
-    if [draw.bits() for _ in PUBLISHED] != PUBLISHED:
-        raise Failure('draw.py: these are not the numbers of SplitMix64')

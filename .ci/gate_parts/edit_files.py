@@ -13,10 +13,14 @@ function of another crate stands behind that crate's name: `callers/room_left re
 stands just once in the file named before it, and `new:` comes in its place. Where a text stands there
 more often, a line `after: TEXT` before `old:` has a text that stands once, and the first behind it is
 meant. There may be several of each of these lines. A line that begins with `#` says nothing.
+
+A line `touches: NAME ..` names what else a change breaks, where that is no function's body: those
+whose text has one of these names.
 """
 import os
+import re
 from collections import Counter
-from typing import List, NamedTuple
+from typing import List, NamedTuple, Tuple
 
 from gate_parts.tree import Failure, text_of
 
@@ -45,24 +49,19 @@ class Edit(NamedTuple):
     name: str
     goals: List[Goal]
     changes: List[Change]
+    touches: Tuple[str, ...] = ()
 
     def functions(self):
         return {(goal.crate, goal.function) for goal in self.goals}
 
 
-def edits_of(folder, crate):
-    """The edits in all files of a folder of the crate, by file."""
+def edits_of(folder, crate, named=None):
+    """The edits in all files of a folder of the crate, by file; with `named`, all name functions of that one."""
     edits = [edit for path in edit_files(folder) for edit in read_edits(path, crate)]
     refuse_repetitions(folder, edits)
-    return edits
-
-
-def edits_that_name(named, folder, crate):
-    """The same, where all must name functions of one crate."""
-    edits = edits_of(folder, crate)
     for edit in edits:
         for goal in edit.goals:
-            if goal.crate != named:
+            if named not in (None, goal.crate):
                 raise Failure(f'{crate}: {edit.name} names {goal}, which is not of {named}')
     return edits
 
@@ -91,45 +90,42 @@ def refuse_repetitions(folder, edits):
 
 def read_edits(path, crate):
     """The edits of a file, whose functions are of this crate where they don't name another."""
-    blocks, lines = [], []
-    for line in text_of(path).split('\n') + ['']:
-        if line:
-            lines += [] if line.startswith('#') else [line]
-        elif lines:
-            blocks.append(lines)
-            lines = []
-    return [read_edit(path, crate, block) for block in blocks]
+    lines = '\n'.join(line for line in text_of(path).split('\n') if not line.startswith('#'))
+    return [read_edit(path, crate, block.strip('\n').split('\n'))
+            for block in re.split(r'\n{2,}', lines) if block.strip('\n')]
 
 
 def read_edit(path, crate, lines):
     """The edit that is told by these lines."""
-    head = lines[0].split(' ')
-    if len(head) != 2 or head[0] != 'edit' or not head[1]:
+    name = re.fullmatch(r'edit (\S+)', lines[0])
+    if not name:
         raise Failure(f'{path}: an edit begins with a line `edit NAME`, not with this: {lines[0]}')
-    goals, changes, file, after, old = [], [], None, '', None
+    goals, changes, touches, file, after, old = [], [], (), None, '', None
     for line in lines[1:]:
         word, _, rest = line.partition(':')
         rest = rest[1:] if rest.startswith(' ') else rest
-        if word == 'refused' and len(rest.split()) == 2 and old is None:
-            goals.append(goal_of(crate, *rest.split()))
-        elif word == 'file' and rest and old is None:
-            file = rest
-        elif word == 'after' and rest and file and not after and old is None:
-            after = rest
-        elif word == 'old' and rest and file and old is None:
-            old = rest
-        elif word == 'new' and old is not None:
+        if word == 'new' and old is not None:
             changes.append(Change(file, old, rest, after))
             after, old = '', None
+        elif not rest or old is not None:
+            raise Failure(f'{path}: {name[1]}: this line cannot be read: {line}')
+        elif word == 'refused' and len(rest.split()) == 2:
+            goals.append(goal_of(crate, *rest.split()))
+        elif word == 'touches':
+            touches += tuple(rest.split())
+        elif word == 'file':
+            file = rest
+        elif word == 'after' and file and not after:
+            after = rest
+        elif word == 'old' and file:
+            old = rest
         else:
-            raise Failure(f'{path}: {head[1]}: this line cannot be read: {line}')
-    if not goals:
-        raise Failure(f'{path}: {head[1]} has no line `refused:`')
+            raise Failure(f'{path}: {name[1]}: this line cannot be read: {line}')
+    if not goals or len(set(goals)) < len(goals):
+        raise Failure(f'{path}: {name[1]} has no line `refused:`, or one twice')
     if not changes or after or old is not None:
-        raise Failure(f'{path}: {head[1]} lacks a pair of `old:` and `new:`')
-    if len(set(goals)) < len(goals):
-        raise Failure(f'{path}: {head[1]} names a goal twice')
-    return Edit(head[1], goals, changes)
+        raise Failure(f'{path}: {name[1]} lacks a pair of `old:` and `new:`')
+    return Edit(name[1], goals, changes, touches)
 
 
 def goal_of(crate, function, name):
@@ -160,12 +156,10 @@ def only_place(edit, change, text):
     """Where the old text stands, of which there must be no doubt."""
     known = change.after or change.old
     if text.count(known) != 1:
-        raise Failure(f'{edit.name}: this is {text.count(known)} times in {change.path}, '
-                      f'and not once: {known}')
+        raise Failure(f'{edit.name}: this is {text.count(known)} times in {change.path}, and not once: {known}')
     place = place_of(change, text)
     if place < 0:
-        raise Failure(f'{edit.name}: in {change.path} this is not after {change.after}: '
-                      f'{change.old}')
+        raise Failure(f'{edit.name}: in {change.path} this is not after {change.after}: {change.old}')
     return place
 
 

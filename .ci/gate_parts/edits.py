@@ -1,21 +1,24 @@
 """gate edits [CRATE ..] [--named WORD] [--jobs N]: tries wrong code, several edits in one check.
 
-It stands in `must-fail-together`. With --named only those edits are tried whose name has the word in
-it.
+It stands in `must-fail-together` and in `must-fail`. With --named only those edits are tried whose name
+has the word in it.
 
-Most of the time of a check goes to reading what an edit has not changed. So edits that each change
-the body of one function, no two of the same one, are tried in one check. It is as strict as to try
-each alone: a function is proved from the contracts of those that it calls, so a changed body breaks
-no other, and in each function the goals must stay open that the edit names. One that is refused only
-since it calls such a function does not count. Nor does a goal whose answer names what the edit has
-taken away: such an edit brings the answers up to date too, so that what refuses it is the goal.
+Most of the time of a check goes to reading what an edit has not changed. So edits go together of which
+no two break the same function. It is as strict as to try each alone: a function is proved from the
+contracts of those that it calls, so a changed body breaks no other, and in each function the goals must
+stay open that the edit names. One that is refused only since it calls such a function does not count.
+Nor does a goal whose answer names what the edit has taken away: such an edit brings the answers up to
+date too, so that what refuses it is the goal.
 
-An edit of several functions, or of anything but the body of the function that it names (a macro, a
-constant), has a check of its own: what it breaks beyond that can't stand for another edit's goal.
+A change of a macro breaks the functions that it stands for: the edit names them all. One of anything
+else (a clause, a member of an `impl` that the proofs use) says in a line `touches:` by which names
+others use it, and goes with edits of functions whose text has none of these. Where it says nothing, it
+has a check of its own.
 
 Only the functions that the edits name are checked: what else an edit breaks is not looked for.
 """
 import os
+import re
 import sys
 from collections import Counter
 from concurrent.futures import ThreadPoolExecutor
@@ -23,65 +26,76 @@ from functools import partial
 from queue import SimpleQueue
 from time import monotonic
 
-from floors import EDITS
-from gate_parts.edit_files import edits_that_name, texts_with
-from gate_parts.enclosing import function_changed
+from floors import EDITS, MUST_FAIL
+from gate_parts.edit_files import edits_of, refuse_repetitions, texts_with
+from gate_parts.enclosing import functions_broken, text_of_function
+from gate_parts.must_fail import FOLDER as ALONE
+from gate_parts.must_fail import must_fail_edits
 from gate_parts.options import options
-from gate_parts.rooms import changed_files, check, copies, only, require_proofs
-from gate_parts.said import answers_of, ill_formed, open_goals, refused_in
-from gate_parts.tree import Failure, crate_folder, crates_with, text_of
+from gate_parts.rooms import changed, copies, require_proofs
+from gate_parts.said import refused_in
+from gate_parts.tree import Failure, crate_folder, crates_with
 
 FOLDER = 'must-fail-together'
 
 
 def own_edits(crate):
-    """The edits of the crate, which name functions of it alone."""
-    edits = edits_that_name(crate, os.path.join(crate_folder(crate), FOLDER), crate)
-    if len(edits) < EDITS.get(crate, 1):
-        raise Failure(f'{crate} has {len(edits)} edits, and must have {EDITS.get(crate, 1)}')
-    return edits
+    """The edits of the crate, which name functions of it alone; as many as are said."""
+    together = edits_of(os.path.join(crate_folder(crate), FOLDER), crate, crate)
+    alone = must_fail_edits(crate)
+    for edits, said, folder in ((together, EDITS, FOLDER), (alone, MUST_FAIL, ALONE)):
+        if len(edits) != said.get(crate, 0):
+            raise Failure(f'{crate} has {len(edits)} edits in {folder}, and floors.py says {said.get(crate, 0)}')
+    refuse_repetitions(crate, together + alone)
+    return together + alone
 
 
-def stays_in_its_function(crate, edit):
-    """Whether the edit changes nothing but the body of the one function that it names, and its answers."""
-    changed = {function_whose(crate, change) for change in edit.changes}
-    return changed == {goal.function for goal in edit.goals} and len(changed) == 1
+class Breaking:
+    """What the edits of a crate break, to tell which may go together."""
 
+    def __init__(self, crate):
+        self.folder = crate_folder(crate)
+        self.texts = {}
 
-def function_whose(crate, change):
-    """The function whose body or whose answers the change stands in; None where it is neither."""
-    if change.path.startswith('proofs/'):
-        return answers_of(change.path)
-    return function_changed(text_of(os.path.join(crate_folder(crate), change.path)), change)
+    def stays_in_its_functions(self, edit):
+        """Whether the edit changes nothing but the functions that it names, and their answers."""
+        named = {goal.function for goal in edit.goals}
+        broken = [functions_broken(self.folder, change, named) for change in edit.changes]
+        return all(broken) and set().union(*broken) == named
+
+    def is_apart(self, edit, other):
+        """Whether no goal of one can stay open for what the other changes."""
+        return (edit.functions().isdisjoint(other.functions())
+                and not self.has_a_name_of(edit, other) and not self.has_a_name_of(other, edit))
+
+    def has_a_name_of(self, edit, other):
+        """Whether a function that the edit names has a name in its text that the other touches."""
+        if not other.touches:
+            return False
+        name = re.compile(rf'\b(?:{"|".join(map(re.escape, other.touches))})\b')
+        return any(text is None or name.search(text) for text in map(self.text, edit.functions()))
+
+    def text(self, function):
+        if function not in self.texts:
+            self.texts[function] = text_of_function(self.folder, function[1])
+        return self.texts[function]
 
 
 def groups_of(crate, edits):
-    """The edits in lists, each for one check: those that may go together, then the others."""
-    together = [edit for edit in edits if stays_in_its_function(crate, edit)]
-    alone = [[edit] for edit in edits if edit not in together]
-    breaking = Counter(function for edit in together for function in edit.functions())
-    groups = [[] for _ in range(max(breaking.values(), default=0))]
-    for edit in together:
-        able = [group for group in groups
-                if all(edit.functions().isdisjoint(other.functions()) for other in group)]
+    """The edits in lists, each for one check."""
+    breaking = Breaking(crate)
+    alone = [edit for edit in edits if not edit.touches and not breaking.stays_in_its_functions(edit)]
+    most = Counter(function for edit in edits for function in edit.functions()).most_common(1)
+    groups = [[] for _ in range(most[0][1] if most else 0)]
+    # first those that are hardest to place
+    for edit in sorted((edit for edit in edits if edit not in alone),
+                       key=lambda edit: (not edit.touches, -len(edit.functions()))):
+        able = [group for group in groups if all(breaking.is_apart(edit, other) for other in group)]
+        if not able:
+            groups.append([])
+            able = groups[-1:]
         min(able, key=len).append(edit)
-    return groups + alone
-
-
-def refused_by(crate, group, said):
-    """The functions that are refused, and by which goals.
-
-    Where an edit changes a definition beside the code, a goal is open too whose answer stands on a
-    lemma that the changed definition refuses: no other proof of it is at hand.
-    """
-    refused = refused_in(crate, said)
-    if changes_a_definition(group) and not ill_formed(said):
-        return {function: open_goals(crate, function, said) for function in refused}
-    return refused
-
-
-def changes_a_definition(group):
-    return any(change.path.startswith('specs/') for edit in group for change in edit.changes)
+    return [group for group in groups if group] + [[edit] for edit in alone]
 
 
 def breaches(group, refused):
@@ -97,12 +111,6 @@ def functions_of(group):
     return sorted({goal.function for edit in group for goal in edit.goals})
 
 
-def functions_by_crate(tasks):
-    """By crate, the functions that are to be proved before an edit, and refused after it."""
-    return {crate: sorted({function for other, group in tasks if other == crate for function in functions_of(group)})
-            for crate, _ in tasks}
-
-
 def listed(names):
     return ', '.join(sorted(names)) or 'none'
 
@@ -110,17 +118,17 @@ def listed(names):
 def tried(rooms, task):
     """Tries a group of edits of a crate in a copy that no other try uses."""
     crate, group = task
-    room, start = rooms.get(), monotonic()
+    place, start = rooms.get(), monotonic()
     try:
-        folder = crate_folder(crate, room)
-        with changed_files(folder, texts_with(folder, group)):
-            said, _ = check(room, crate, 1, *only(functions_of(group)))
+        with changed(place, crate) as room:
+            room.write(texts_with(crate_folder(crate), group))
+            said = room.said(1, functions_of(group))
     finally:
-        rooms.put(room)
-    found = list(breaches(group, refused_by(crate, group, said)))
+        rooms.put(place)
+    found = list(breaches(group, refused_in(crate, said)))
     names = ', '.join(edit.name for edit in group)
     how = 'NOT AS THEY MUST BE' if found else 'refused'
-    print(f'{crate}: {how}, after {monotonic() - start:.0f} s: {names}', *found, sep='\n    ')
+    print(f'{crate}: {how}, {len(group)} after {monotonic() - start:.0f} s: {names}', *found, sep='\n    ')
     if found:
         print(said)
     sys.stdout.flush()
@@ -132,20 +140,20 @@ def prepared(crate, named):
     groups = groups_of(crate, [edit for edit in own_edits(crate) if named in edit.name])
     for group in groups:
         texts_with(crate_folder(crate), group)
-    alone = sum(len(group) == 1 for group in groups)
     print(f'{crate}: {sum(map(len, groups))} edits in {len(groups)} checks, '
-          f'{alone} of them of one edit', flush=True)
+          f'{sum(len(group) == 1 for group in groups)} of them of one edit', flush=True)
     return [(crate, group) for group in groups]
 
 
 def main(words):
     given = options('edits', __doc__, words, 'crates', '--named', '--jobs')
-    crates = given.crates or sorted({*crates_with(FOLDER), *EDITS})
+    crates = given.crates or sorted({*crates_with(FOLDER), *crates_with(ALONE), *EDITS, *MUST_FAIL})
     tasks = [task for crate in crates for task in prepared(crate, given.named)]
     if not tasks:
         raise Failure(f'no edit has {given.named} in its name')
-    functions = functions_by_crate(tasks)
-    require_proofs(sorted(functions), given.jobs, functions)
+    functions = {crate: functions_of([edit for other, group in tasks if other == crate for edit in group])
+                 for crate, _ in tasks}
+    require_proofs(given.jobs, functions)
     rooms = SimpleQueue()
     # those of many edits first, so that at the end no processor is left alone with a long check
     tasks.sort(key=lambda task: -len(task[1]))

@@ -1,44 +1,38 @@
-"""Which function's body a change of a source file stands in, and whether it stays inside it.
+"""Which functions a change breaks.
 
-A change within one body breaks that function alone, since every other is proved from its contract. A
-change of a macro, of a constant or of a contract may break functions that nobody thought of.
+A change inside the body of a function breaks that one alone, since every other is proved from its
+contract. A change of a contract, a constant or a member of an `impl` may break functions that nobody
+thought of. Functions are told by their last name here: an edit that names another of the same name
+leaves that one proved, and fails.
 """
 import os
 import re
+from functools import lru_cache
 from typing import NamedTuple
 
 from gate_parts.edit_files import place_of
+from gate_parts.said import answers_of
+from gate_parts.tree import text_of
 
 # What may hide braces from the eye: comments, texts and characters (and not lifetimes).
 HIDDEN = re.compile(r'//[^\n]*|/\*.*?\*/|"(?:[^"\\]|\\.)*"|' r"'(?:[^'\\\n]|\\[^\n]+?)'", re.DOTALL)
 # What stands before the brace of a clause, and not of a body.
 CLAUSE = re.compile(r'\b(?:requires|ensures|decreases|invariant|ghost|state(?!\s*:)|law)\b[^{}]*$')
-FUNCTION = re.compile(r'\bfn\s+(\w+)')
-MACRO = re.compile(r'\bmacro_rules!')
-MODULE = re.compile(r'\bmod\s+(\w+)\s*$')
-TRAIT = re.compile(r'\btrait\s+(\w+)')
-IMPL = re.compile(r'\bimpl\b')
-# A part of a path in angle brackets, without further ones inside.
-IN_ANGLES = re.compile(r'<[^<>]*>')
-# The one type that a trait is given, by which a function's path tells it from the same trait of
-# another: `Extend<char>`, `TryFrom<&str>`, `TryFrom<Text<N>>`.
-TRAIT_OF = re.compile(r"(\w+)<(&?)(?:'\w+ )?(?:\w+::)*(\w+)(?:<[^<>]*>)?> for ")
-DECLARED = r'\b(?:struct|enum)\s+{}\b'
-IMPORTED = r'\buse\s+((?:\w+::)+)(?:\{{[^}}]*\b)?{}\b'
+# A function may have the name that its macro is given.
+FUNCTION = re.compile(r'\bfn\s+\$?(\w+)')
+MACRO = re.compile(r'\bmacro_rules!\s*(\w+)')
 
 
 class Body(NamedTuple):
-    """The body of a function, between its braces; the path is without the crate."""
-    start: int
-    end: int
-    function: str
-
-
-class Brace(NamedTuple):
-    """An open brace: where it stands, and what it opens."""
-    start: int
+    """What stands between the braces of a function or a macro."""
     kind: str
     name: str
+    # where what is said before the body begins: attributes, name and contract
+    header: int
+    start: int
+    end: int
+    # the macro that it stands in, or is
+    macro: str
 
 
 def without_hidden(text):
@@ -46,58 +40,10 @@ def without_hidden(text):
     return HIDDEN.sub(lambda found: ' ' * len(found[0]), text)
 
 
-def module_of(path):
-    """The path of the module of a source file: of `src/run/each.rt` it is `run`, `each`."""
-    parts = os.path.splitext(path)[0].split('/')[1:]
-    return parts[:-1] if parts[-1] in ('lib', 'main', 'mod') else parts
-
-
-def name_of_impl(header):
-    """An impl's part of the path: the type, and the trait behind it."""
-    header = TRAIT_OF.sub(with_its_type, header)
-    before = None
-    while before != header:
-        before, header = header, IN_ANGLES.sub('', header)
-    words = header.split('impl', 1)[1].split(' where ')[0].split()
-    names = [word.split('::')[-1] for word in words if word != 'for']
-    return ''.join(reversed(names))
-
-
-def with_its_type(found):
-    trait, reference, name = found.groups()
-    return f'{trait}{"Ref" if reference else ""}{name[0].upper()}{name[1:]} for '
-
-
-def module_of_type(name, path, text):
-    """The module of a type that a file has an `impl` of, without a trait: its own or another's."""
-    own = module_of(path)
-    found = re.search(IMPORTED.format(name), text)
-    if re.search(DECLARED.format(name), text) or not found:
-        return own
-    first, *others = found[1].split('::')[:-1]
-    return {'crate': [], 'super': own[:-1], 'self': own}.get(first, [first]) + others
-
-
-def opened(start, header, pending):
-    """What a brace opens that has this before it; `pending` is the function to have a body."""
-    if MACRO.search(header):
-        return Brace(start, 'macro', '')
-    if CLAUSE.search(FUNCTION.split(header)[-1]) and pending:
-        return Brace(start, 'clause', '')
-    if pending:
-        return Brace(start, 'body', pending)
-    if MODULE.search(header):
-        return Brace(start, 'part', MODULE.search(header)[1])
-    if TRAIT.search(header):
-        return Brace(start, 'part', TRAIT.search(header)[1])
-    if IMPL.search(header):
-        return Brace(start, 'part' if ' for ' in header else 'of a type', name_of_impl(header))
-    return Brace(start, 'other', '')
-
-
-def bodies(path, text):
-    """The bodies of the functions of a source file, but for those in macros."""
-    found, stack, pending, brackets, header_start = [], [], None, 0, 0
+@lru_cache(maxsize=None)
+def bodies(text):
+    """The bodies of the functions and macros of a source file."""
+    found, stack, pending, brackets, header_start, declared = [], [], None, 0, 0, 0
     plain = without_hidden(text)
     for at, sign in enumerate(plain):
         if sign in '([':
@@ -108,20 +54,20 @@ def bodies(path, text):
             pending, header_start = None, at + 1
         elif sign == '{':
             header = plain[header_start:at]
-            function = FUNCTION.search(header)
-            pending = function[1] if function else pending
-            stack.append((opened(at + 1, header, pending), brackets))
-            pending = pending if stack[-1][0].kind == 'clause' else None
+            function, macro = FUNCTION.search(header), MACRO.search(header)
+            if function:
+                pending, declared = function[1], header_start
+            is_clause = pending and CLAUSE.search(FUNCTION.split(header)[-1])
+            kind = 'macro' if macro else 'clause' if is_clause else 'function' if pending else 'other'
+            stack.append((kind, macro[1] if macro else pending, declared, at + 1, brackets))
+            pending = pending if is_clause else None
             brackets, header_start = 0, at + 1
         elif sign == '}' and stack:
-            brace, brackets = stack.pop()
+            *opened, brackets = stack.pop()
             header_start = at + 1
-            if brace.kind == 'body' and all(outer.kind != 'macro' for outer, _ in stack):
-                parts = [outer.name for outer, _ in stack if outer.kind in ('part', 'of a type')]
-                types = [outer.name for outer, _ in stack if outer.kind == 'of a type']
-                module = module_of_type(types[0], path, plain) if types else module_of(path)
-                function = '::'.join([*module, *parts, brace.name])
-                found.append(Body(brace.start, at, function))
+            if opened[0] in ('macro', 'function'):
+                macros = [name for kind, name, *_ in [*stack, opened] if kind == 'macro']
+                found.append(Body(*opened, at, macros[0] if macros else ''))
     return found
 
 
@@ -145,10 +91,39 @@ def narrowed(text, change):
     return start, start + len(old), old, new
 
 
-def function_changed(text, change):
-    """The function whose body the change stays in; None where it is in no body, or leaves it."""
+def body_changed(text, change):
+    """The body that the change stays in; None where it is in none, or leaves it, or is in what a macro says
+    of its functions beside their bodies."""
     start, end, old, new = narrowed(text, change)
-    around = [body for body in bodies(change.path, text) if body.start <= start and end <= body.end]
+    around = [body for body in bodies(text) if body.start <= start and end <= body.end]
     if not around or depths(old) != depths(new):
         return None
-    return min(around, key=lambda body: body.end - body.start).function
+    body = min(around, key=lambda body: body.end - body.start)
+    makes_functions = FUNCTION.search(without_hidden(text)[body.start:body.end])
+    return None if body.kind == 'macro' and makes_functions else body
+
+
+def functions_broken(folder, change, named):
+    """Those of the named functions in whose bodies or answers the change stands: all, where it is in a macro
+    that is used for as many. None, where it may break others."""
+    if change.path.startswith('proofs/'):
+        return named & {answers_of(change.path)}
+    body = body_changed(text_of(os.path.join(folder, change.path)), change)
+    if body and body.macro:
+        uses = sum(len(re.findall(rf'\b{body.macro}!', text)) for text in sources(folder))
+        return named if uses == len(named) else set()
+    return {function for function in named if body and function.split('::')[-1] == body.name}
+
+
+def text_of_function(folder, function):
+    """The functions of its name, with contracts, and its answers; None where none is found."""
+    found = [text[body.header:body.end] for text in sources(folder) for body in bodies(text)
+             if body.kind == 'function' and body.name == function.split('::')[-1]]
+    answers = os.path.join(folder, 'proofs', *function.split('::'), 'Answers.antt')
+    return '\n'.join(found + ([text_of(answers)] if os.path.exists(answers) else [])) if found else None
+
+
+def sources(folder):
+    """The text of each source file of the crate."""
+    return [text_of(os.path.join(place, name))
+            for place, _, names in os.walk(os.path.join(folder, 'src')) for name in names]

@@ -1,12 +1,11 @@
 """Scripts that the program takes, drawn at random, with places and sizes near the edges."""
 from itertools import accumulate
 
+from gate_parts.characters import a_char, a_string
+from gate_parts.encodings import nearly_utf8
 from gate_parts.language import ABSURD, GREATEST, Text, command_of, width
 
 EDGES = (0, 8, 30)
-# By width: what looks like an end or a space, the first and last of each width and of each gap.
-CHARS = (' \r\0\t\x0b\x1f\x7f~azAF09_-', '\x80\x85\xa0é\u0301\u07ff',
-         '\u0800€\u2028\u3000\ud7ff\ue000\ufeff\ufffd\uffff', '\U00010000𝄞😀\U000f0000\U0010ffff')
 # A row for each line: how often it comes beside the others, and what follows its word. There,
 # `draw` is the case's random numbers, and `text` the text of its turn.
 LINES = {
@@ -25,23 +24,6 @@ LINES = {
     'shrink_to_fit': (6, None),
 }
 WEIGHTS = {word: weight for word, (weight, _) in LINES.items()}
-
-
-def a_char(draw):
-    if draw.chance(10):
-        return chr(draw.choice((draw.randint(0x20, 0xd7ff), draw.randint(0xe000, 0x10ffff))))
-    return draw.choice(draw.choice(CHARS))
-
-
-def a_string(draw, size):
-    """A string of as many bytes."""
-    if draw.chance(30):
-        return draw.choice('ab ') * size
-    out = ''
-    while size:
-        step = draw.randint(1, min(size, 4))
-        out, size = out + draw.choice(CHARS[step - 1]), size - step
-    return out
 
 
 def an_edge(draw, text):
@@ -103,27 +85,6 @@ def an_amount(draw, text):
             GREATEST, rest, rest + draw.randint(1, 31), ABSURD,
             2 ** 63 - text.size, 2 ** 63 - 1 - text.size, 2 ** 63, 2 ** 63 - 1))
     return written(draw, min(amount, GREATEST))
-
-
-# The two first bytes of what is just a character, or just none; the others may be any of two.
-PAIRS = [bytes.fromhex(pair) for pair in
-         'c1bf c280 dfbf e09f e0a0 ed9f eda0 ee80 efbf f08f f090 f3bf f48f f490 f580'.split()]
-# Each byte at which a rule of UTF-8 begins or ends, for first bytes and for later ones.
-FIRST = bytes.fromhex('00 0a 41 7f 80 bf c0 c1 c2 df e0 e1 ec ed ee ef f0 f1 f3 f4 f5 f7 f8 ff')
-LATER = bytes.fromhex('7f 80 8f 90 9f a0 bf c0')
-
-
-def almost_char(draw):
-    if draw.chance(60):
-        pair = draw.choice(PAIRS)
-        return pair + bytes(draw.choices(b'\x80\xbf', k=(pair[0] >= 0xe0) + (pair[0] >= 0xf0)))
-    return bytes([draw.choice(FIRST), *draw.choices(LATER, k=draw.randint(0, 3))])
-
-
-def nearly_utf8(draw, count):
-    """Characters, and what is almost one."""
-    drawn = (a_char(draw).encode() if draw.chance(33) else almost_char(draw) for _ in range(count))
-    return b''.join(drawn)
 
 
 def a_replacement(draw, text):

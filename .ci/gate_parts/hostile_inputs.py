@@ -4,8 +4,9 @@ Each maker of an input takes `draw`, the case's random numbers, and `word`, its 
 """
 from gate_parts.cases import STREAMS, Case
 from gate_parts.draw import Draw
-from gate_parts.good_scripts import (CHARS, LINES, a_char, a_string, good_lines, good_script, in_digits,
-                          line_of, nearly_utf8, written)
+from gate_parts.characters import CHARS, a_char, a_string
+from gate_parts.encodings import nearly_utf8
+from gate_parts.good_scripts import LINES, good_lines, good_script, in_digits, line_of, written
 from gate_parts.language import GREATEST, MOST_BYTES, STARTS, Text, Undecided, answer, width
 
 WRONG_WORDS = [
@@ -42,42 +43,26 @@ def short(draw, word):
     return '\n'.join(good_lines(draw, word, draw.randint(1, 8))).encode() + draw.choice((b'', b'\n'))
 
 
+def spoilt(draw, word):
+    """With bytes left out, doubled, put in or cut off at a place, or with lines exchanged."""
+    data = short(draw, word)
+    at, size = draw.randint(0, len(data)), draw.choice((1, 1, 1, 2, 40))
+    if draw.chance(10):
+        lines = data.split(b'\n')
+        one, other = draw.randrange(len(lines)), draw.randrange(len(lines))
+        lines[one], lines[other] = lines[other], lines[one]
+        return b'\n'.join(lines)
+    more = (b' ', b'0', b'\n', b'\r', b'\0', b'\xef\xbb\xbf', draw.randbytes(1), nearly_utf8(draw, 1))
+    return draw.choice((data[:at] + data[at + size:], data[:at] + data[at:at + size] + data[at:],
+                        data[:at] + draw.choice(more) + data[at:], data[:at]))
+
+
 def flipped(draw, word):
+    """With some bits of its bytes changed."""
     data = bytearray(short(draw, word))
     for _ in range(draw.choice((1, 1, 2, 5))):
         data[draw.randrange(len(data))] ^= 1 << draw.randrange(8)
     return bytes(data)
-
-
-def without_bytes(draw, word):
-    data = short(draw, word)
-    at = draw.randrange(len(data))
-    return data[:at] + data[at + draw.choice((1, 1, 1, 2, 4)):]
-
-
-def with_bytes_twice(draw, word):
-    data = short(draw, word)
-    at = draw.randrange(len(data))
-    return data[:at] + data[at:at + draw.choice((1, 1, 1, 2, 40))] + data[at:]
-
-
-def with_more_bytes(draw, word):
-    data = short(draw, word)
-    at = draw.randint(0, len(data))
-    more = (b' ', b'0', b'\n', b'\r', b'\0', b'\xef\xbb\xbf', draw.randbytes(1), nearly_utf8(draw, 1))
-    return data[:at] + draw.choice(more) + data[at:]
-
-
-def exchanged(draw, word):
-    lines = short(draw, word).split(b'\n')
-    a, b = draw.randrange(len(lines)), draw.randrange(len(lines))
-    lines[a], lines[b] = lines[b], lines[a]
-    return b'\n'.join(lines)
-
-
-def cut_off(draw, word):
-    data = short(draw, word)
-    return data[:draw.randint(0, len(data))]
 
 
 # Lines that are bad, or look as if they were, in a script that is good.
@@ -174,20 +159,17 @@ def at_limit(draw, word):
 
 # How often each comes beside the others.
 INPUTS = {
-    random_bytes: 3, random_few_bytes: 2, random_text: 3, almost_text: 5, good_script: 22, flipped: 8,
-    without_bytes: 5, with_bytes_twice: 4, with_more_bytes: 6, exchanged: 3, cut_off: 4,
+    random_bytes: 3, random_few_bytes: 2, random_text: 3, almost_text: 5, good_script: 22, flipped: 8, spoilt: 22,
     odd_number: 12, odd_digits: 7, odd_line: 10, odd_character: 3, at_limit: 5}
 # Of a hundred cases.
 WRONG, STREAMED = 3, 8
 
 
 def drawn(draw, name):
-    case, word = Case(name), draw.choice(list(STARTS))
+    word = draw.choice(list(STARTS))
     words = draw.choice(WRONG_WORDS) if draw.chance(WRONG) else [word]
-    case.words = [each if isinstance(each, bytes) else each.encode() for each in words]
-    case.io = draw.choice(STREAMS) if draw.chance(STREAMED) else ''
-    case.input = draw.weighted(INPUTS)(draw, word)
-    return case
+    io = draw.choice(STREAMS) if draw.chance(STREAMED) else ''
+    return Case(name, words, draw.weighted(INPUTS)(draw, word), io)
 
 
 def hostile_case(seed, number):

@@ -158,8 +158,7 @@ def width(text):
 
 def accepted(case):
     """The word and the commands of a case; a fault where it is refused, the first in the order of the rules."""
-    words = [word.decode(errors='replace') for word in case.words]
-    if len(words) != 1 or words[0] not in STARTS:
+    if len(case.words) != 1 or case.words[0] not in STARTS:
         raise Fault('bad argument', 2)
     if case.io == 'stdin-dir':
         raise Fault('read fault', 1)
@@ -173,7 +172,7 @@ def accepted(case):
     for at, command in commands:
         if command is None:
             raise Fault(f'line {at}: bad command', 2, 'bad command')
-    return words[0], [command for _, command in commands]
+    return case.words[0], [command for _, command in commands]
 
 
 def answer(case):

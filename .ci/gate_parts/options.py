@@ -8,18 +8,17 @@ from gate_parts.tree import PROCESSORS
 SEED = '20251122'
 
 KNOWN = {
+    'crate': {'metavar': 'CRATE'},
     'crates': {'nargs': '*', 'metavar': 'CRATE'},
     'programs': {'nargs': '*', 'metavar': 'PROGRAM'},
-    'judge': {'metavar': 'JUDGE'},
-    'family': {'choices': ('readings', 'pairs', 'calls')},
-    'what': {'choices': ('digests', 'values')},
+    '--only': {'default': '', 'metavar': 'PATH'},
+    '--test': {'action': 'store_true'},
     '--named': {'default': '', 'metavar': 'WORD'},
     '--jobs': {'type': int, 'default': PROCESSORS, 'metavar': 'N'},
     '--seed': {'default': SEED},
-    '--first': {'type': int, 'default': 0, 'metavar': 'N'},
-    '--thousands': {'type': int, 'default': 1, 'metavar': 'N'},
+    '--lines': {'type': int, 'default': 0, 'metavar': 'N'},
     '--count': {'type': int, 'default': HOSTILE_INPUTS},
-    '--all': {'action': 'store_true'},
+    '--store': {'action': 'store_true'},
     '--draw': {'action': 'store_true'},
 }
 

@@ -3,15 +3,13 @@ import os
 import subprocess
 import threading
 import time
-from multiprocessing import Pool, Value
+from multiprocessing import Pool
 
-from gate_parts.cases import quoted, told
-from gate_parts.tree import Failure, crate_folder
+from gate_parts.tree import PROCESSORS, Failure, crate_folder
 
-# A program that does not end is killed. After so many of these no further run is tried.
-SECONDS, MOST_SLOW = 20, 3
-SLOW = Value('i', 0)
-NOT_TRIED = b'', 'not tried'
+# A program that does not end is killed.
+SECONDS = 20
+TOO_SLOW = 'too slow'
 
 
 def builds_of(crate):
@@ -36,48 +34,35 @@ def checked(program):
 
 def run(program, case):
     """The standard output and the exit status of one run; the status is in words where it did not end."""
-    if SLOW.value >= MOST_SLOW:
-        return NOT_TRIED
-    stdout = {'stdout-full': full_output, 'stdout-closed': closed_output}.get(case.io, lambda: subprocess.PIPE)()
-    stdin = {'stdin-dir': directory, 'stdin-zero': endless}.get(case.io, lambda: file_of(case.input))
-    feed = None
-    if case.io == 'stdin-pipe':
-        reading, feed = os.pipe()
-    else:
-        reading = stdin()
+    stdin, feed = input_of(case)
+    output = os.memfd_create('output')
+    stdout = {'stdout-full': full_output, 'stdout-closed': closed_output}.get(case.io, lambda: os.dup(output))()
     try:
-        process = subprocess.Popen([program, *case.words], stdin=reading, stdout=stdout, stderr=subprocess.DEVNULL)
-    finally:
-        os.close(reading)
-        if stdout != subprocess.PIPE:
-            os.close(stdout)
-    if feed is not None:
-        threading.Thread(target=feed_in_parts, args=(feed, case.input), daemon=True).start()
-    try:
-        return process.communicate(timeout=SECONDS)[0] or b'', process.returncode
+        if feed is not None:
+            threading.Thread(target=feed_in_parts, args=(feed, case.input), daemon=True).start()
+        status = subprocess.run([program, *case.words], stdin=stdin, stdout=stdout, stderr=subprocess.DEVNULL,
+                                timeout=SECONDS, check=False).returncode
     except subprocess.TimeoutExpired:
-        with SLOW:
-            SLOW.value += 1
-        process.kill()
-        return process.communicate()[0] or b'', 'too slow'
+        status = TOO_SLOW
+    finally:
+        os.close(stdin)
+        os.close(stdout)
+    with os.fdopen(output, 'rb') as written:
+        written.seek(0)
+        return written.read(), status
 
 
-def file_of(data):
-    """A file in memory."""
+def input_of(case):
+    """The standard input, and where it is a pipe, its other end."""
+    if case.io == 'stdin-pipe':
+        return os.pipe()
+    if case.io in ('stdin-dir', 'stdin-zero'):
+        return os.open('/' if case.io == 'stdin-dir' else '/dev/zero', os.O_RDONLY), None
     file = os.memfd_create('input')
     with os.fdopen(os.dup(file), 'wb') as writing:
-        writing.write(data)
+        writing.write(case.input)
     os.lseek(file, 0, os.SEEK_SET)
-    return file
-
-
-def directory():
-    """Every read of it fails."""
-    return os.open('/', os.O_RDONLY)
-
-
-def endless():
-    return os.open('/dev/zero', os.O_RDONLY)
+    return file, None
 
 
 def full_output():
@@ -102,21 +87,10 @@ def feed_in_parts(pipe, data):
     os.close(pipe)
 
 
-def all_runs(work, items):
-    """What `work` answers of each item, in order, on all processors."""
-    SLOW.value = 0
-    with Pool(os.cpu_count()) as pool:
-        yield from pool.imap(work, items, 8)
-
-
-def difference(case, output, status):
-    """What a case that failed was, must give and gave."""
-    lines = [f'FAILED {case.name}', ' '.join(['words', *(quoted(word) for word in case.words)])]
-    lines += [f'io {case.io}'] if case.io else []
-    lines += [f'input {text}' for text in told(case.input)]
-    for who, data, ended in (('wanted', case.output, case.status), ('given', output, status)):
-        lines += [f'{who} {text}' for text in told(data)] + [f'{who} status {ended}']
-    return '\n'.join(lines) + '\n'
+def all_runs(work, items, at_once=1):
+    """What `work` answers of each item, in order."""
+    with Pool(PROCESSORS) as pool:
+        yield from pool.imap(work, items, at_once)
 
 
 # Closed before there are threads or further processes, so that none ever holds the reading end.

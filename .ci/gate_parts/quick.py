@@ -1,8 +1,9 @@
-"""gate quick: a newcomer's check, in a few minutes: it shows less than the gate, which is `.ci/run`.
+"""gate quick [--all]: a newcomer's check, under three minutes on two processors. The gate is `.ci/run`.
 
-The library is proved, over what earlier checks have kept; the tests run unproved, by `rt try`; and
-the program prints what is stored of its own script. All go side by side. A test that holds all memory
-can't do so under `rt try`, and stops: it says that it needs the proved build, and is counted apart.
+One part of the library is proved, lists of commands; the main tests run unproved, by `rt try`; and the
+program prints what is stored of its own script. With --all the library is proved whole, over what earlier
+checks have kept, and the tests of every crate run. All go side by side. A test that holds all memory can't
+do so under `rt try`, and stops: it says that it needs the proved build, and is counted apart.
 """
 import os
 import re
@@ -12,30 +13,34 @@ import time
 from concurrent.futures import ThreadPoolExecutor, as_completed
 from functools import partial
 
-from floors import TRIED
+from floors import QUICK_PROVED, TRIED
 from gate_parts.options import options
+from gate_parts.refusals import ENDED, TEST
 from gate_parts.tree import PROCESSORS, crate_folder, run_rt, text_of
 
-LIBRARY, PROGRAM = 'inlinable_string', 'inline_script'
-# A test, and what it printed.
-TEST = re.compile(r'^test \S+ (?:.*?)(ok|FAILED)$(.*?)(?=^test |\Z)', re.MULTILINE | re.DOTALL)
-ENDED = re.compile(r'^test result:', re.MULTILINE)
+LIBRARY, PART, PROGRAM = 'inlinable_string', 'run', 'inline_script'
+# The crates whose tests run without --all.
+MAIN_TESTS = ('inline_vectors', 'inline_script')
+PROVED = re.compile(r'^only=(\d+) proved=\1$', re.MULTILINE)
+LEFT_OUT = 'the proofs of the other crates and of all tests, and whatever must be refused or answered'
 HELD = 'this test needs the proved build'
 # Generated lists take long under the checks of `rt try`, and longer where others are at work.
 SECONDS = '600'
 
 
-def library_is_proved():
-    said, status = run_rt(crate_folder(LIBRARY), 'check')
-    return status == 0, f'{LIBRARY} is proved', said
+def library_is_proved(*words):
+    """Whether the library is proved, or with `--only` and a module that alone, and how many functions."""
+    said, status = run_rt(crate_folder(LIBRARY), 'check', *words)
+    proved = int((PROVED.search(said) or [0, 0])[1])
+    is_well = status == 0 and (not words or proved >= QUICK_PROVED)
+    return is_well, f'{LIBRARY} is proved' + f', {proved} functions of `{PART}`' * bool(words), said
 
 
 def counted(said):
     """How many tests passed, failed, and stopped since they need the proved build."""
-    found = TEST.findall(said)
-    held = sum(how == 'FAILED' and HELD in printed for how, printed in found)
-    failed = sum(how == 'FAILED' for how, _ in found) - held + (not ENDED.search(said))
-    return sum(how == 'ok' for how, _ in found), failed, held
+    found = [(how == 'ok', HELD in printed) for _, how, printed in TEST.findall(said)]
+    passed, held = sum(is_well for is_well, _ in found), found.count((False, True))
+    return passed, len(found) - passed - held + (not ENDED.search(said)), held
 
 
 def tests_pass(crate):
@@ -59,19 +64,26 @@ def program_runs():
     return bool(wanted) and ran.returncode == 0 and ran.stdout == wanted, f'{PROGRAM} runs its script', said
 
 
+def steps_of(is_all):
+    """What is tried, the longest first, and in words what is not."""
+    if is_all:
+        return [library_is_proved, *(partial(tests_pass, crate) for crate in TRIED), program_runs], LEFT_OUT
+    others = ', '.join(crate for crate in TRIED if crate not in MAIN_TESTS)
+    return ([partial(library_is_proved, '--only', PART), *(partial(tests_pass, crate) for crate in MAIN_TESTS),
+             program_runs], f'the rest of {LIBRARY}, the tests of {others} (all this by --all), {LEFT_OUT}')
+
+
 def main(words):
-    options('quick', __doc__, words)
+    steps, left_out = steps_of(options('quick', __doc__, words, '--all').all)
     start, is_well = time.monotonic(), True
-    steps = [library_is_proved, *(partial(tests_pass, crate) for crate in TRIED), program_runs]
     with ThreadPoolExecutor(PROCESSORS) as pool:
         for step in as_completed([pool.submit(step) for step in steps]):
             is_step_well, told, said = step.result()
-            verdict = 'well' if is_step_well else 'NOT WELL'
-            print(f'{time.monotonic() - start:5.0f} s  {verdict}: {told}', flush=True)
-            if not is_step_well:
-                print(said)
+            print(f'{time.monotonic() - start:5.0f} s  {"well" if is_step_well else "NOT WELL"}: {told}', flush=True)
+            print(said * (not is_step_well), end='')
             is_well = is_well and is_step_well
     used = resource.getrusage(resource.RUSAGE_CHILDREN)
     print(f'{used.ru_utime + used.ru_stime:5.0f} s of processor')
-    print('PASSED quick: the whole gate is .ci/run' if is_well and TRIED else 'FAILED quick')
-    return is_well and bool(TRIED)
+    print(f'Not tried: {left_out}. The whole gate is .ci/run.')
+    print('PASSED quick' if is_well else 'FAILED quick')
+    return is_well

@@ -4,17 +4,10 @@ import shutil
 import tempfile
 from contextlib import contextmanager
 
-from gate_parts.tree import (TOP, Failure, crate_folder, run_rt, text_of, with_those_below,
-                             write_text)
+from gate_parts.tree import TOP, Failure, crate_folder, run_rt, text_of, with_those_below, write_text
 
 # Read by `rt` beside the crates.
 AT_THE_TOP = ('crates.txt', 'HANDLES')
-
-
-def check(top, crate, jobs, *options):
-    """What a check of the crate prints, and whether it is proved."""
-    said, status = run_rt(crate_folder(crate, top), 'check', '--jobs', str(jobs), *options)
-    return said, status == 0
 
 
 def only(functions):
@@ -22,67 +15,80 @@ def only(functions):
     return [word for function in functions for word in ('--only', function)]
 
 
+def said_of(top, crate, jobs, functions=()):
+    """What a check of the crate prints, or of these functions of it, and whether they are proved."""
+    said, status = run_rt(crate_folder(crate, top), 'check', '--jobs', str(jobs), *only(functions))
+    return said, status == 0
+
+
 def require_proof(top, crate, jobs, functions=()):
     """Checks that the crate is proved there, or that these functions of it are; what the check keeps in
     out/ serves later ones."""
-    said, is_well = check(top, crate, jobs, *only(functions))
+    said, is_well = said_of(top, crate, jobs, functions)
     if not is_well:
         raise Failure(f'{crate} is not proved as it is:\n{said}')
 
 
-def require_proofs(crates, jobs, functions):
-    """The same of several crates of the tree, with the functions of each: first those that others stand
-    on, which must be proved whole. One at a time, since each check keeps the others out of what it
-    stands on."""
-    below = [crate for crate in crates
-             if any(crate in with_those_below([other]) for other in crates if other != crate)]
-    for crate in below:
-        require_proof(TOP, crate, jobs)
-    for crate in crates:
-        if crate not in below:
-            require_proof(TOP, crate, jobs, functions[crate])
+def require_proofs(jobs, functions):
+    """The same of the crates of the tree, with the functions of each: whole, where others stand on it, and these
+    first. One at a time, since each check keeps the others out of what it stands on."""
+    below = [crate for crate in functions
+             if any(crate in with_those_below([other]) for other in functions if other != crate)]
+    for crate in sorted(functions, key=lambda crate: (crate not in below, crate)):
+        require_proof(TOP, crate, jobs, () if crate in below else functions[crate])
 
 
 @contextmanager
 def copies(crates, count):
-    """So many copies of the crates and of all below them, with what their checks have kept."""
+    """So many copies of the crates and of all below them, with what their checks have kept; of the others
+    only what `rt` may look at."""
     kept = with_those_below(crates)
     with tempfile.TemporaryDirectory(prefix='gate-') as place:
         rooms = [os.path.join(place, str(number)) for number in range(count)]
         for room in rooms:
-            copy_crates(room, kept)
+            for crate in os.listdir(os.path.join(TOP, 'crates')):
+                left_out = shutil.ignore_patterns(*(() if crate in kept else ('out',)))
+                shutil.copytree(crate_folder(crate), crate_folder(crate, room), symlinks=True, ignore=left_out)
+            for name in AT_THE_TOP:
+                shutil.copy2(os.path.join(TOP, name), os.path.join(room, name))
         yield rooms
 
 
-def more_copies(room, count):
-    """So many copies of a room as it is now, beside it; they go when it goes."""
-    others = [f'{room}-{number}' for number in range(1, count + 1)]
-    for other in others:
-        shutil.copytree(room, other, symlinks=True)
-    return others
+class Room:
+    """A crate of a copy, whose files are changed for a while."""
 
+    def __init__(self, top, crate):
+        self.top, self.crate = top, crate
+        # what each file had before; None where there was none
+        self.before = {}
 
-def copy_crates(room, kept):
-    """Copies the tree's crates; of those that are not kept only what `rt` may look at."""
-    for crate in os.listdir(os.path.join(TOP, 'crates')):
-        left_out = () if crate in kept else ('out',)
-        shutil.copytree(crate_folder(crate), crate_folder(crate, room), symlinks=True,
-                        ignore=shutil.ignore_patterns(*left_out))
-    for name in AT_THE_TOP:
-        shutil.copy2(os.path.join(TOP, name), os.path.join(room, name))
+    def write(self, texts):
+        """Gives files these texts."""
+        for path, text in texts.items():
+            whole = os.path.join(crate_folder(self.crate, self.top), path)
+            os.makedirs(os.path.dirname(whole), exist_ok=True)
+            self.before.setdefault(whole, text_of(whole) if os.path.exists(whole) else None)
+            write_text(whole, text)
+
+    def add(self, path, text):
+        """Adds to a file that the crate has or lacks."""
+        whole = os.path.join(crate_folder(self.crate, self.top), path)
+        self.write({path: (text_of(whole) if os.path.exists(whole) else '') + text})
+
+    def said(self, jobs, functions):
+        """What a check of these functions prints."""
+        return said_of(self.top, self.crate, jobs, functions)[0]
 
 
 @contextmanager
-def changed_files(folder, texts):
-    """While it lasts, these files of the folder have these texts; then their own again."""
-    own = {path: text_of(os.path.join(folder, path)) for path in texts}
+def changed(top, crate):
+    """A room whose files have their own texts again at the end."""
+    room = Room(top, crate)
     try:
-        write_all(folder, texts)
-        yield
+        yield room
     finally:
-        write_all(folder, own)
-
-
-def write_all(folder, texts):
-    for path, text in texts.items():
-        write_text(os.path.join(folder, path), text)
+        for path, text in room.before.items():
+            if text is None:
+                os.remove(path)
+            else:
+                write_text(path, text)

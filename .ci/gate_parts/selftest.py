@@ -1,9 +1,9 @@
 """gate selftest: shows that the parts of the gate fail where they must, in a small repository of their own.
 
-There a stand-in for `rt` says what a check would. Each way of trying less, or of finding nothing,
-must make a part fail: edits whose goals stay proved or that stand there twice, stored files that are
-cut or gone, hostile inputs of noise alone, tests that never meet a refusal. Beside each stands the
-same in order, which must pass.
+There a stand-in for `rt` says what a check would. Each way of trying less, or of finding nothing, must
+make a part fail: edits whose goals stay proved, that no longer apply or that no table names, tests that
+never meet a refusal, programs that answer otherwise. Beside each stands the same in order, which must
+pass. `selftest_programs.py` has the parts that run programs.
 """
 import os
 import re
@@ -12,42 +12,28 @@ import subprocess
 import sys
 import tempfile
 import unittest
-from collections import Counter
 from unittest import mock
 
-from floors import CALL_ANSWERS, PAIR_ANSWERS, READING_ANSWERS
-from gate_parts import (bench_table, call_inputs, counts, departures, hostile_inputs, pair_inputs, pictures, promises,
-                        quick, quoted, reading_inputs, said, shapes, specified, stored_lines)
-from gate_parts.answered_lines import shortfalls
+import floors
+from gate_parts import quick, said, shapes
 from gate_parts.callers import promising
-from gate_parts.cases import read_cases
-from gate_parts.counts import misstatements
-from gate_parts.definitions import Reach, cite_copies
-from gate_parts.edit_files import Change, Edit, read_edits, texts_with
-from gate_parts.edits import refused_by
-from gate_parts.enclosing import function_changed
-from gate_parts.families import FAMILIES
-from gate_parts.hostile import Tally, tried
-from gate_parts.reach import reached_by, words_by_definition
-from gate_parts.lines import Input, inputs_from
+from gate_parts.definitions import trials_of
+from gate_parts.edit_files import Change, Edit, Goal, read_edits, texts_with
+from gate_parts.edits import groups_of
+from gate_parts.enclosing import functions_broken
 from gate_parts.options import options
+from gate_parts.row_copies import Files
 from gate_parts.tree import Failure, in_tree, text_of, write_text
 
-ANSWERS = (*READING_ANSWERS, *PAIR_ANSWERS, *CALL_ANSWERS)
 CRATES = 'toy:\nabove: toy\ncallers: toy\n'
 FLOORS = '''
-EDITS = {'toy': 1}
+EDITS, MUST_FAIL, WRONG_DEFINITIONS, WRONG_CLAUSES, CALLERS = {'toy': 1}, {'toy': 1}, {'toy': 1}, 1, 1
 REFUSALS = {'toy': (2, 3)}
-STORED = {'a.cases': 2, 'b.cases': 1, 'digests': 0}
-SCRIPTS_RUN, LINES_RUN = 0, 2_000
-READINGS, READINGS_OF_EACH, READING_KINDS, READING_ANSWERS = {'values': 40, 'digests': 4_000}, 0, (), ()
-PAIRS, PAIRS_OF_EACH, PAIR_KINDS, PAIR_WORDS, PAIR_ANSWERS = {'values': 40, 'digests': 4_000}, 0, (), (), ()
-CALLS, CALLS_OF_EACH, CALL_KINDS, CALL_WORDS, CALL_ANSWERS = {'values': 60, 'digests': 4_000}, 0, (), (), ()
-HOSTILE_INPUTS, HOSTILE_ACCEPTED_PART, HOSTILE_OF_EACH, HOSTILE_REPLIES, HOSTILE_FAULTS = 1, 0, 0, (), ()
-WRONG_DEFINITIONS, WRONG_CLAUSES, CALLERS, PROMISES, DEPARTURES = {'toy': 1}, 1, 1, 0, 0
-PICTURES = {'array': 8, 'ways': 23, 'gate': 12}
-BENCH_WORKLOADS, BENCH_TEXTS = 2, {'One': 2, 'Two': 1}
+BENCH_WORKLOADS, BENCH_TEXTS = 1, {'One': 1, 'Two': 1}
 '''
+# As much as the floors say at least, in all: whoever lowers one further lowers its number here too.
+LEAST = {'EDITS': 150, 'MUST_FAIL': 25, 'WRONG_DEFINITIONS': 200, 'WRONG_CLAUSES': 5, 'CALLERS': 80, 'REFUSALS': 100,
+         'BENCH_WORKLOADS': 70, 'BENCH_TEXTS': 150}
 SOURCE = '''pub const LIMIT: usize = 1;
 
 /// One, as a caller wants it.
@@ -56,6 +42,16 @@ pub fn one() -> usize
 {
     1
 }
+
+pub fn other() -> usize {
+    one()
+}
+'''
+LAW = '''ghost use Rattle.toy.specs.Word.{word};
+
+pub fn law()
+    ensures value { word ≡ 1 }
+{}
 '''
 EDIT = '''edit two_for_one
 refused: one returns-clause-value
@@ -63,9 +59,14 @@ file: src/lib.rt
 old:     1
 new:     2
 '''
+MUST_FAIL = 'file: src/lib.rt\nold:     one()\nnew:     2\n'
+TABLE = '''| Edit | What is wrong | Refused by |
+|---|---|---|
+| `two_for_other` | it is two | `other` `returns-clause-value` |
+'''
 DEFINITION = '''edit two_is_one
-refused: one returns-clause-value
-refused: above/row returns-clause-value
+refused: laws::law returns-clause-value
+refused: above/rows::row returns-clause-value
 file: specs/Word.antt
 old: word = 1
 new: word = 2
@@ -76,31 +77,19 @@ file: src/lib.rt
 old: result ≡ LIMIT
 new: result ≡ result
 '''
-# Two workloads, of which the first is on two types of text; and a program that has one sum for each.
+# A workload on two types of text, and a program that has its sum.
 BENCH = '''from collections import namedtuple
 
 Workload = namedtuple('Workload', 'name word width drawn rounds texts')
-
-
-def drawn():
-    return b'input'
-
-
-WORKLOADS = (Workload('from 6', 'from', 6, drawn, (1, 2), ('One', 'Two')),)
-AT_CAPACITIES = (Workload('read 6', 'read', 6, drawn, (1, 2), ('One',)),)
+WORKLOADS, AT_CAPACITIES = (Workload('from 6', 'from', 6, lambda: b'input', (1, 2), ('One', 'Two')),), ()
 '''
-SUMS = '11 from 6\n12 read 6\n'
 SUMMING = '''#!/bin/sh
 [ "$(cat)" = input ] || exit 1
 case "$*" in
-    "One from 6 2") echo 11;;
-    "Two from 6 2") echo 11;;
-    "One read 6 2") echo 12;;
+    "One from 6 2" | "Two from 6 2") echo 11;;
     *) exit 1;;
 esac
 '''
-CASES = 'case {0}_1\nwords "inline"\noutput "done\\n"\nstatus 0\n\ncase {0}_2\nwords "inline"\nstatus 0\n'
-
 # It says what the variables of its environment tell it to: where WORD stands in a source or a
 # definition, the functions of REFUSED are refused, with a line ERROR before that.
 STAND_IN = r'''#!/usr/bin/env python3
@@ -123,7 +112,7 @@ if refused:
     print(os.environ.get('ERROR', ''))
 asked = [words[at + 1] for at, word in enumerate(words) if word == '--only']
 for function in asked or {'toy': ['one', 'other'], 'above': ['row'], 'callers': ['call']}[crate]:
-    if crate + '/' + function in refused:
+    if crate + '/' + function.split('::')[-1] in refused:
         print('note: src/lib.rt:1:1: it is not proved that all is well (`returns-clause-value`); so it is')
         print(f'fn {crate}::{function}: no proof: expected answers in ./proofs')
     else:
@@ -138,157 +127,165 @@ class InSmallRepository(unittest.TestCase):
     def setUp(self):
         self.place = tempfile.mkdtemp(prefix='gate-selftest-')
         self.addCleanup(shutil.rmtree, self.place)
-        shutil.copytree(in_tree('.ci'), os.path.join(self.place, '.ci'),
-                        ignore=shutil.ignore_patterns('__pycache__'))
-        self.write('.ci/floors.py', FLOORS)
+        shutil.copytree(in_tree('.ci'), self.path('.ci'), ignore=shutil.ignore_patterns('__pycache__'))
+        self.floors(FLOORS)
         self.write('crates.txt', CRATES)
         self.write('HANDLES', 'Handles allowed: none.\n')
         self.write_program('bin/rt', STAND_IN)
         self.write('crates/toy/src/lib.rt', SOURCE)
+        self.write('crates/toy/src/laws.rt', LAW)
         self.write('crates/toy/specs/Lib.antt', 'pub mod Word\n')
         self.write('crates/toy/specs/Word.antt', 'word = 1\n')
-        self.write('crates/above/specs/Lib.antt', '')
-        self.write('crates/above/src/lib.rt', 'ghost use Rattle.toy.specs.Word.{word};\n')
+        self.write('crates/above/src/lib.rt', 'pub mod rows;\n')
+        self.write('crates/above/src/rows.rt', LAW.replace('law', 'row'))
         self.write('crates/callers/src/lib.rt', SOURCE.replace('one', 'call'))
 
-    def write(self, path, text):
-        whole = os.path.join(self.place, path)
-        os.makedirs(os.path.dirname(whole), exist_ok=True)
-        write_text(whole, text)
+    def path(self, name):
+        return os.path.join(self.place, name)
 
-    def write_program(self, path, text):
+    def floors(self, text):
+        """The floors of the tree, and behind them others for the small repository."""
+        self.write('.ci/floors.py', text_of(in_tree('.ci', 'floors.py')) + text)
+
+    def write(self, name, text):
+        os.makedirs(os.path.dirname(self.path(name)), exist_ok=True)
+        write_text(self.path(name), text)
+
+    def write_program(self, name, text):
         """The whole path of a file that can be run."""
-        self.write(path, text)
-        whole = os.path.join(self.place, path)
-        os.chmod(whole, 0o755)
-        return whole
+        self.write(name, text)
+        os.chmod(self.path(name), 0o755)
+        return self.path(name)
 
-    def changed(self, path, old, new):
-        """Changes a text once, where it stands first in a file."""
-        text = text_of(os.path.join(self.place, path))
-        self.assertIn(old, text)
-        self.write(path, text.replace(old, new, 1))
-
-    def gate(self, *words, **variables):
-        """The exit status of a part, and what it prints."""
-        path = os.path.join(self.place, 'bin') + os.pathsep + os.environ['PATH']
-        ran = subprocess.run([os.path.join(self.place, '.ci/gate'), *words], stdout=subprocess.PIPE,
-                             stderr=subprocess.STDOUT, encoding='utf-8', env={**os.environ, 'PATH': path, **variables})
+    def run_program(self, name, *words, **variables):
+        """The exit status of a program of the repository, and what it prints."""
+        path = self.path('bin') + os.pathsep + os.environ['PATH']
+        ran = subprocess.run([self.path(name), *words], stdout=subprocess.PIPE, stderr=subprocess.STDOUT,
+                             encoding='utf-8', env={**os.environ, 'PATH': path, **variables})
         return ran.returncode, ran.stdout
 
     def assert_passes(self, *words, **variables):
-        status, said = self.gate(*words, **variables)
-        self.assertEqual(status, 0, said)
+        status, printed = self.run_program('.ci/gate', *words, **variables)
+        self.assertEqual(status, 0, printed)
 
     def assert_fails(self, why, *words, **variables):
-        status, said = self.gate(*words, **variables)
-        self.assertEqual(status, 1, said)
-        self.assertIn(why, said)
+        status, printed = self.run_program('.ci/gate', *words, **variables)
+        self.assertEqual(status, 1, printed)
+        self.assertIn(why, printed)
 
 
 class Edits(InSmallRepository):
-    IN_ORDER = {'WORD': '    2\n', 'REFUSED': 'toy/one'}
+    IN_ORDER = {'WORD': '    2\n', 'REFUSED': 'toy/one toy/other'}
+    TOGETHER, TABLE = 'crates/toy/must-fail-together/lib.edits', 'crates/toy/must-fail/README.md'
+    ALONE = 'crates/toy/must-fail/two_for_other.edit'
 
     def setUp(self):
         super().setUp()
-        self.write('crates/toy/must-fail-together/lib.edits', EDIT)
+        for name, text in ((self.TOGETHER, EDIT), (self.TABLE, TABLE), (self.ALONE, MUST_FAIL)):
+            self.write(name, text)
 
-    def test_refused_edit_passes(self):
-        self.assert_passes('edits', '--jobs', '2', **self.IN_ORDER)
+    def assert_edits_fail(self, why, **variables):
+        self.assert_fails(why, 'edits', '--jobs', '1', **{**self.IN_ORDER, **variables})
+
+    def assert_fails_with(self, why, name, text):
+        """The same with another text in a file."""
+        own = text_of(self.path(name))
+        self.write(name, text)
+        self.assert_edits_fail(why)
+        self.write(name, own)
 
     def test_edit_whose_goal_stays_proved(self):
-        self.assert_fails('returns-clause-value is not refused', 'edits', '--jobs', '1', WORD='    2\n', REFUSED='')
+        self.assert_passes('edits', '--jobs', '2', **self.IN_ORDER)
+        self.assert_edits_fail('one: returns-clause-value is not refused', REFUSED='toy/other')
+        self.assert_edits_fail('other: returns-clause-value is not refused', REFUSED='toy/one')
+        self.assert_edits_fail('toy is not proved as it is', WORD='    1\n')
 
-    def test_edit_is_tried_at_the_functions_that_it_names(self):
-        self.assert_passes('edits', '--jobs', '1', WORD='    2\n', REFUSED='toy/one toy/other')
-        self.assert_fails('returns-clause-value is not refused', 'edits', '--jobs', '1', WORD='    2\n', REFUSED='toy/other')
+    def test_edit_of_another_goal_or_crate(self):
+        for name, text in ((self.TOGETHER, EDIT), (self.TABLE, TABLE)):
+            self.assert_fails_with('clause-other is not refused', name, text.replace('clause-value', 'clause-other'))
+        self.assert_fails_with('which is not of toy', self.TOGETHER, EDIT.replace('refused: one', 'refused: above/row'))
 
-    def test_edit_of_another_goal(self):
-        self.write('crates/toy/must-fail-together/lib.edits', EDIT.replace('clause-value', 'clause-other'))
-        self.assert_fails('returns-clause-other is not refused', 'edits', '--jobs', '1', **self.IN_ORDER)
+    def test_edit_that_no_longer_applies(self):
+        self.assert_fails_with('two_for_one: this is 0 times', self.TOGETHER, EDIT.replace('old:     1', 'old:     3'))
+        self.assert_fails_with('two_for_other: this is 0 times', self.ALONE, MUST_FAIL.replace('one()', 'none()'))
+        self.assert_fails_with('two_for_other lacks a pair', self.ALONE, '')
 
-    def test_crate_that_is_not_proved(self):
-        self.assert_fails('toy is not proved as it is', 'edits', '--jobs', '1', WORD='    1\n', REFUSED='toy/one')
+    def test_table_and_edits_that_differ(self):
+        why, (*above, row) = 'must-fail/ and the table of its README differ: two_for_other', TABLE.splitlines(True)
+        self.assert_fails_with(why, self.TABLE, TABLE + row)
+        self.assert_fails_with(why, self.TABLE, ''.join(above))
+        os.remove(self.path(self.ALONE))
+        self.assert_edits_fail(why)
 
-    def test_name_that_stands_twice(self):
-        self.write('crates/toy/must-fail-together/more.edits', EDIT)
-        self.assert_fails('2 edits have the name two_for_one', 'edits', **self.IN_ORDER)
+    def test_name_or_change_that_stands_twice(self):
+        self.assert_fails_with('2 edits have the name two_for_one', self.TOGETHER, EDIT + '\n' + EDIT)
+        again = EDIT.replace('two_for_one', 'again')
+        self.assert_fails_with('changes just what', self.TOGETHER, EDIT + '\n' + again)
 
-    def test_change_that_stands_twice(self):
-        self.write('crates/toy/must-fail-together/more.edits', EDIT.replace('two_for_one', 'other'))
-        self.assert_fails('changes just what', 'edits', **self.IN_ORDER)
-
-    def test_edit_that_names_a_function_of_another_crate(self):
-        self.write('crates/toy/must-fail-together/lib.edits', EDIT.replace('refused: one', 'refused: above/row'))
-        self.assert_fails('which is not of toy', 'edits', **self.IN_ORDER)
-
-    def test_fewer_edits_than_there_must_be(self):
-        self.write('.ci/floors.py', FLOORS.replace("EDITS = {'toy': 1}", "EDITS = {'toy': 2}"))
-        self.assert_fails('has 1 edits, and must have 2', 'edits', **self.IN_ORDER)
-
-    def test_crate_whose_edits_are_gone(self):
-        shutil.rmtree(os.path.join(self.place, 'crates/toy/must-fail-together'))
-        self.assert_fails('has 0 edits', 'edits', **self.IN_ORDER)
+    def test_other_number_of_edits_than_is_said(self):
+        for numbers, folder in (("{'toy': 2}, {'toy': 1}, {", 'must-fail-together'),
+                                ("{}, {'toy': 1}, {", 'must-fail-together'), ("{'toy': 1}, {}, {", 'must-fail')):
+            self.floors(FLOORS.replace("{'toy': 1}, {'toy': 1}, {", numbers))
+            self.assert_edits_fail(f'has 1 edits in {folder}, and')
+        self.floors(FLOORS)
+        for folder in ('must-fail', 'must-fail-together'):
+            shutil.rmtree(self.path(f'crates/toy/{folder}'))
+            self.assert_edits_fail(f'has 0 edits in {folder}, and')
 
 
 class Definitions(InSmallRepository):
-    IN_ORDER = {'WORD': 'word = 2', 'REFUSED': 'toy/one above/row'}
+    IN_ORDER = {'WORD': 'word = 2', 'REFUSED': 'toy/law above/row'}
 
     def setUp(self):
         super().setUp()
         self.write('crates/toy/wrong-definitions/Word.edits', DEFINITION)
 
+    def assert_definitions_fail(self, why, **variables):
+        self.assert_fails(why, 'definitions', '--jobs', '1', **{**self.IN_ORDER, **variables})
+
     def test_refused_definition_passes(self):
         self.assert_passes('definitions', '--jobs', '1', **self.IN_ORDER)
-
-    def test_definition_that_the_row_above_does_not_refuse(self):
-        self.assert_fails('tried at above/row', 'definitions', '--jobs', '1', WORD='word = 2', REFUSED='toy/one')
-
-    def test_definition_that_is_not_well_formed(self):
-        self.assert_fails('not well formed', 'definitions', '--jobs', '1',
-                          ERROR='./specs/Word.antt:1:1: error: `word`: expected type `ℕ`', **self.IN_ORDER)
-
-    def test_definition_whose_name_has_gone(self):
-        self.assert_fails('a name has gone', 'definitions', '--jobs', '1',
-                          ERROR='./proofs/Free.antt:1:1: error: `word` is not in scope', **self.IN_ORDER)
-
-    def test_function_that_is_not_proved_as_it_is(self):
-        self.assert_fails('not proved as it is', 'definitions', '--jobs', '1', WORD='word = 1', REFUSED='above/row')
-
-    def test_definition_with_proofs_that_a_row_above_lacks(self):
-        self.write('crates/toy/proofs/Free.antt', 'free = 1\n')
-        self.write('crates/toy/wrong-definitions/Word.edits',
-                   DEFINITION + 'file: proofs/Free.antt\nold: free = 1\nnew: free = 2\n')
-        self.assert_fails('have no copy of', 'definitions', **self.IN_ORDER)
-
-    def test_definitions_that_reach_each_other_are_tried_apart(self):
-        own = Reach({'size'}, {'size', 'cut'})
-        self.assertTrue(own.is_apart_from(Reach({'edit'}, {'edit'})))
-        self.assertFalse(own.is_apart_from(Reach({'cut'}, {'cut'})))
-        self.assertFalse(own.is_apart_from(Reach({'edit'}, {'edit', 'size'})))
-        self.assertFalse(own.is_apart_from(Reach({'size'}, {'edit'})))
-
-    def test_what_a_row_reaches(self):
-        folder = os.path.join(self.place, 'crates/above')
-        self.write('crates/above/src/rows.rt', 'pub fn row()\n    ensures { two ≡ 2 }\n{}\n\npub fn code() {\n}\n')
-        self.write('crates/above/specs/Words.antt',
-                   'abbrev pub one : ℕ\none = 1\n\nabbrev pub two : ℕ\ntwo = one + one\n\n'
-                   'abbrev pub three : ℕ\nthree = 3\n')
-        words = words_by_definition([os.path.join(folder, 'specs')])
-        self.assertEqual(reached_by(folder, 'above', 'rows::row', words), {'one', 'two'})
-        self.assertIsNone(reached_by(folder, 'above', 'rows::code', words))
-
-    def test_only_what_is_named(self):
         self.assert_passes('definitions', '--named', 'two', '--jobs', '1', **self.IN_ORDER)
         self.assert_fails('0 wrong definitions', 'definitions', '--named', 'three', **self.IN_ORDER)
 
-    def test_edit_that_changes_no_definition(self):
-        self.write('crates/toy/wrong-definitions/Word.edits', EDIT)
-        self.assert_fails('must change a file of specs/', 'definitions', **self.IN_ORDER)
+    def test_definition_that_is_not_refused(self):
+        self.assert_definitions_fail('tried at above/rows::row', REFUSED='toy/law')
+        self.assert_definitions_fail('tried at toy/laws::law', REFUSED='above/row')
+        self.assert_definitions_fail('above/rows::row is not proved as it is', WORD='word = 1', REFUSED='above/row')
 
-    def test_fewer_than_there_must_be(self):
-        self.write('.ci/floors.py', FLOORS.replace("{'toy': 1}, 1, 1", "{'toy': 2}, 1, 1"))
-        self.assert_fails('toy has 1 wrong definitions', 'definitions', **self.IN_ORDER)
+    def test_definition_that_is_not_well_formed(self):
+        for error in ('./specs/E0Word.antt:1:1: error: `word`: expected type `ℕ`',
+                      './proofs/Free.antt:1:1: error: `word` is not in scope'):
+            self.assert_definitions_fail('not well formed', ERROR=error)
+        error = './specs/E1Word.antt:1:1: error: `word`: of another copy'
+        self.assert_passes('definitions', '--jobs', '1', ERROR=error, **self.IN_ORDER)
+
+    def test_edit_that_changes_no_definition_or_none_of_its_row(self):
+        self.write('crates/above/src/rows.rt', LAW.replace('law', 'row').replace('word ≡', 'other ≡'))
+        self.assert_definitions_fail('changes nothing that above/rows::row reaches')
+        self.write('crates/toy/wrong-definitions/Word.edits', EDIT)
+        self.assert_definitions_fail('must change files of specs/')
+
+    def test_other_number_than_is_said(self):
+        for number in ("{'toy': 2}", '{}'):
+            self.floors(FLOORS.replace("{'toy': 1}, 1, 1", number + ', 1, 1'))
+            self.assert_definitions_fail('toy has 1 wrong definitions')
+
+
+class Copies(unittest.TestCase):
+    """Of the rows of this repository, and what they stand on."""
+
+    def test_only_what_stands_on_the_change_is_copied(self):
+        files = Files('inlinable_string', 'inline_model')
+        edit = Edit('any', [Goal('inline_model', 'worked::room::shrinking_is_free', 'returns')],
+                    [Change('specs/Run.antt', 'a', 'b')])
+        trial, = trials_of('inlinable_string', files, edit)
+        names = {file.name for file in trial.copied}
+        self.assertIn('Run', names)
+        self.assertNotIn('Text', names)
+        kept = ' Rattle.inlinable_string.specs.declared.run.{b} crate::proofs::Sizes'
+        self.assertEqual(files.citing('Rattle.inlinable_string.specs.Run.{a}' + kept, 7, trial.copied),
+                         'Rattle.inline_model.specs.E7Run.{a}' + kept)
 
 
 class Callers(InSmallRepository):
@@ -298,701 +295,201 @@ class Callers(InSmallRepository):
         super().setUp()
         self.write('crates/toy/wrong-clauses/lib.edits', CLAUSE)
 
-    def test_refused_caller_passes(self):
-        self.assert_passes('callers', '--jobs', '1', **self.IN_ORDER)
+    def assert_callers_fail(self, why, **variables):
+        self.assert_fails(why, 'callers', '--jobs', '1', **{**self.IN_ORDER, **variables})
 
     def test_caller_that_stays_proved(self):
-        self.assert_fails('call: returns-clause-value is not refused', 'callers', WORD='result ≡ result', REFUSED='')
+        self.assert_passes('callers', '--jobs', '1', **self.IN_ORDER)
+        self.assert_callers_fail('call: returns-clause-value is not refused', REFUSED='')
+        self.assert_callers_fail('toy is not proved as it is', REFUSED='toy/one')
 
-    def test_library_that_is_refused_itself(self):
-        self.assert_fails('toy is not proved as it is', 'callers', WORD='result ≡ result', REFUSED='toy/one')
-
-    def test_clause_that_names_no_caller(self):
+    def test_clause_that_names_no_caller_and_callers_with_proofs(self):
         self.write('crates/toy/wrong-clauses/lib.edits', CLAUSE.replace('callers/call', 'toy/one'))
-        self.assert_fails('which is not of callers', 'callers', **self.IN_ORDER)
-
-    def test_callers_with_proofs(self):
+        self.assert_callers_fail('which is not of callers')
+        self.write('crates/toy/wrong-clauses/lib.edits', CLAUSE)
         self.write('crates/callers/proofs/Lib.antt', '')
-        self.assert_fails('a folder proofs', 'callers', **self.IN_ORDER)
+        self.assert_callers_fail('a folder proofs')
 
-    def test_fewer_callers_than_there_must_be(self):
-        self.write('.ci/floors.py', FLOORS.replace("{'toy': 1}, 1, 1", "{'toy': 1}, 1, 2"))
-        self.assert_fails('1 public functions', 'callers', **self.IN_ORDER)
-
-    def test_functions_that_promise_nothing_do_not_count(self):
-        self.assertEqual(promising(SOURCE), 1)
-        self.assertEqual(promising(SOURCE.replace('ensures', 'requires') + SOURCE + 'pub fn other() {}\n'), 1)
+    def test_fewer_callers_or_clauses_than_there_must_be(self):
+        for numbers, why in (('1, 2', '1 public functions'), ('2, 1', 'there are 1 edits of clauses')):
+            self.floors(FLOORS.replace("{'toy': 1}, 1, 1", "{'toy': 1}, " + numbers))
+            self.assert_callers_fail(why)
+        self.assertEqual(promising(SOURCE.replace('ensures', 'requires') + SOURCE), 1)
 
 
 class Refusals(InSmallRepository):
-    def test_tests_that_meet_refusals_pass(self):
+    def test_tests_that_never_meet_a_refusal_or_fail(self):
         self.assert_passes('refusals', MET='2 1')
-
-    def test_tests_that_never_meet_one(self):
-        self.assert_fails('TOO FEW', 'refusals', MET='')
-
-    def test_tests_that_meet_fewer(self):
-        self.assert_fails('TOO FEW', 'refusals', MET='1 1')
-
-    def test_test_that_fails(self):
+        for met in ('', '1 1', '3'):
+            self.assert_fails('TOO FEW', 'refusals', MET=met)
         self.assert_fails('1 failed', 'refusals', MET='2 1', RESULT='FAILED')
-
-    def test_run_that_is_cut_off(self):
         self.assert_fails('1 failed', 'refusals', MET='2 1', CUT_OFF='')
 
 
-class Replay(InSmallRepository):
-    def setUp(self):
-        super().setUp()
-        self.write('replay/a.cases', CASES.format('a'))
-        self.write('replay/b.cases', CASES.format('b').partition('case b_2')[0])
-        self.write('replay/digests', '')
-        self.write('replay/README.md', '')
-        for name in (*stored_lines.JUDGES, *FAMILIES):
-            os.mkdir(os.path.join(self.place, 'replay', name))
-        self.program = self.write_program('bin/program', '#!/bin/sh\necho done\n')
-
-    def test_cases_are_counted_and_compared(self):
-        self.assert_fails('2 passed, 1 failed', 'replay', self.program)
-        self.write('replay/a.cases', CASES.format('a').replace('\nstatus', '\noutput "done\\n"\nstatus', 2)
-                   .replace('output "done\\n"\n', '', 1))
-        self.assert_passes('replay', self.program)
-
-    def test_ending_stands_for_its_lines(self):
-        path = os.path.join(self.place, 'replay/a.cases')
-        for ending, lines in (('ends heap 2 "a" * 2', b'text aa\nlength 2\nstorage heap\n'),
-                              ('ends inline 0', b'text \nlength 0\nstorage inline\n')):
-            write_text(path, f'case one\noutput "done\\n"\n{ending}\n')
-            self.assertEqual([(case.output, case.status) for case in read_cases(path)], [(b'done\n' + lines, 0)])
-        for ending in ('ends heap', 'ends heap "aa"', 'ends heap 2 aa', 'ends heap 2 "aa"\nends heap 2 "aa"', ''):
-            write_text(path, f'case one\n{ending}\n')
-            with self.assertRaises(Failure, msg=ending):
-                read_cases(path)
-
-    def test_file_that_is_gone(self):
-        for name in ('b.cases', 'digests'):
-            os.rename(os.path.join(self.place, 'replay', name), os.path.join(self.place, name))
-            self.assert_fails(f'missing, or read by nothing: {name}', 'replay', self.program)
-            os.rename(os.path.join(self.place, name), os.path.join(self.place, 'replay', name))
-
-    def test_file_that_nothing_reads(self):
-        self.write('replay/c.cases', '')
-        self.assert_fails('missing, or read by nothing: c.cases', 'replay', self.program)
-
-    def test_digests_that_are_cut(self):
-        self.write('.ci/floors.py', FLOORS.replace("'digests': 0", "'digests': 1000"))
-        self.assert_fails('has 0 digests, and must have 1', 'replay', self.program)
-
-    def test_words_that_are_drawn_are_those_of_the_rules(self):
-        specified.check_words()
-        with mock.patch.dict(specified.LINES, {'popped': (1, None)}), self.assertRaises(Failure):
-            specified.check_words()
-
-    def test_file_that_is_cut(self):
-        self.write('replay/a.cases', CASES.format('a').partition('case a_2')[0])
-        self.assert_fails('has 1 cases, and must have 2', 'replay', self.program)
-
-    def test_case_that_stands_twice(self):
-        self.write('replay/b.cases', CASES.format('a').partition('case a_2')[0])
-        self.assert_fails('two cases have the name a_1', 'replay', self.program)
-
-    def test_program_that_is_not_there(self):
-        self.assert_fails('is not there', 'replay')
+class Floors(unittest.TestCase):
+    def test_no_floor_is_lowered_unseen(self):
+        for name, least in LEAST.items():
+            floor = getattr(floors, name)
+            each = floor.values() if isinstance(floor, dict) else [floor]
+            self.assertGreaterEqual(sum(one[-1] if isinstance(one, tuple) else one for one in each), least, name)
 
 
 class Bench(InSmallRepository):
-    def setUp(self):
-        super().setUp()
+    def test_sums_programs_and_workloads(self):
         self.write('bench/sums.py', text_of(in_tree('bench', 'sums.py')))
-        self.write('bench/workloads.py', BENCH)
-        self.write('bench/sums', SUMS)
-        self.program = self.write_program('bin/program', SUMMING)
-
-    def assert_bench_fails(self, why):
-        self.assert_fails(why, 'bench', self.program)
-
-    def test_sums_as_they_are_stored(self):
-        self.assert_passes('bench', self.program)
-
-    def test_sum_that_differs(self):
-        self.write('bench/sums', SUMS.replace('12', '13'))
-        self.assert_bench_fails('2 passed, 1 failed')
-
-    def test_text_whose_sum_differs(self):
-        self.write_program('bin/program', SUMMING.replace('6 2") echo 11;;\n    "One read', '6 2") echo 10;;\n    "One read'))
-        self.assert_bench_fails('FAILED from 6 on Two: wanted 11, given 10')
-
-    def test_program_that_does_not_know_a_text(self):
-        self.write_program('bin/program', SUMMING.replace('Two', 'Three'))
-        self.assert_bench_fails('2 passed, 1 failed')
-
-    def test_program_that_gives_the_sum_and_fails(self):
-        self.write_program('bin/program', SUMMING.replace('echo 12', 'echo 12; exit 3'))
-        self.assert_bench_fails('given 12 with status 3')
-
-    def test_workload_that_is_gone(self):
-        self.write('bench/workloads.py', BENCH.replace("(Workload('read 6', 'read', 6, drawn, (1, 2), ('One',)),)", '()'))
-        self.assert_bench_fails('missing, or of no workload: read 6')
-        self.write('bench/sums', SUMS.replace('12 read 6\n', ''))
-        self.assert_bench_fails('there are 1 workloads, and must be 2')
-
-    def test_text_that_is_compared_no_more(self):
-        self.write('bench/workloads.py', BENCH.replace("('One', 'Two')", "('One',)"))
-        self.assert_bench_fails('0 workloads are run on Two, and must be 1')
-
-    def test_sum_that_is_gone(self):
-        self.write('bench/sums', SUMS.replace('12 read 6\n', ''))
-        self.assert_bench_fails('missing, or of no workload: read 6')
-
-    def test_sum_of_nothing(self):
-        self.write('bench/sums', SUMS.replace('12', '0'))
-        self.assert_bench_fails('nothing was summed: read 6')
-
-    def test_program_that_is_not_there(self):
+        in_order = {'bench/workloads.py': BENCH, 'bench/sums': '11 from 6\n', 'bin/program': SUMMING}
+        for name, old, new, why in (
+                ('bin/program', 'echo 11', 'echo 12', 'wanted 11, given 12'),
+                ('bin/program', 'echo 11', 'echo 11; exit 3', 'given 11 with status 3'),
+                ('bin/program', 'Two', 'Three', '1 passed, 1 failed'),
+                ('bench/workloads.py', "'One', 'Two'", "'One',", '0 workloads are run on Two, and must be 1'),
+                ('bench/sums', '11 from 6\n', '', 'missing, or of no workload: from 6'),
+                ('bench/sums', '11', '0', 'nothing was summed: from 6'), ('bench/sums', '', '', None)):
+            for path, text in {**in_order, name: in_order[name].replace(old, new)}.items():
+                self.write_program(path, text)
+            if why:
+                self.assert_fails(why, 'bench', self.path('bin/program'))
+        self.assert_passes('bench', self.path('bin/program'))
         self.assert_fails('is not there', 'bench')
 
 
-class AnsweredLines:
-    """Of the part of a family: a program that answers each line with as many that say it again."""
-    # What it answers, by family and file: the same in each test.
-    STORED = {}
-    VALUES = 40
-
-    def setUp(self):
-        super().setUp()
-        fronts = stored_lines.of_each_type(self.FAMILY, [f'{at + 1} ' for at in range(self.FAMILY.answers)])
-        self.last = f'/{fronts[-1]}/'
-        self.echo = f"#!/bin/sh\nexec sed 'h;{'p;g;'.join(f's/^/{front}/' for front in fronts)}'\n"
-        self.program = self.write_program('bin/echo', self.echo)
-        for folder, files in stored_lines.JUDGES.items():
-            for name in files:
-                self.write(f'replay/{folder}/{name}', '')
-        for name in ('digests', 'values'):
-            self.write(self.path_of(name), self.stored(name))
-
-    def stored(self, name):
-        asked = self.FAMILY.name, name
-        if asked not in self.STORED:
-            status, said = self.gate('store_lines', self.program, *asked)
-            self.assertEqual(status, 0, said)
-            self.STORED[asked] = said
-        return self.STORED[asked]
-
-    def path_of(self, name):
-        return os.path.join(self.place, 'replay', self.FAMILY.name, name)
-
-    def assert_part_passes(self, program):
-        self.assert_passes(self.FAMILY.name, program)
-
-    def assert_part_fails(self, why, program, *words):
-        self.assert_fails(why, self.FAMILY.name, program, *words)
-
-    def test_answers_as_they_are_stored(self):
-        self.assert_part_passes(self.program)
-        self.assert_passes(self.FAMILY.name, self.program, '--all')
-
-    def test_answers_that_are_not(self):
-        other = self.write_program('bin/other', self.echo.replace(self.last, '/other /'))
-        self.assert_part_fails(f'0 passed, {self.VALUES + 2} failed', other)
-        late = self.write_program('bin/late', self.echo.replace(self.last, f'{self.last};999s/[0-9]/other/'))
-        self.assert_part_fails(f'{self.VALUES} passed, 2 failed', late)
-
-    def test_program_that_does_not_take_the_lines(self):
-        self.assert_part_fails('ends with 2', self.write_program('bin/fault', '#!/bin/sh\nexit 2\n'))
-
-    def test_stored_value_that_is_another(self):
-        self.changed(self.path_of('values'), f'\n{self.FAMILY.answers} ', '\nother ')
-        self.assert_part_fails(f'{self.VALUES + 1} passed, 1 failed', self.program)
-
-    def test_values_that_are_cut(self):
-        path = self.path_of('values')
-        write_text(path, text_of(path).rpartition('\n\n')[0])
-        self.assert_part_fails(f'has {self.VALUES - 1} values, and must have {self.VALUES}', self.program)
-        write_text(path, text_of(path).rpartition('\n')[0])
-        self.assert_part_fails('not each input has a kind', self.program)
-
-    def test_digests_that_are_cut(self):
-        path = self.path_of('digests')
-        whole = text_of(path)
-        write_text(path, whole.split('\n')[0] + '\n')
-        self.assert_part_fails('has 1 digests, and must have 3', self.program)
-        for old, new in ((' 2000 2000 ', ' 2000 1000 '), (' 1000 1000 ', ' 0 1000 ')):
-            write_text(path, whole.replace(old, new))
-            self.assert_part_fails('not one behind the other of 4,000 inputs', self.program)
-
-    def test_digest_of_more_than_a_thousand(self):
-        path = self.path_of('digests')
-        rest, _, answers = text_of(path).rpartition(' ')
-        write_text(path, f'{rest} {answers[1:-1]}\n')
-        self.assert_part_passes(self.program)
-        self.assert_part_fails('inputs 2000 to 3999: not the answers of the judge', self.program, '--all')
-        self.assert_part_fails('--first 2000 --thousands 2 >INPUTS', self.program, '--all')
-
-    def test_inputs_that_are_others(self):
-        self.changed(self.path_of('digests'), text_of(self.path_of('digests')).split(' ')[3], '0' * 16)
-        self.assert_part_fails('not those that the judge answered', self.program)
-
-    def test_file_that_is_gone(self):
-        os.remove(os.path.join(self.place, 'replay/judge/main.rs'))
-        self.assert_part_fails('missing, or read by nothing: main.rs', self.program)
-        self.write('replay/judge/main.rs', '')
-        self.write('replay/crate_judge/lib.rs', '')
-        self.assert_part_fails('missing, or read by nothing: lib.rs', self.program)
-
-
-class Readings(AnsweredLines, InSmallRepository):
-    FAMILY = reading_inputs.READINGS
-
-    def test_types_that_answer_otherwise(self):
-        for name in self.FAMILY.types:
-            other = self.write_program('bin/other', self.echo.replace(f'/{name} 1 ', f'/{name} other '))
-            self.assert_part_fails(f'0 passed, {self.VALUES + 2} failed', other)
-            self.assert_fails('not alike', 'store_lines', other, 'readings', 'values')
-
-    def test_too_few_of_each(self):
-        self.write('.ci/floors.py', FLOORS.replace('0, (), ()\nPAIRS', "1, (), ('String from_utf8 text',)\nPAIRS"))
-        self.assert_part_fails('TOO FEW: 0 are `String from_utf8 text`', self.program)
-
-
-class Pairs(AnsweredLines, InSmallRepository):
-    FAMILY = pair_inputs.PAIRS
-
-    def test_too_few_of_each(self):
-        self.write('.ci/floors.py', FLOORS.replace('0, (), (), ()\n', "1, (), ('cut_left',), ('InlineString eq true',)\n"))
-        self.assert_part_fails('TOO FEW: 0 are `InlineString eq true`', self.program)
-
-
-class Calls(AnsweredLines, InSmallRepository):
-    FAMILY = call_inputs.CALLS
-    VALUES = 60
-
-    def test_too_few_of_each(self):
-        floors = FLOORS.replace("60, 'digests': 4_000}, 0, (), (), ()", "60, 'digests': 4_000}, 1, (), (), ('add promotes',)")
-        self.write('.ci/floors.py', floors)
-        self.assert_part_fails('TOO FEW: 0 are `add promotes`', self.program)
-
-
-class LineInputs(unittest.TestCase):
-    """What is drawn of a thousand inputs, for which the floors are too high, and without answers."""
-
-    def lacking(self, family):
-        tally = Counter(name for each in inputs_from(family, 'selftest', 0, 1000) for name in family.counted(each, []))
-        wanted = [name for name in family.wanted if name not in ANSWERS]
-        return list(shortfalls(wanted, family.of_each // 200, tally))
-
-    def test_inputs_are_of_every_kind(self):
-        for family in FAMILIES.values():
-            self.assertEqual(self.lacking(family), [])
-
-    def test_readings_that_are_only_noise(self):
-        noise = {reading_inputs.noise_bytes: 1}
-        with mock.patch.dict(reading_inputs.BYTES.pieces, noise, clear=True):
-            self.assertIn('0 are `row_of_table`, and at least 10 must be', self.lacking(reading_inputs.READINGS))
-
-    def test_pairs_that_are_never_equal(self):
-        with mock.patch.object(pair_inputs, 'KINDS', (pair_inputs.front_of_other,)):
-            self.assertIn('0 are `equal in two ways`, and at least 10 must be', self.lacking(pair_inputs.PAIRS))
-
-    def test_pairs_that_are_all_in_one_storage(self):
-        with mock.patch.object(pair_inputs, 'ways', lambda text_type, size: ['made']):
-            lacking = ' '.join(self.lacking(pair_inputs.PAIRS))
-        for name in ('InlineString popped', 'InlinableString reserved', 'equal where one was reserved'):
-            self.assertIn(f'0 are `{name}`', lacking)
-
-    def test_calls_that_only_look(self):
-        with mock.patch.object(call_inputs, 'KINDS', {'views': 'len'}):
-            lacking = ' '.join(self.lacking(call_inputs.CALLS))
-        for name in ('growths', 'InlineString clear', 'InlinableString reserve', 'InlinableString extend_strs'):
-            self.assertIn(f'0 are `{name}`', lacking)
-
-    def test_calls_are_counted_with_their_answers(self):
-        calls = Input('room', 'calls InlinableString from:61 reserve@28 shrink_to_fit remove@9')
-        answer = 'InlinableString i:done h:room i:done i:bad_place inline 1 61'
-        self.assertEqual(call_inputs.counted(calls, [answer])[5:], [
-            'InlinableString ends inline', 'InlinableString from done', 'InlinableString reserve room',
-            'reserve promotes', 'InlinableString shrink_to_fit done', 'shrink_to_fit demotes',
-            'InlinableString remove bad_place'])
-
-
-class Hostile(unittest.TestCase):
-    # So few inputs are quick; a twentieth of the gate, and of each kind as well.
-    INPUTS, OF_EACH = 1000, 5
-
-    def lacking(self):
-        tally = Tally([])
-        for number in range(self.INPUTS):
-            tally.add(*tried([], 'selftest', number))
-        return list(tally.shortfalls(self.OF_EACH))
-
-    def test_inputs_are_of_every_kind(self):
-        self.assertEqual(self.lacking(), [])
-
-    def test_generator_that_makes_only_noise(self):
-        with mock.patch.object(hostile_inputs, 'INPUTS', {hostile_inputs.random_bytes: 1}):
-            lacking = ' '.join(self.lacking())
-        self.assertIn('are accepted, and at least', lacking)
-        self.assertIn('replies are `wrong length`', lacking)
-        self.assertIn('faults are `bad command`', ' '.join(Tally([]).shortfalls(1)))
-
-    def test_program_that_does_otherwise(self):
-        tally = Tally(['program'])
-        tally.add('accepted', Counter(), ['a difference'])
-        self.assertEqual(tally.different['program'], 1)
-
-
-class Counts(unittest.TestCase):
-    def wrong(self, text, sentence='{tests} tests of `rt`'):
-        return list(misstatements(text, sentence, {'tests': 1128}))
-
-    def test_number_that_is_counted(self):
-        self.assertEqual(self.wrong('It has 1,128 tests\n    of `rt`.'), [])
-
-    def test_number_that_is_not(self):
-        for text in ('1,129 tests of `rt`', '11,128 tests of `rt`', '1,128 tests of `rt`, and 128 tests of `rt`'):
-            self.assertEqual(len(self.wrong(text)), 1, text)
-
-    def test_sentence_that_has_gone(self):
-        self.assertEqual(len(self.wrong('1,128 tests')), 1)
-
-    def test_number_that_nobody_counts(self):
-        with self.assertRaises(Failure):
-            self.wrong('12 bugs', '{bugs} bugs')
-
-
 class Shapes(unittest.TestCase):
-    """Of files of proofs."""
-    TEXT = ('use Rattle.toy.{word}\n-- why\npub one : {a : Nat}\n    -> Nat\none {\n  a = 1;\n}\n\n'
-            'module _ (a : Nat)\n    (b : Nat) where\n  -- why\n  pub two : Nat\n  two = a\n\n'
-            '  module _ where\n    three = b\n      where\n        four = a\n\nabbrev pub five : Nat\n')
-
-    def of(self, **files):
-        with tempfile.TemporaryDirectory() as place:
-            for name, text in files.items():
-                os.makedirs(os.path.join(place, 'crates/toy', name))
-                write_text(os.path.join(place, 'crates/toy', name, 'Toy.antt'), text)
-            return shapes.checked(place)
-
-    def test_proofs_are_told_apart(self):
-        self.assertEqual([each for each in shapes.proofs_in(self.TEXT) if each[0] not in (None, 'module')],
-                         [('one', 5), ('two', 2), ('three', 3), ('five', 1)])
-
-    def test_what_is_as_long_as_it_may_be(self):
+    def test_what_is_too_long(self):
+        def wrong(folder, text):
+            return ' '.join(shapes.too_long({f'crates/toy/{folder}/Toy.antt': text}))
         line = 'one = ' + 'x' * (shapes.COLUMNS - 6) + '\n'
-        self.assertEqual(self.of(proofs=line * shapes.PROOF_LINES + 'use ' + line), (1, []))
-
-    def test_line_that_is_too_long(self):
+        self.assertEqual(wrong('proofs', line * shapes.PROOF_LINES + 'use ' + line), '')
         for folder in ('src', 'specs', 'proofs'):
-            wrong = self.of(**{folder: 'one =\n    ' + 'x' * (shapes.COLUMNS - 3) + '\n'})[1]
-            self.assertEqual(wrong, [f'crates/toy/{folder}/Toy.antt:2: the line has more than 100 columns'])
-
-    def test_proof_that_is_too_long(self):
-        wrong = self.of(proofs='one = 1\n\n' + '    1\n' * shapes.PROOF_LINES)[1]
-        self.assertEqual(wrong, ['crates/toy/proofs/Toy.antt: one has 31 lines, and may have 30'])
-
-    def test_proofs_that_were_not_found(self):
-        with mock.patch.object(shapes, 'source_paths', lambda top: []), self.assertRaisesRegex(Failure, '0 proofs'):
-            counts.shapes_are_short()
-
-
-class BenchTable(unittest.TestCase):
-    """The rows of the bench that the README shows."""
-    HEAD = '| workload | ours | original | Rust `String` | libstdc++ |'
-    SHOWN = mock.patch.object(bench_table, 'SHOWN', {'read': 'read 6'})
-
-    def shown(self, *lines):
-        with self.SHOWN:
-            return bench_table.shown(bench_table.rows_of('\n'.join(lines)))
-
-    def test_half_is_rounded_up(self):
-        self.assertEqual(self.shown(self.HEAD, '| read 6 | 1,018.5 | 20.4 | 13.0 |  |'),
-                         {'read_ours': 1019, 'read_original': 20, 'read_rust': 13})
-
-    def test_row_that_is_missing(self):
-        with self.assertRaisesRegex(Failure, 'has no row for read 6'):
-            self.shown(self.HEAD, '| read 30 | 18.5 | 20.4 | 13.0 |  |')
-
-    def test_table_that_is_missing(self):
-        with self.assertRaisesRegex(Failure, 'has no table of workloads'):
-            self.shown('| read 6 | 18.5 | 20.4 | 13.0 |  |')
-
-    def test_cell_that_is_no_number(self):
-        with self.assertRaisesRegex(Failure, 'few is no number'):
-            self.shown(self.HEAD, '| read 6 | few | 20.4 | 13.0 |  |')
-
-
-class Quoted(unittest.TestCase):
-    """Of a source with one function, and of the tables of the tree."""
-    SOURCE = ('/// Adds.\n    pub fn add(&mut self, x: u8) -> Result<u8, Full>\n        requires { a (x) }\n'
-              '        ensures sum { b }\n\n        // Why.\n        ensures err { c\n            → d };\n}\n')
-    WHOLE = 'pub fn add(&mut self, x: u8) -> Result<u8, Full>\n    requires { a (x) }\n'
-    LAST = '    ensures sum { b }\n    ensures err { c → d };'
-
-    def is_right(self, item, source=SOURCE):
-        return not list(quoted.block_faults('add.rt', item, source))
-
-    def test_whole_contract(self):
-        self.assertTrue(self.is_right(self.WHOLE + self.LAST))
-
-    def test_clauses_left_out_are_said_to_be(self):
-        for item in (self.WHOLE + '    ..\n    ensures err { c → d };', self.WHOLE + '    ..'):
-            self.assertTrue(self.is_right(item), item)
-        for item in (self.WHOLE + '    ensures err { c → d };', self.WHOLE.rstrip(),
-                     self.WHOLE + self.LAST + '\n    ..', self.WHOLE + '    ..\n' + self.LAST):
-            self.assertFalse(self.is_right(item), item)
-
-    def test_quote_that_is_cut(self):
-        for item in (self.WHOLE + '    ensures sum { b }\n    ensures err { c', 'fn add(&mut self, x: u8)',
-                     'pub fn add(&mut self, x: u8)', self.WHOLE.replace('a (x)', 'a') + self.LAST,
-                     self.WHOLE + self.LAST.replace('→ d', ''), '..'):
-            self.assertFalse(self.is_right(item), item)
-
-    def test_clause_that_the_source_has_otherwise(self):
-        for changed in (self.SOURCE.replace('→ d', '→ e'), self.SOURCE.replace('ensures sum { b }\n', ''),
-                        self.SOURCE.replace('requires { a (x) }', 'requires { a (x) }\n requires { z }'),
-                        self.SOURCE.replace('→ d }', '→ d }\n ensures more { z }')):
-            self.assertFalse(self.is_right(self.WHOLE + self.LAST, changed), changed)
-
-    def test_fence_that_names_no_file(self):
-        for head in ('', ' no/file.rt'):
-            blocks, clauses, faults = quoted.quoted_faults(f'```rust{head}\nensures a\n```\n')
-            self.assertEqual((blocks, clauses, len(faults)), (1, 1, 1))
-
-    def test_document_as_it_is_and_shorter(self):
-        text = text_of(in_tree(quoted.DOCUMENT))
-        for faults_of in (quoted.quoted_faults, quoted.word_faults, quoted.law_faults):
-            self.assertEqual(faults_of(text)[-1], [])
-        for old, new in (('the UTF-8 of a text', 'the UTF-16 of a text'), ('| `HasRoom` |', '| `HasRooms` |'),
-                         ('`policy`) | the characters', '`place`) | the characters')):
-            self.assertIn(old, text)
-            self.assertNotEqual(quoted.word_faults(text.replace(old, new))[-1], [], old)
-        for old, new in (('`places_are_boundaries();` in', '`places_are();` in'), ('A cut of the text is', 'A part of the text is'),
-                         ('| `run::runs_join` |', '| `run::runs_part` |')):
-            self.assertIn(old, text)
-            self.assertNotEqual(quoted.law_faults(text.replace(old, new))[-1], [], old)
-        with mock.patch.dict(counts.QUOTED, {'clauses': 10_000}), mock.patch('builtins.print') as printed:
-            self.assertFalse(counts.quotes_stand())
-        self.assertIn('must have 10000', ' '.join(map(str, printed.call_args[0])))
-
-
-class Pictures(InSmallRepository):
-    def setUp(self):
-        super().setUp()
-        shutil.copytree(in_tree('docs'), os.path.join(self.place, 'docs'))
-        shutil.copytree(in_tree('crates/inlinable_string/src'), os.path.join(self.place, 'crates/inlinable_string/src'))
-        self.write('bench/README.md', text_of(in_tree('bench', 'README.md')))
-
-    def test_pictures_as_they_are_drawn(self):
-        self.assert_passes('pictures')
-
-    def test_picture_that_is_another_or_gone(self):
-        for name in pictures.DRAWN:
-            text = text_of(in_tree('docs', name + '.svg'))
-            self.changed(f'docs/{name}.svg', '<text ', '<text  ')
-            self.assert_fails(f'docs/{name}.svg is not what is drawn', 'pictures')
-            os.remove(os.path.join(self.place, 'docs', name + '.svg'))
-            self.assert_fails(f'docs/{name}.svg is not what is drawn', 'pictures')
-            self.write(f'docs/{name}.svg', text)
-
-    def test_data_that_are_fewer(self):
-        self.changed('docs/pictures/array.rows', 'push_str "s" | 0 | "the longest word"\n', '')
-        self.assert_fails('array has 7 rows, and must have 8', 'pictures')
-
-    def test_data_that_the_rule_or_the_sources_do_not_bear_out(self):
-        self.changed('docs/pictures/array.rows', 'remove 8 | 1 |', 'remove 8 | 2 |')
-        self.assert_fails('after remove 8 the text is "longest word" from 1', 'pictures', '--draw')
-        self.changed('docs/pictures/array.rows', 'remove 8 | 2 |', 'remove 8 | 1 |')
-        self.changed('docs/pictures/ways.rows', 'shrink_to_fit | at most N', 'shrink | at most N')
-        self.assert_fails("not in the sources ['shrink']", 'pictures', '--draw')
-
-    def test_workload_that_the_bench_lost(self):
-        self.changed('bench/README.md', '| eq 30 |', '| eq 31 |')
-        self.assert_fails('bench/README.md has no row for eq 30', 'pictures', '--draw')
-
-    def test_part_of_which_nothing_is_told(self):
-        self.changed('.ci/run', 'part .ci/gate pairs\n', 'part .ci/gate pairs\npart .ci/gate others\n')
-        self.assert_fails('has no row for others', 'pictures')
+            self.assertIn('more than 100 columns', wrong(folder, 'x' + line))
+        self.assertIn('one has 31 lines', wrong('proofs', 'one = 1\n' + '    1\n' * shapes.PROOF_LINES))
+        self.assertIn('more than 500 lines', wrong('proofs', '--\n' * (shapes.FILE_LINES + 1)))
 
 
 class Quick(unittest.TestCase):
     SAID = ('test a::b ... ok\ntest a::c ... FAILED\n\n    test stopped at src/held.rt:8:5\n'
             f'    all memory cannot be held here: {quick.HELD}\n{{}}test result: FAILED. 1 passed\n')
 
-    def test_tests_that_need_the_proved_build_are_counted_apart(self):
+    def test_tests_are_counted_and_must_be_enough(self):
         self.assertEqual(quick.counted(self.SAID.format('')), (1, 0, 1))
         self.assertEqual(quick.counted(self.SAID.format('test a::d ... FAILED\n    other\n')), (1, 1, 1))
         self.assertEqual(quick.counted('test a::b ... ok\n'), (1, 1, 0))
-        source = text_of(in_tree('crates/test_support/src/hoard.rt'))
-        self.assertIn(quick.HELD, source)
-
-    def test_fewer_tests_than_there_must_be(self):
+        self.assertIn(quick.HELD, text_of(in_tree('crates/test_support/src/hoard.rt')))
         with mock.patch.object(quick, 'run_rt', lambda *words: (self.SAID.format(''), 4)):
             for least, most_held, is_well in ((1, 1, True), (2, 1, False), (1, 0, False)):
-                with mock.patch.dict(quick.TRIED, {'inline_runs': (least, most_held)}):
-                    self.assertEqual(quick.tests_pass('inline_runs')[0], is_well)
+                with mock.patch.dict(quick.TRIED, {'toy': (least, most_held)}):
+                    self.assertEqual(quick.tests_pass('toy')[0], is_well)
 
 
 class Run(InSmallRepository):
     PARTS = '#!/bin/sh\necho part "$@"\n[ "$1" != "$FAILING" ]\n'
 
-    def run_gate(self, failing):
+    def test_it_ends_at_the_first_that_fails(self):
+        parts = len(re.findall('^part ', text_of(self.path('.ci/run')), re.MULTILINE))
         for path in ('.ci/gate', 'bin/rt'):
             self.write_program(path, self.PARTS)
-        path = os.path.join(self.place, 'bin') + os.pathsep + os.environ['PATH']
-        ran = subprocess.run([os.path.join(self.place, '.ci/run')], stdout=subprocess.PIPE, encoding='utf-8',
-                             env={**os.environ, 'PATH': path, 'FAILING': failing})
-        return ran.returncode, ran.stdout.splitlines()
-
-    def test_all_parts_pass(self):
-        status, lines = self.run_gate('none')
-        self.assertEqual(status, 0)
-        self.assertRegex(lines[-1], '^PASSED: all [0-9]+ parts')
-
-    def test_it_ends_at_the_first_that_fails(self):
-        for failing in ('ci', 'edits', 'hostile'):
-            status, lines = self.run_gate(failing)
-            self.assertEqual(status, 1)
-            self.assertRegex(lines[-1], f'^FAILED in .* {failing}, after')
-            self.assertIn(f'part {failing}', lines)
-            self.assertRegex(lines[-3], f' {failing} .* FAILED$')
-
-    def test_it_says_a_line_a_part_and_keeps_the_rest(self):
-        _, lines = self.run_gate('none')
-        parts = len(re.findall('^part ', text_of(os.path.join(self.place, '.ci/run')), re.MULTILINE))
-        self.assertEqual(sum(bool(re.match(r' *\d+ min \d\d s  .* \.\. passed, in ', line)) for line in lines), parts)
-        self.assertEqual(sum(line.endswith('  passed') for line in lines), parts)
-        self.assertNotIn('part pairs', lines)
-        self.assertIn('part pairs', text_of(os.path.join(self.place, 'out/gate.log')).splitlines())
+        for failing, last in (('none', f'^PASSED: all {parts} parts'), ('ci', '^FAILED in rt ci, after'),
+                              ('edits', '^FAILED in .* edits, after'), ('hostile', '^FAILED in .* hostile, after')):
+            status, printed = self.run_program('.ci/run', FAILING=failing)
+            lines = printed.splitlines()
+            self.assertRegex(lines[-1], last)
+            self.assertEqual(status, 0 if failing == 'none' else 1)
+            if failing == 'none':
+                self.assertEqual(sum(' .. passed, in ' in line for line in lines), parts)
+                self.assertIn('part bench', text_of(self.path('out/gate.log')).splitlines())
 
 
 class Reading(unittest.TestCase):
     """Of edits, of source files, and of what a check says."""
 
-    def read(self, text):
-        with tempfile.TemporaryDirectory() as place:
-            path = os.path.join(place, 'lib.edits')
-            write_text(path, text)
-            return read_edits(path, 'toy')
+    def setUp(self):
+        place = tempfile.TemporaryDirectory()
+        self.addCleanup(place.cleanup)
+        self.place = place.name
+        os.mkdir(os.path.join(self.place, 'src'))
 
-    def test_function_whose_answers_a_file_has(self):
-        self.assertEqual(said.answers_of('proofs/tree/Tree/+add_json/Answers.antt'), 'tree::Tree::add_json')
-        self.assertEqual(said.answers_of('proofs/tree/is_at/Answers.antt'), 'tree::is_at')
-        self.assertIsNone(said.answers_of('proofs/Trees.antt'))
+    def write(self, name, text):
+        write_text(os.path.join(self.place, name), text)
+
+    def read(self, text):
+        self.write('lib.edits', text)
+        return read_edits(os.path.join(self.place, 'lib.edits'), 'toy')
 
     def test_edits_are_parted_by_empty_lines(self):
-        edits = self.read('# why\n' + EDIT + '\n\n' + EDIT)
-        self.assertEqual(edits, self.read(EDIT) * 2)
-        self.assertEqual(edits[0].changes, [Change('src/lib.rt', '    1', '    2')])
+        edits = self.read('# why\n' + EDIT + '\n\n' + EDIT.replace('file:', 'touches: a b\nfile:'))
+        self.assertEqual((edits[0], edits[0].changes), (self.read(EDIT)[0], [Change('src/lib.rt', '    1', '    2')]))
+        self.assertEqual(edits[1].touches, ('a', 'b'))
 
     def test_what_cannot_be_read_is_refused(self):
-        for text in (EDIT.replace('edit ', 'edits '), EDIT.replace('refused: one', 'refused: one two'),
-                     EDIT.replace('refused:', 'refuse:'), EDIT + 'old: 3\n', EDIT.replace('old:', 'old'),
-                     '\n'.join(line for line in EDIT.split('\n') if not line.startswith('refused')),
-                     '\n'.join(line for line in EDIT.split('\n') if not line.startswith('new'))):
-            with self.assertRaises(Failure, msg=text):
-                self.read(text)
+        for old, new in (('edit ', 'edits '), ('refused: one', 'refused: one two'), ('refused:', 'refuse:'),
+                         ('new:     2\n', 'new: 2\nold: 3\n'), ('old:', 'old'), ('new:     2\n', ''),
+                         ('refused: one returns-clause-value\n', '')):
+            with self.assertRaises(Failure, msg=(old, new)):
+                self.read(EDIT.replace(old, new))
 
-    def test_old_text_stands_just_once(self):
-        with tempfile.TemporaryDirectory() as place:
-            os.mkdir(os.path.join(place, 'src'))
-            for text in ('', SOURCE + SOURCE):
-                write_text(os.path.join(place, 'src', 'lib.rt'), text)
-                with self.assertRaises(Failure):
-                    texts_with(place, self.read(EDIT))
-
-    def test_text_after_another(self):
-        with tempfile.TemporaryDirectory() as place:
-            os.mkdir(os.path.join(place, 'src'))
-            write_text(os.path.join(place, 'src', 'lib.rt'), 'first\n    1\nsecond\n    1\n    1\n')
-            edits = self.read(EDIT.replace('old:', 'after: second\nold:'))
-            self.assertEqual(texts_with(place, edits), {'src/lib.rt': 'first\n    1\nsecond\n    2\n    1\n'})
-            for after in ('third', 't\n', '    1'):
-                with self.assertRaises(Failure, msg=after):
-                    texts_with(place, self.read(EDIT.replace('old:', f'after: {after}\nold:')))
+    def test_old_text_stands_just_once_or_behind_another(self):
+        source = 'first\n    1\nsecond\n    1\n    1\n'
+        for text, after, changed in ((SOURCE + SOURCE, '', None), (source, 'after: third\n', None),
+                                     (source, 'after:     1\n', None),
+                                     (source, 'after: second\n', 'first\n    1\nsecond\n    2\n    1\n')):
+            self.write('src/lib.rt', text)
+            edits = self.read(EDIT.replace('old:', after + 'old:'))
+            if changed:
+                self.assertEqual(texts_with(self.place, edits), {'src/lib.rt': changed})
+            else:
+                self.assertRaises(Failure, texts_with, self.place, edits)
 
     def test_where_a_change_stands(self):
         source = ('impl<const N: usize> Kept for Text<N> {\n    fn size(&self) -> [u8; N]\n'
-                  "        ensures { a } { b('{', \"}\") }\n}\nmacro_rules! m { () => { fn c() { d } } }\n")
-        for old, new, function in (('b(', 'e(', 'part::TextKept::size'), ('{ a }', '{ e }', None),
-                                   ('{ d }', '{ e }', None), ('> Kept', '> Held', None),
-                                   ('b(', '} fn c() { b(', None)):
-            self.assertEqual(source.count(old), 1, old)
-            found = function_changed(source, Change('src/part.rt', old, new))
-            self.assertEqual(found, function, (old, new))
+                  "        ensures { a } { b('{', \"}\") }\n}\nmacro_rules! m { () => { fn $c() r { d } } }\n"
+                  'macro_rules! n { () => { e } }\nfn f() { n!() } fn g() { n!(); m!() }\n')
+        self.write('src/lib.rt', source)
+        for old, new, named, broken in (
+                ('b(', 'i(', 'part::Text::size', True), ('{ a }', '{ i }', 'part::Text::size', False),
+                ('b(', 'i(', 'part::Text::len', False), ('> Kept', '> Held', 'part::Text::size', False),
+                ('b(', '} fn c() { b(', 'part::Text::size', False), ('d }', 'i }', 'c', True),
+                ('r {', 's {', 'c', False), ('e }', 'i }', 'f g', True), ('e }', 'i }', 'f', False)):
+            found = functions_broken(self.place, Change('src/lib.rt', old, new), set(named.split()))
+            self.assertEqual(found, set(named.split()) if broken else set(), (old, new, named))
 
-    def test_functions_are_named_as_the_prover_names_them(self):
-        source = ('use crate::kept::{Other, Text};\nuse super::Near;\nstruct Own;\n'
-                  'impl<const N: usize> Text<N> {\n    fn one(&self) { 1 }\n}\n'
-                  'impl Near {\n    fn two(&self) { 2 }\n}\nimpl Own {\n    fn three(&self) { 3 }\n}\n'
-                  "impl<'a, const N: usize> Extend<&'a str> for Text<N> {\n    fn four(&self) { 4 }\n}\n"
-                  'impl Hash for Text<3> {\n    fn five<H: Hasher>(&self, state: &mut H) { 5 }\n}\n'
-                  'impl<const N: usize> From<Other<N>> for Text<N> {\n    fn six(text: Other<N>) { 6 }\n}\n')
-        for number, function in ((1, 'kept::Text::one'), (2, 'part::Near::two'), (3, 'part::joins::Own::three'),
-                                 (4, 'part::joins::TextExtendRefStr::four'), (5, 'part::joins::TextHash::five'),
-                                 (6, 'part::joins::TextFromOther::six')):
-            change = Change('src/part/joins.rt', f'{{ {number} }}', f'{{ {number + 1} }}')
-            self.assertEqual(function_changed(source, change), function)
+    def test_edits_that_may_go_together(self):
+        def edit(name, old, touches=()):
+            return Edit(name, [Goal('toy', name, 'returns')], [Change('src/lib.rt', old, '2')], touches)
+        self.write('src/lib.rt', SOURCE)
+        one, other = edit('one', '    1\n'), edit('other', 'one()\n')
+        with mock.patch('gate_parts.edits.crate_folder', lambda crate: self.place):
+            limit, said_alone = edit('limit', 'LIMIT', ('LIMIT',)), edit('limit', 'LIMIT')
+            for edits, sizes in (([one, other], [2]), ([one, one], [1, 1]), ([limit, one], [1, 1]),
+                                 ([limit, other], [2]), ([said_alone, other], [1, 1])):
+                self.assertEqual([len(group) for group in groups_of('toy', edits)], sizes, edits)
 
-    def test_copies_are_cited_and_types_are_not(self):
-        with tempfile.TemporaryDirectory() as place:
-            os.mkdir(os.path.join(place, 'src'))
-            path = os.path.join(place, 'src', 'lib.rt')
-            write_text(path, 'Rattle.toy.specs.Word.{word} Rattle.toy.specs.declared.a Rattle.toy.specs.Words.{b}')
-            cite_copies(place, 'toy', 'above', ['Word'])
-            self.assertEqual(text_of(path), 'Rattle.above.specs.Word.{word} Rattle.toy.specs.declared.a '
-                                            'Rattle.toy.specs.Words.{b}')
-
-    def test_promises_name_what_stands(self):
-        text = ('| Promise | Carried by |\n|---|---|\n| the `text` | `push` (`text`, `len`), `inline_runs` |\n'
-                '| none | `pop`, `push` (`err`) |\n')
-        known = {'push': [{'text'}, {'text', 'len', 'room'}]}
-        self.assertEqual([(each.function, each.clauses) for each in promises.named_in(text)],
-                         [('push', {'text', 'len'}), ('pop', set()), ('push', {'err'})])
-        self.assertEqual(list(promises.wrong_names(text, known)),
-                         ['docs/PROMISES.md: there is no function pop', 'docs/PROMISES.md: no push has the clauses err'])
-
-    def test_departures_are_rows(self):
-        source = 'enum D {\n    One,\n    Two,\n}\nOne => "a row",\nTwo => {\n    "another \\\n     row"\n}\n'
-        self.assertEqual(departures.departures_in(source), (['One', 'Two'], ['a row', 'another row']))
-        self.assertEqual(departures.missing_rows(source, '| The crate |\n|---|\n| a row | here |\n'), ['another row'])
-        self.assertEqual(departures.missing_rows(source, '| a row | here |\n| another row | here |\n'), [])
-
-    def test_open_goals_of_a_row(self):
+    def test_open_goals(self):
+        self.assertEqual(said.answers_of('proofs/tree/Tree/+add_json/Answers.antt'), 'tree::Tree::add_json')
+        self.assertIsNone(said.answers_of('proofs/Trees.antt'))
         text = ('note: src/worked/room.rt:1:1: it is not proved that what the function ensures holds when it returns '
                 '(`returns-clause-insert`); the facts known there allow values at which this goal is false\n'
                 'fn toy::row: no proof: expected answers in ./proofs/row/Answers.antt; `search` did not prove\n'
                 'fn toy::caller: no proof: it calls `row`\nfn toy::other: proved\n')
         self.assertEqual(said.refused_in('toy', text), {'row': {'returns-clause-insert'}})
         self.assertTrue(said.is_proved('toy', 'other', text) and not said.is_proved('toy', 'row', text))
-
-    def test_open_goals_for_want_of_a_lemma(self):
         text = ('./proofs/Free.antt:81:83: error: `met_inline`: a tuple is checked against `IsMet s`, which is no ×\n'
-                './proofs/Free.antt:92:1: error: 4 declarations that depend on `met_inline`, which was rejected, were '
-                'not checked: short_step, short_run (via short_step), short_runs (via short_run) and 1 more\n'
                 './proofs/run/laws/short/Answers.antt:4:5: error: 1 declaration that depends on `short_runs`, which '
-                'was not admitted, was not checked: returns-clause-replies\n'
-                'fn toy::run::laws::short: not proved\n')
+                'was not admitted, was not checked: returns-clause-replies\nfn toy::run::laws::short: not proved\n')
         self.assertEqual(said.open_goals('toy', 'run::laws::short', text), {'returns-clause-replies'})
-        self.assertEqual(said.ill_formed(text), [])
-        for path, open_goals in (('specs/Run.antt', {'returns-clause-replies'}), ('src/run.rt', set())):
-            edit = Edit('short', [], [Change(path, 'a', 'b')])
-            self.assertEqual(refused_by('toy', [edit], text), {'run::laws::short': open_goals}, path)
-        gone = './specs/Run.antt:98:23: error: `IsMet`: `Foo` is not in scope\n'
-        edit = Edit('short', [], [Change('specs/Run.antt', 'a', 'b')])
-        self.assertEqual(refused_by('toy', [edit], gone + text), {'run::laws::short': set()})
+        self.assertEqual((said.ill_formed(text), said.refused_in('toy', text)), ([], {'run::laws::short': set()}))
 
     def test_what_is_no_refusal(self):
         for line in ('./specs/Run.antt:98:23: error: `IsMet`: `Foo` is not in scope',
                      './specs/Run.antt:98:23: error: `IsMet`: expected type `ℕ`',
-                     './proofs/Free.antt:7:215: error: module `Rattle.toy.specs.Run` has no `IsMet` that can be named '
-                     'from here (did you mean `IsMeet`?)',
+                     './proofs/Free.antt:7:215: error: module `Rattle.toy.specs.Run` has no `IsMet` that can be named',
                      './proofs/a/Answers.antt:1:1: error: `returns`: `c.requires` has no field `place`',
                      './proofs/a/Answers.antt:1:1: error: `returns`: record `After-push`\n  has no field `new`'):
-            found = ' '.join(each.strip() for each in line.splitlines())
-            self.assertEqual(said.ill_formed(line), [found])
+            self.assertEqual(said.ill_formed(line), [line.replace('\n  ', ' ')])
             self.assertEqual(said.refused_in('toy', line).get('a'), None)
 
 
 def main(words):
     options('selftest', __doc__, words)
     suite = unittest.defaultTestLoader.loadTestsFromModule(sys.modules[__name__])
-    return unittest.TextTestRunner(stream=sys.stdout).run(suite).wasSuccessful() and suite.countTestCases() > 0
+    is_well = unittest.TextTestRunner(stream=sys.stdout).run(suite).wasSuccessful() and suite.countTestCases() > 0
+    from gate_parts import selftest_programs
+    return selftest_programs.main(words) and is_well

@@ -1,23 +1,17 @@
-"""How long the lines and the proofs of the crates may be.
+"""How long the lines, the files and the proofs of the tree may be.
 
-A line has at most 100 columns, unless it imports. A proof, which is a lemma with its type or an answer to
-a goal, has at most 30 lines, comments aside: what is longer is a lemma that has no name yet.
+A line of a crate has at most 100 columns, unless it imports. A file has at most 500 lines. A proof, which
+is a lemma with its type or an answer to a goal, has at most 30 lines, comments aside.
 """
-import os
 import re
 
-from gate_parts.tree import TOP, text_of
-
-COLUMNS, PROOF_LINES = 100, 30
+COLUMNS, FILE_LINES, PROOF_LINES = 100, 500, 30
+# Files that `rt` checks, and files that a reader reads: stored answers and inputs are none.
+CHECKED = ('.rt', '.antt')
+READ = (*CHECKED, '.py', '.rs', '.cpp', '.edits', '.md')
 IMPORT = re.compile(r' *(pub )?(ghost )?use ')
-# A name, behind what may stand before one.
+# A name, after what may stand before one.
 NAME = re.compile(r' *(?:(?:pub|abbrev|record) )*([^\s:({]+)')
-
-
-def long_lines(text):
-    """The numbers of the lines that are too long."""
-    return [number for number, line in enumerate(text.splitlines(), 1)
-            if len(line) > COLUMNS and not IMPORT.match(line)]
 
 
 def indent_of(line):
@@ -41,22 +35,14 @@ def proofs_in(text):
     yield name, count
 
 
-def checked(top=TOP):
-    """How many proofs the crates have, and in words what is too long in them and in their sources."""
-    proofs, wrong = 0, []
-    for path in source_paths(top):
-        text, shown = text_of(path), os.path.relpath(path, top)
-        wrong += [f'{shown}:{number}: the line has more than {COLUMNS} columns' for number in long_lines(text)]
-        named = [(name, count) for name, count in proofs_in(text) if name] if path.endswith('.antt') else []
-        wrong += [f'{shown}: {name} has {count} lines, and may have {PROOF_LINES}'
-                  for name, count in named if count > PROOF_LINES]
-        proofs += len(named)
-    return proofs, wrong
-
-
-def source_paths(top):
-    """The sources, definitions and proofs of the crates."""
-    for place, _, names in os.walk(os.path.join(top, 'crates')):
-        parts = os.path.relpath(place, top).split(os.sep)
-        if len(parts) > 2 and parts[2] in ('src', 'specs', 'proofs'):
-            yield from (os.path.join(place, name) for name in sorted(names) if name.endswith(('.rt', '.antt')))
+def too_long(texts):
+    """In words, what is too long in these files of the tree, each by its path."""
+    for path, text in texts.items():
+        if path.endswith(READ) and text.count('\n') > FILE_LINES:
+            yield f'{path}: the file has more than {FILE_LINES} lines'
+        for number, line in enumerate(text.splitlines() if path.endswith(CHECKED) else (), 1):
+            if len(line) > COLUMNS and not IMPORT.match(line):
+                yield f'{path}:{number}: the line has more than {COLUMNS} columns'
+        for name, count in proofs_in(text) if path.endswith('.antt') else ():
+            if name and count > PROOF_LINES:
+                yield f'{path}: {name} has {count} lines, and may have {PROOF_LINES}'

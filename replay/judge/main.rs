@@ -1,44 +1,96 @@
-//! Answers the lines that `side_by_side` answers, by Rust's std alone. replay/README.md says how
-//! it is built and run.
+//! Answers the lines of `side_by_side` as this library has to: as std's `String` and the crate
+//! `inlinable_string` 0.1.15 do, but for the departures that `departures.rs` lists. At its end it
+//! tells, to standard error, how often it met each. replay/README.md says how it is built and run.
 use std::error::Error;
 use std::fmt::Write;
 
-mod digits;
-mod pairs;
-mod readings;
+mod array;
+mod call;
+mod departures;
+mod printed;
+mod script;
 
-/// A line of an answer: the type that has to answer so, how it comes out, and bytes.
-struct Answer<'a> {
-    name: &'a str,
-    outcome: String,
-    bytes: Vec<u8>,
+/// The same calls on the crate at each capacity, since each has a trait of its own.
+mod at_30 {
+    use original_30 as original;
+    include!("inlinable.rs");
+}
+mod at_8 {
+    use original_8 as original;
+    include!("inlinable.rs");
+}
+mod at_0 {
+    use original_0 as original;
+    include!("inlinable.rs");
 }
 
-impl<'a> Answer<'a> {
-    fn new(name: &'a str, outcome: impl Into<String>, bytes: impl Into<Vec<u8>>) -> Answer<'a> {
-        Answer { name, outcome: outcome.into(), bytes: bytes.into() }
+use call::{Call, of_bytes};
+use departures::Departures;
+
+/// A text, on which the calls are played.
+pub trait Played {
+    /// What a call answers, which may change the text; none where it is none of its calls.
+    fn play(&mut self, call: &Call, departures: &mut Departures) -> Option<String>;
+
+    fn is_inline(&self) -> bool;
+
+    fn text(&self) -> &str;
+}
+
+impl at_30::Text for String {
+    fn lies_inline(&self) -> bool {
+        false
+    }
+}
+
+impl Played for String {
+    fn play(&mut self, call: &Call, departures: &mut Departures) -> Option<String> {
+        at_30::played(self, call, departures)
+    }
+
+    fn is_inline(&self) -> bool {
+        false
+    }
+
+    fn text(&self) -> &str {
+        self
     }
 }
 
 fn main() -> Result<(), Box<dyn Error>> {
-    let lines = std::io::read_to_string(std::io::stdin())?;
-    let mut out = String::new();
-    for (before, line) in lines.lines().enumerate() {
-        let answers = answers_to(line).ok_or_else(|| format!("line {}: {line}", before + 1))?;
-        for Answer { name, outcome, bytes } in answers {
-            writeln!(out, "{name} {outcome} {}", digits::of_bytes(&bytes))?;
-        }
+    // that the original panics is told by the answers
+    std::panic::set_hook(Box::new(|_| {}));
+    let (mut out, mut departures) = (String::new(), Departures::default());
+    for (before, line) in std::io::read_to_string(std::io::stdin())?.lines().enumerate() {
+        let answer = match line.split(' ').collect::<Vec<&str>>()[..] {
+            ["calls", name, ref words @ ..] => calls(name, words, &mut departures),
+            ["script", word, digits] => script::answer(word, digits, &mut departures),
+            _ => None,
+        };
+        writeln!(out, "{}", answer.ok_or_else(|| format!("line {}: {line}", before + 1))?)?;
     }
     print!("{out}");
+    departures.report().for_each(|line| eprintln!("{line}"));
     Ok(())
 }
 
-fn answers_to(line: &str) -> Option<Vec<Answer<'_>>> {
-    let (word, rest) = line.split_once(' ')?;
-    match word {
-        "bytes" => readings::of_bytes(rest),
-        "units" => readings::of_units(rest),
-        "pair" => pairs::of_pair(rest),
-        _ => None,
+/// What each call of a line answers, and where the text lies after it.
+fn calls(name: &str, words: &[&str], departures: &mut Departures) -> Option<String> {
+    let mut text: Box<dyn Played> = match name {
+        "InlineString" => Box::new(original_30::InlineString::new()),
+        "InlinableString" => Box::new(original_30::InlinableString::default()),
+        "InlinableStringN<8>" => Box::new(original_8::InlinableString::default()),
+        "String" => Box::new(String::new()),
+        _ => return None,
+    };
+    let mut line = name.to_string();
+    for word in words {
+        let answer = text.play(&Call::of(word)?, departures)?;
+        let storage = if text.is_inline() { 'i' } else { 'h' };
+        write!(line, " {storage}:{answer}").ok()?;
     }
+    let storage = if text.is_inline() { "inline" } else { "heap" };
+    let string = text.text();
+    write!(line, " {storage} {} {}", string.len(), of_bytes(string.as_bytes())).ok()?;
+    Some(line)
 }

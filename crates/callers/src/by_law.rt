@@ -7,13 +7,14 @@ ghost use Rattle.inlinable_string.specs.Run.{state_after};
 ghost use Rattle.inlinable_string.specs.Laws.{replies_of, text_after_edits, LeavesWithin, StaysWithin, is_refusal};
 ghost use Rattle.inlinable_string.specs.Values.{inlinable_state};
 
-use inlinable_string::run::{
-    Command, Reply, bad_places_are_no_places, cut_decides_places, each_reply_is_legal_in_its_turn,
+use inlinable_string::laws::{
+    cut_decides_places, each_reply_is_legal_in_its_turn, edits_are_done_at_places,
     growths_add_their_bytes, insertions_are_splices, outcomes_are_told_by_reply_and_text,
     refusals_change_nothing, refusals_determine_the_run, remove_is_a_removal, remove_undoes_insert,
-    replacement_has_the_bytes, run, short_runs_are_edits, short_runs_are_short_at_each_command,
+    replacement_has_the_bytes, short_runs_are_edits, short_runs_are_short_at_each_command,
     short_runs_never_ask, texts_are_told_by_their_bytes, unrefused_runs_are_edits,
 };
+use inlinable_string::run::{Command, Reply, run};
 use inlinable_string::{InlinableString, Storage, StringExt};
 
 /// Whether two texts of any types have the same characters.
@@ -51,7 +52,7 @@ pub fn insert_by_run<S: StringExt>(text: &mut S, place: usize, ch: char) -> Repl
 {
     insertions_are_splices();
     outcomes_are_told_by_reply_and_text();
-    bad_places_are_no_places();
+    edits_are_done_at_places();
     let mut replies = [Reply::NoMemory; 1];
     run(text, &[Command::Insert(place, ch)], &mut replies);
     replies[0]
@@ -81,7 +82,7 @@ pub fn replace_by_run<S: StringExt>(text: &mut S, bytes: &[u8]) -> Reply
     replies[0]
 }
 
-/// Adds a character by a run: the text has as many bytes more as the character.
+/// Adds a character by a run: the text grows by the bytes of the character.
 pub fn grow_by_run<S: StringExt>(text: &mut S, ch: char) -> Reply
     ensures { result ≡ Reply.Done
         → size (S.state text.new).text ≡ size (S.state text.old).text + size (ch ∷ []) }
@@ -139,7 +140,7 @@ pub fn run_of_short_steps(text: &mut InlinableString, commands: &[Command], repl
     short_run(text, commands, replies);
 }
 
-/// Any run: where no reply is want of memory, the text is that of edits.
+/// Any run: where no reply is `NoMemory`, the text is that of edits.
 pub fn whole_run<S: StringExt>(text: &mut S, commands: &[Command], replies: &mut [Reply])
     requires { length replies.old ≡ length commands.now }
     ensures edits { ¬ (Contains replies.new Reply.NoMemory) → (S.state text.new).text

@@ -1,6 +1,5 @@
-//! Texts that are compared, copied and sorted, as keys of maps and sets, and in a struct of one's
-//! own.
-ghost use Rattle.std.specs.Prelude.{◌≡◌, ◌≤◌, ◌<◌, ◌↔◌, ◌⊎◌, [], length, IsTrue, IfOk, IsOk, OnOk, None, MatchOption, nat_eq, IsSorted, IsPermutation};
+//! Texts compared and copied, as keys of maps and sets, and in a struct of one's own.
+ghost use Rattle.std.specs.Prelude.{◌≡◌, ◌≤◌, ◌<◌, ◌↔◌, ◌⊎◌, length, IsTrue, IfOk, IsOk, None, nat_eq};
 ghost use Rattle.std.specs.Ordering.{nat_cmp};
 ghost use Rattle.std.specs.Cmp.Lexicographic.{pointwise, slice_cmp};
 ghost use Rattle.std.specs.Str.{chars};
@@ -10,21 +9,11 @@ ghost use Rattle.inlinable_string.specs.Text.{bytes_of};
 ghost use Rattle.inlinable_string.specs.State.{IsSameText};
 ghost use Rattle.inlinable_string.specs.Values.{inlinable_state};
 
-use inlinable_string::laws::compared::{
-    equality_inline_is_that_of_texts, equality_is_that_of_texts, order_is_that_of_the_bytes,
-};
+use inlinable_string::laws::{equality_is_that_of_texts, order_is_that_of_the_bytes};
 use inlinable_string::{InlinableString, InlinableStringN, InlineStringN, Storage, StringExt};
-use std::alloc::{AllocError, AllocFailed};
+use std::alloc::AllocError;
 use std::cmp::Ordering;
 use std::collections::{BTreeMap, HashSet};
-
-/// Whether two texts have the same bytes, wherever they lie: nothing else is asked.
-pub fn has_same_bytes<const N: usize>(a: &InlinableStringN<N>, b: &InlinableStringN<N>) -> bool
-    ensures { IsTrue result
-        ↔ (bytes_of (inlinable_state N a.now).text ≡ bytes_of (inlinable_state N b.now).text) }
-{
-    a == b
-}
 
 /// Whether two texts have the same characters, wherever they lie.
 pub fn is_same<const N: usize>(a: &InlinableStringN<N>, b: &InlinableStringN<N>) -> bool
@@ -39,25 +28,9 @@ pub fn is_same<const N: usize>(a: &InlinableStringN<N>, b: &InlinableStringN<N>)
 pub fn is_same_inline<const N: usize>(a: &InlineStringN<N>, b: &InlineStringN<N>) -> bool
     ensures { IsTrue result ↔ (a.now ≡ b.now) }
 {
-    equality_inline_is_that_of_texts::<N>();
+    equality_is_that_of_texts::<N>();
     let _ = a.len();
     a == b
-}
-
-/// Whether a text is one of two words, behind a `dyn`.
-pub fn is_yes(text: &dyn StringExt, yes: &str, short: &str) -> bool
-    ensures { IsTrue result ↔ ((bytes_of (state text.now).text ≡ yes.now)
-        ⊎ (bytes_of (state text.now).text ≡ short.now)) }
-{
-    text.eq_str(yes) || text.eq_str(short)
-}
-
-/// How two texts are ordered.
-pub fn order_of<const N: usize>(a: &InlinableStringN<N>, b: &InlinableStringN<N>) -> Ordering
-    ensures { result ≡ slice_cmp nat_cmp
-        (bytes_of (inlinable_state N a.now).text) (bytes_of (inlinable_state N b.now).text) }
-{
-    a.cmp(b)
 }
 
 /// The later of two texts.
@@ -70,15 +43,6 @@ pub fn later<const N: usize>(a: InlinableStringN<N>, b: InlinableStringN<N>) -> 
 {
     order_is_that_of_the_bytes::<N>();
     a.max(b)
-}
-
-/// Sorts names, which takes no memory.
-pub fn sort_names(names: &mut [InlinableString])
-    ensures same { IsPermutation names.old names.new }
-    ensures sorted { IsSorted (λ s t. slice_cmp nat_cmp
-        (bytes_of (inlinable_state 30 s).text) (bytes_of (inlinable_state 30 t).text)) names.new }
-{
-    names.sort_unstable();
 }
 
 /// A copy, which lies where the text does.
@@ -100,7 +64,7 @@ pub fn copied_inline<const N: usize>(text: &InlineStringN<N>) -> InlineStringN<N
     copy
 }
 
-/// The price of what has this name. The key is made on the stack, so no memory is asked for.
+/// The price of what has this name. The key is made on the stack, so it asks for no memory.
 pub fn price_of(prices: &BTreeMap<InlineStringN<16>, u32>, name: &str) -> Option<u32>
     ensures too_long { 16 < length name.now → result ≡ None }
     ensures value { length name.now ≤ 16 → result
@@ -110,21 +74,6 @@ pub fn price_of(prices: &BTreeMap<InlineStringN<16>, u32>, name: &str) -> Option
         return None;
     }
     prices.get(&InlineStringN::from(name)).copied()
-}
-
-/// Starts an empty note under a key, where none stands there yet.
-pub fn start_note(
-    notes: &mut BTreeMap<InlineStringN<16>, InlinableString>,
-    key: InlineStringN<16>,
-) -> Result<(), AllocFailed<InlineStringN<16>>>
-    ensures { OnOk result (MatchOption
-        (get (λ s t. slice_cmp nat_cmp (bytes_of s) (bytes_of t)) notes.new key)
-        ⊥
-        (λ note. get (λ s t. slice_cmp nat_cmp (bytes_of s) (bytes_of t)) notes.old key ≡ None
-        → (inlinable_state 30 note).text ≡ [])) }
-{
-    notes.entry(key)?.or_default();
-    Ok(())
 }
 
 /// Whether a name is among those seen, wherever each of them lies.

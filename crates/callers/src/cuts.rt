@@ -1,52 +1,14 @@
-//! Cuts and insertions at places that are tested first: `is_char_boundary` is the test, of the text
-//! or of its `as_str()`.
-ghost use Rattle.std.specs.Prelude.{◌≡◌, ℕ, ◌+◌, ◌≤◌, ◌<◌, ◌↔◌, List, ◌++◌, [], ◌∷◌, IsTrue, IfOk, OnOk, OnErr, IsSome, IfNone, IfSome};
+//! Cuts and insertions at places: `is_char_boundary` tests them, of the text or of its `as_str()`.
+ghost use Rattle.std.specs.Prelude.{◌≡◌, ◌+◌, ◌≤◌, ◌<◌, ◌↔◌, ◌++◌, [], ◌∷◌, IsTrue, IfOk, OnErr, length, IsSome, IfNone, IfSome};
 ghost use Rattle.std.specs.Str.{chars};
-ghost use Rattle.inlinable_string.specs.Text.{size, cut, IsCut, IsPlace, IsSplice, IsRemoval};
+ghost use Rattle.inlinable_string.specs.Text.{size, cut, IsPlace, IsSplice, IsRemoval};
 ghost use Rattle.inlinable_string.specs.State.{IsSameText};
-ghost use Rattle.inlinable_string.specs.Values.{string_state};
 
 use inlinable_string::laws::{
-    cuts_are_at_places, cuts_are_cuts_of_bytes, places_are_boundaries, steps_are_over_characters,
+    cuts_are_at_places, edits_leave_places, places_are_boundaries, steps_are_over_characters,
 };
 use inlinable_string::{InlineStringN, StringExt, StringMake};
 use std::alloc::{AllocError, Global};
-
-/// Cuts at a place, if it is one.
-pub fn cut_at<S: StringExt>(text: &mut S, place: usize) -> bool
-    ensures when { IsTrue result ↔ IsPlace (S.state text.old).text place }
-    ensures size { IsTrue result → size (S.state text.new).text ≡ place }
-{
-    if text.is_char_boundary(place) {
-        text.truncate(place);
-        return true;
-    }
-    false
-}
-
-/// The same by the test of `str`.
-pub fn cut_by_str<S: StringExt>(text: &mut S, place: usize) -> bool
-    ensures { IsTrue result ↔ IsPlace (S.state text.old).text place }
-{
-    if text.as_str().is_char_boundary(place) {
-        text.truncate(place);
-        return true;
-    }
-    false
-}
-
-/// Cuts a text behind a `dyn`, which stays as it was where there is no place.
-pub fn cut_dyn(text: &mut dyn StringExt, place: usize) -> bool
-    ensures when { IsTrue result ↔ IsPlace (state text.old).text place }
-    ensures none { ¬ (IsPlace (state text.old).text place)
-        → (state text.new).text ≡ (state text.old).text }
-{
-    if text.is_char_boundary(place) {
-        text.truncate(place);
-        return true;
-    }
-    false
-}
 
 /// Cuts a text in an array.
 pub fn cut_inline<const N: usize>(text: &mut InlineStringN<N>, place: usize) -> bool
@@ -54,17 +16,6 @@ pub fn cut_inline<const N: usize>(text: &mut InlineStringN<N>, place: usize) -> 
 {
     if text.as_str().is_char_boundary(place) {
         text.truncate(place);
-        return true;
-    }
-    false
-}
-
-/// Cuts std's `String`, called through the trait.
-pub fn cut_string(text: &mut String, place: usize) -> bool
-    ensures { IsTrue result ↔ IsPlace (string_state text.old).text place }
-{
-    if StringExt::is_char_boundary(text, place) {
-        StringExt::truncate(text, place);
         return true;
     }
     false
@@ -106,6 +57,26 @@ pub fn dash_at(text: &mut InlineStringN<16>, place: usize) -> bool
     text.is_char_boundary(place) && text.insert(place, '-').is_ok()
 }
 
+/// Puts a completion in at a cursor, which stays a place, or does nothing where it doesn't fit.
+pub fn complete<const N: usize>(text: &mut InlineStringN<N>, cursor: usize, part: &str) -> bool
+    requires { IsPlace text.old cursor }
+    ensures place { IsPlace text.new cursor }
+    ensures done { IsTrue result → IsSplice text.old cursor (chars part.now) text.new }
+    ensures fits { IsTrue result ↔ (size text.old + length part.now ≤ N) }
+{
+    edits_leave_places();
+    text.insert_str(cursor, part).is_ok()
+}
+
+/// Takes the character at a place out of a text in an array.
+pub fn delete_at<const N: usize>(text: &mut InlineStringN<N>, place: usize) -> char
+    requires place { IsPlace text.old place }
+    requires some { place < size text.old }
+    ensures { IsRemoval text.old place result text.new }
+{
+    text.remove(place)
+}
+
 /// Cuts the text behind a place off, into a text of its own.
 pub fn split_off<S: StringMake + Drop>(
     alloc: Global,
@@ -133,7 +104,7 @@ pub fn has_cut<S: StringExt>(text: &S, place: usize) -> bool
     text.is_char_boundary(place)
 }
 
-/// The last character, and what stands before it.
+/// The last character, and the text before it.
 pub fn split_last<S: StringExt>(text: &S) -> Option<(&str, char)>
     ensures { IfSome result (λ parts.
         (S.state text.now).text ≡ chars parts.0.now ++ parts.1 ∷ []) }
@@ -142,22 +113,4 @@ pub fn split_last<S: StringExt>(text: &S) -> Option<(&str, char)>
     let mut front = text.as_str().chars();
     let last = front.next_back()?;
     Some((front.as_str(), last))
-}
-
-/// Copies the text before a place and the text behind it to the ends of two others.
-pub fn copy_halves<S: StringExt, T: StringExt>(
-    text: &S,
-    place: usize,
-    front: &mut T,
-    back: &mut T,
-) -> Result<(), AllocError>
-    requires { IsPlace (S.state text.now).text place }
-    ensures { OnOk result ((a b : List ℕ) → IsCut (S.state text.now).text place a b
-        → ((T.state front.new).text ≡ (T.state front.old).text ++ a)
-        × ((T.state back.new).text ≡ (T.state back.old).text ++ b)) }
-{
-    places_are_boundaries();
-    cuts_are_cuts_of_bytes();
-    front.push_str(&text.as_str()[..place])?;
-    back.push_str(&text.as_str()[place..])
 }

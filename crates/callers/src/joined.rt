@@ -8,9 +8,8 @@ ghost use Rattle.inlinable_string.specs.State.{IsSameText, HasRoom, storage_when
 ghost use Rattle.inlinable_string.specs.Joins.{text_of_strs};
 ghost use Rattle.inlinable_string.specs.Values.{inlinable_policy, inlinable_state};
 
-use inlinable_string::laws::borrowed::loops_go_over_the_text;
-use inlinable_string::laws::printed::writing_in_calls_appends;
-use inlinable_string::{InlinableString, InlinableStringN, InlineStringN, StringExt};
+use inlinable_string::laws::{loops_go_over_the_text, writing_appends};
+use inlinable_string::{InlinableString, InlinableStringN, InlineStringN};
 use std::alloc::{AllocError, Global};
 use std::fmt::{self, Write};
 use std::str::Chars;
@@ -82,18 +81,7 @@ pub fn letters_of<'a, const N: usize>(word: &'a InlineStringN<N>) -> Chars<'a>
     word.into_iter()
 }
 
-/// A word in an array, letter by letter.
-pub fn respelled<const N: usize>(
-    alloc: Global,
-    word: &InlineStringN<N>,
-) -> Result<InlinableString, AllocError>
-    ensures { IfOk result (λ made. bytes_of (inlinable_state 30 made).text ≡ bytes_of word.now) }
-{
-    let _ = word.len();
-    InlinableString::from_chars(alloc, word.into_iter())
-}
-
-/// A name with an ending, or the name back as it was.
+/// A name with an ending, or the name back, unchanged.
 pub fn with_ending<const N: usize>(
     name: InlinableStringN<N>,
     ending: &str,
@@ -126,7 +114,7 @@ pub fn write_pair<const N: usize>(
     ensures { OnOk result (bytes_of (inlinable_state N text.new).text
         ≡ bytes_of (inlinable_state N text.old).text ++ name.now ++ 61 ∷ bytes_of value.now) }
 {
-    writing_in_calls_appends::<N>();
+    writing_appends::<N>();
     write!(text, "{name}={value}")
 }
 

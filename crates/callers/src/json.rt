@@ -7,7 +7,7 @@ ghost use Rattle.inlinable_string.specs.Text.{bytes_of};
 ghost use Rattle.inlinable_string.specs.Values.{inlinable_state};
 
 use inlinable_string::inline_json::JsonError;
-use inlinable_string::inline_json::laws::json_gives_the_text_back;
+use inlinable_string::laws::json_gives_the_text_back;
 use inlinable_string::{InlinableString, InlinableStringN, StringExt};
 use serde_json::Value;
 use std::alloc::{AllocError, Global};
@@ -28,7 +28,7 @@ pub fn there_and_back<const N: usize>(
     Ok(back)
 }
 
-/// A name in a document, or none where the value is not a string; want of memory apart.
+/// A name in a document, or none where the value is not a string; refused memory is an error.
 pub fn name(alloc: Global, value: &Value) -> Result<Option<InlinableString>, AllocError>
     ensures some { IfOk result (λ name. IfSome name
         (λ text. view value.now ≡ string (bytes_of (inlinable_state 30 text).text))) }
@@ -41,12 +41,4 @@ pub fn name(alloc: Global, value: &Value) -> Result<Option<InlinableString>, All
         Err(JsonError::NotString) => Ok(None),
         Err(JsonError::NoMemory) => Err(AllocError),
     }
-}
-
-/// A field for a document.
-pub fn field(text: &InlinableString) -> Result<Value, AllocError>
-    ensures { IfOk result
-        (λ value. view value ≡ string (bytes_of (inlinable_state 30 text.now).text)) }
-{
-    text.to_json()
 }

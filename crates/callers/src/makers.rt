@@ -1,5 +1,5 @@
 //! Texts from bytes and from UTF-16, and taken apart again.
-ghost use Rattle.std.specs.Prelude.{◌≡◌, ℕ, ◌≤◌, ◌<◌, ◌↔◌, List, [], ◌∷◌, ◌++◌, length, drop, IfOk, IfErr, IfSome, IfNone, IsOk, Err, IsUtf8, true, IsSome};
+ghost use Rattle.std.specs.Prelude.{◌≡◌, ℕ, ◌≤◌, ◌<◌, ◌↔◌, List, ◌∷◌, ◌++◌, length, drop, IfOk, IfErr, IfSome, IfNone, IsOk, Err, IsUtf8, IsSome};
 ghost use Rattle.std.specs.Char.{IsScalar, encode_utf8};
 ghost use Rattle.std.specs.Str.{chars, StartsWithNoChar};
 ghost use Rattle.std.specs.String.{string_bytes};
@@ -10,18 +10,17 @@ ghost use Rattle.inlinable_string.specs.Lossy.{subpart_len, lossy_utf8};
 ghost use Rattle.inlinable_string.specs.State.{storage_when_made};
 ghost use Rattle.inlinable_string.specs.Values.{inlinable_policy, inlinable_state};
 
-use inlinable_string::laws::bytes_of_parts;
-use inlinable_string::string_ext::laws::{
-    a_character_is_read, a_subpart_is_replaced, bytes_give_the_text_back, paired_units_are_a_text,
-    units_of_a_text_are_paired, utf8_is_read_as_it_is, utf16_is_read_as_it_is,
+use inlinable_string::laws::{
+    bytes_give_the_text_back, bytes_of_parts, lossy_reading_is_by_parts, paired_units_are_texts,
+    utf16_is_read_as_it_is,
 };
 use inlinable_string::{
-    InlinableString, InlinableStringN, InlineStringN, Storage, StringExt, StringMake, Utf16Error,
+    InlinableString, InlinableStringN, InlineStringN, Storage, StringMake, Utf16Error,
 };
 use std::alloc::{AllocError, Global};
 use std::borrow::CowStr;
 
-/// A file name as Windows gives it, or none where it is no text; want of memory apart.
+/// A file name as Windows gives it, or none where it is no text; refused memory is an error.
 pub fn file_name<S: StringMake + Drop>(
     alloc: Global,
     units: &[u16],
@@ -37,20 +36,15 @@ pub fn file_name<S: StringMake + Drop>(
     }
 }
 
-/// "é" by its one unit.
-pub fn accent<S: StringMake + Drop>(alloc: Global) -> Result<S, Utf16Error>
-    ensures text { IfOk result (λ made. (S.state made).text ≡ 0xE9 ∷ []) }
-    ensures paired { ¬ (result ≡ Err Utf16Error.Unpaired) }
-{
-    units_of_a_text_are_paired();
-    S::from_utf16(alloc, &[0xE9])
-}
-
-/// A line of a log, whatever its units are, to be printed; a short one lies on the heap too.
+/// A line of a log, whatever its units are, to be printed. A short one is on the heap too. Where no
+/// unit is unpaired, they are those of the line.
 pub fn log_line(alloc: Global, units: &[u16]) -> Result<InlinableStringN<16>, AllocError>
     ensures text { IfOk result (λ line. (inlinable_state 16 line).text ≡ lossy_utf16 units.now) }
+    ensures paired { ¬ (HasUnpaired units.now)
+        → IfOk result (λ line. units_of (inlinable_state 16 line).text ≡ units.now) }
     ensures storage { IfOk result (λ line. (inlinable_state 16 line).storage ≡ Storage.Heap) }
 {
+    paired_units_are_texts();
     InlinableStringN::from_utf16_lossy(alloc, units)
 }
 
@@ -64,7 +58,7 @@ pub fn same_name<S: StringMake + Drop>(
     ensures text { IfOk result (λ made. (S.state made).text ≡ (S.state name.now).text) }
     ensures paired { ¬ (result ≡ Err Utf16Error.Unpaired) }
 {
-    units_of_a_text_are_paired();
+    paired_units_are_texts();
     utf16_is_read_as_it_is();
     let _ = name.len();
     S::from_utf16(alloc, units)
@@ -82,7 +76,7 @@ pub fn body(alloc: Global, bytes: Vec<u8>) -> Result<InlinableStringN<16>, Vec<u
     }
 }
 
-/// A text goes through its bytes and comes back, or stays as it was where memory is refused.
+/// A text goes through its bytes and comes back, or stays unchanged where memory is refused.
 pub fn through_bytes<S: StringMake + Drop>(alloc: Global, text: S) -> Result<S, S>
     ensures ok { IfOk result (λ made. (S.state made).text ≡ (S.state text).text) }
     ensures heap { IfOk result (λ made. (S.state made).storage ≡ Storage.Heap) }
@@ -94,32 +88,14 @@ pub fn through_bytes<S: StringMake + Drop>(alloc: Global, text: S) -> Result<S, 
     Ok(unsafe { S::from_utf8_unchecked(alloc, bytes) })
 }
 
-/// The bytes of a text and of a word behind it, or nothing where memory is refused.
-pub fn bytes_with<S: StringMake + Drop>(text: S, word: &str) -> Option<Vec<u8>>
-    ensures { IfSome result (λ bytes. bytes.items ≡ bytes_of (S.state text).text ++ word.now) }
-{
-    bytes_of_parts();
-    let mut text = text;
-    match text.push_str(word) {
-        Ok(()) => text.into_bytes().ok(),
-        Err(AllocError) => None,
-    }
-}
-
 /// Bytes to be printed: they are copied only where they are not UTF-8.
 pub fn shown<'a>(alloc: Global, bytes: &'a [u8]) -> Result<CowStr<'a>, AllocError>
     ensures text { IfOk result (λ read. cow_str_bytes read ≡ bytes_of (lossy_utf8 bytes.now)) }
     ensures borrowed { IfOk result (λ read. IsBorrowedStr read ↔ IsUtf8 bytes.now) }
+    ensures utf8 { IsUtf8 bytes.now → IfOk result (λ read. cow_str_bytes read ≡ bytes.now) }
     ensures granted { IsUtf8 bytes.now → IsOk result }
 {
-    InlinableString::from_utf8_lossy(alloc, bytes)
-}
-
-/// The same of bytes that may be a text: those that are one are shown as they are.
-pub fn shown_as_it_is<'a>(alloc: Global, bytes: &'a [u8]) -> Result<CowStr<'a>, AllocError>
-    ensures { IsUtf8 bytes.now → IfOk result (λ read. cow_str_bytes read ≡ bytes.now) }
-{
-    utf8_is_read_as_it_is();
+    lossy_reading_is_by_parts();
     bytes_of_parts();
     InlinableString::from_utf8_lossy(alloc, bytes)
 }
@@ -131,26 +107,17 @@ pub fn shown_behind<'a>(alloc: Global, bytes: &'a [u8]) -> Result<CowStr<'a>, Al
     ensures { IfOk result (λ read. cow_str_bytes read
         ≡ bytes_of (0xFFFD ∷ lossy_utf8 (drop (subpart_len bytes.now) bytes.now))) }
 {
-    a_subpart_is_replaced();
+    lossy_reading_is_by_parts();
     InlinableString::from_utf8_lossy(alloc, bytes)
 }
 
-/// Bytes that may begin with a character: it is read, and then what stands behind it.
+/// Bytes that may begin with a character: it is read, and then the bytes behind it.
 pub fn shown_from<'a>(alloc: Global, bytes: &'a [u8]) -> Result<CowStr<'a>, AllocError>
     ensures { (c : ℕ) (rest : List ℕ) → IsScalar c → bytes.now ≡ encode_utf8 c ++ rest
         → IfOk result (λ read. cow_str_bytes read ≡ bytes_of (c ∷ lossy_utf8 rest)) }
 {
-    a_character_is_read();
+    lossy_reading_is_by_parts();
     InlinableString::from_utf8_lossy(alloc, bytes)
-}
-
-/// A line of a log whose units may all be paired: then they are those of the line.
-pub fn log_line_of_text(alloc: Global, units: &[u16]) -> Result<InlinableString, AllocError>
-    ensures { ¬ (HasUnpaired units.now) → IfOk result
-        (λ line. units_of (inlinable_state 30 line).text ≡ units.now) }
-{
-    paired_units_are_a_text();
-    InlinableString::from_utf16_lossy(alloc, units)
 }
 
 /// A key, which takes no memory where it is short.
@@ -181,7 +148,7 @@ pub fn word<const N: usize>(word: &str) -> Option<InlineStringN<N>>
     }
 }
 
-/// A text that has become short goes into an array; a longer one comes back as it was.
+/// A text that has become short goes into an array; a longer one comes back unchanged.
 pub fn settled<const N: usize>(
     text: InlinableStringN<N>,
 ) -> Result<InlineStringN<N>, InlinableStringN<N>>

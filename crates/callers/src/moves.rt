@@ -4,7 +4,8 @@ ghost use Rattle.inlinable_string.specs.Text.{size};
 ghost use Rattle.inlinable_string.specs.Edit.{text_after};
 ghost use Rattle.inlinable_string.specs.Values.{inlinable_state};
 
-use inlinable_string::run::{Command, Reply, run, runs_join};
+use inlinable_string::laws::runs_join;
+use inlinable_string::run::{Command, Reply, run};
 use inlinable_string::{InlinableString, InlinableStringN, Storage};
 
 /// A key of a table, in less room; or the name as it came, which then has more than 8 bytes.

@@ -1,31 +1,18 @@
 //! Lists of commands: what the replies and the text are where the commands are known.
-ghost use Rattle.std.specs.Prelude.{◌≡◌, ◌↔◌, ℕ, ◌+◌, ◌*◌, ◌<◌, ◌≤◌, List, ◌++◌, [], ◌∷◌, Some, length, take, drop, map, slice_get, vec_len, IsTrue, OnOk, OnErr};
+ghost use Rattle.std.specs.Prelude.{◌≡◌, ◌↔◌, ℕ, ◌+◌, ◌*◌, ◌<◌, List, ◌++◌, [], ◌∷◌, Some, length, take, drop, map, slice_get, vec_len, IsTrue, OnOk, OnErr};
 ghost use Rattle.std.specs.Str.{chars};
 ghost use Rattle.inlinable_string.specs.Text.{IsPlace};
 ghost use Rattle.inlinable_string.specs.State.{HasInlineRoom};
 ghost use Rattle.inlinable_string.specs.Run.{EachRun};
 ghost use Rattle.inlinable_string.specs.Values.{inlinable_state};
 
-use inlinable_string::laws::sizes_of_parts;
-use inlinable_string::run::{
-    Command, Reply, each_text_has_its_own_run, edits_are_done_at_places,
-    pop_takes_off_the_last_character, reserved_pushes_never_fail, run, run_dyn, run_each,
+use inlinable_string::laws::{
+    each_text_has_its_own_run, edits_are_done_at_places, pop_takes_off_the_last_character,
+    reserved_pushes_never_fail, sizes_of_parts,
 };
-use inlinable_string::{InlinableString, Storage, StringExt};
+use inlinable_string::run::{Command, Reply, run, run_dyn, run_each};
+use inlinable_string::{InlinableString, StringExt};
 use std::alloc::{AllocError, Global};
-
-/// Sets a text by two commands.
-pub fn set_by_run<S: StringExt>(text: &mut S, ch: char) -> bool
-    ensures done { IsTrue result → (S.state text.new).text ≡ ch ∷ [] }
-    ensures refused { ¬ (IsTrue result) → (S.state text.new).text ≡ [] }
-    ensures granted { (S.state text.old).storage ≡ Storage.Inline
-        → 4 ≤ (S.state text.old).policy.limit → IsTrue result }
-{
-    sizes_of_parts();
-    let mut replies = [Reply::NoMemory; 2];
-    run(text, &[Command::Clear, Command::Push(ch)], &mut replies);
-    replies[1] == Reply::Done
-}
 
 /// Adds two letters by commands, behind a `dyn`.
 pub fn letters_by_run(text: &mut dyn StringExt) -> bool
@@ -42,25 +29,6 @@ pub fn letters_by_run(text: &mut dyn StringExt) -> bool
     replies == [Reply::Done, Reply::Done]
 }
 
-/// `Clear` is always carried out.
-pub fn clear_by_run<S: StringExt>(text: &mut S) -> Reply
-    ensures reply { result ≡ Reply.Done }
-    ensures text { (S.state text.new).text ≡ [] }
-{
-    let mut replies = [Reply::NoMemory; 1];
-    run(text, &[Command::Clear], &mut replies);
-    replies[0]
-}
-
-/// After `Clear` there is no character to take off.
-pub fn pop_of_nothing<S: StringExt>(text: &mut S) -> Reply
-    ensures { result ≡ Reply.NoChar }
-{
-    let mut replies = [Reply::NoMemory; 2];
-    run(text, &[Command::Clear, Command::Pop], &mut replies);
-    replies[1]
-}
-
 /// The last character is in the reply, or the text was empty.
 pub fn pop_by_run(text: &mut InlinableString) -> Reply
     ensures none { (result ≡ Reply.NoChar) ↔ ((inlinable_state 30 text.old).text ≡ []) }
@@ -74,39 +42,6 @@ pub fn pop_by_run(text: &mut InlinableString) -> Reply
     let mut replies = [Reply::NoMemory; 1];
     run(text, &[Command::Pop], &mut replies);
     replies[0]
-}
-
-/// A character after a reservation of four bytes is not refused.
-pub fn push_by_run<S: StringExt>(text: &mut S, ch: char) -> bool
-    ensures done { IsTrue result → (S.state text.new).text ≡ (S.state text.old).text ++ ch ∷ [] }
-    ensures granted { HasInlineRoom (S.state text.old) 4 → IsTrue result }
-{
-    sizes_of_parts();
-    reserved_pushes_never_fail();
-    let mut replies = [Reply::NoMemory; 2];
-    run(
-        text,
-        &[Command::Reserve(4), Command::Push(ch)],
-        &mut replies,
-    );
-    replies[0] == Reply::Done
-}
-
-/// On an inline text with room both replies are `Done`, so the text is known, and it stays inline.
-pub fn letters_in_room<S: StringExt>(text: &mut S) -> [Reply; 2]
-    requires { HasInlineRoom (S.state text.old) 2 }
-    ensures replies { result ≡ Reply.Done ∷ Reply.Done ∷ [] }
-    ensures text { (S.state text.new).text ≡ (S.state text.old).text ++ 97 ∷ 98 ∷ [] }
-    ensures storage { (S.state text.new).storage ≡ Storage.Inline }
-{
-    sizes_of_parts();
-    let mut replies = [Reply::NoMemory; 2];
-    run(
-        text,
-        &[Command::Push('a'), Command::Push('b')],
-        &mut replies,
-    );
-    replies
 }
 
 /// A text that is added after a reservation is not refused.

@@ -3,13 +3,12 @@
 ghost use Rattle.std.specs.Prelude.{◌≡◌, ◌≤◌, ◌↔◌, [], ◌∷◌, length, codes, IfOk, IfSome, IsSome};
 ghost use Rattle.std.specs.Str.{chars};
 ghost use Rattle.std.specs.String.{string_bytes};
-ghost use Rattle.inlinable_string.specs.Text.{bytes_of, size};
-ghost use Rattle.inlinable_string.specs.Errors.{json_message, replacement_message, utf16_message};
-ghost use Rattle.inlinable_string.specs.Values.{inlinable_state, boxable_state};
+ghost use Rattle.inlinable_string.specs.Text.{size};
+ghost use Rattle.inlinable_string.specs.BoxableValues.{boxable_state};
+ghost use Rattle.inlinable_string.specs.Values.{inlinable_state};
 
-use inlinable_string::inline_json::JsonError;
-use inlinable_string::inline_string::{NotEnoughSpaceError, ReplaceError};
-use inlinable_string::{BoxableString, InlinableString, InlineStringN, Utf16Error};
+use inlinable_string::inline_string::NotEnoughSpaceError;
+use inlinable_string::{BoxableString, InlinableString, InlineStringN};
 use std::alloc::{AllocError, Global};
 
 /// The empty text, as `derive(Default)` makes it.
@@ -42,40 +41,9 @@ pub fn boxable(text: InlinableString) -> BoxableString
     BoxableString::from(text)
 }
 
-/// What a text in an array prints.
-pub fn shown_inline<const N: usize>(
-    alloc: Global,
-    text: &InlineStringN<N>,
-) -> Result<String, AllocError>
-    ensures { IfOk result (λ made. string_bytes made ≡ bytes_of text.now) }
-{
-    format!(in alloc; "{text}")
-}
-
 /// What a refused growth prints.
 pub fn reason(alloc: Global, error: &NotEnoughSpaceError) -> Result<String, AllocError>
     ensures { IfOk result (λ made. string_bytes made ≡ codes "the text does not fit") }
-{
-    format!(in alloc; "{error}")
-}
-
-/// What bytes that were not taken print.
-pub fn reason_of_bytes(alloc: Global, error: &ReplaceError) -> Result<String, AllocError>
-    ensures { IfOk result (λ made. string_bytes made ≡ replacement_message error.now) }
-{
-    format!(in alloc; "{error}")
-}
-
-/// What units that were not read print.
-pub fn reason_of_units(alloc: Global, error: &Utf16Error) -> Result<String, AllocError>
-    ensures { IfOk result (λ made. string_bytes made ≡ utf16_message error.now) }
-{
-    format!(in alloc; "{error}")
-}
-
-/// What a JSON value that was not read prints.
-pub fn reason_of_json(alloc: Global, error: &JsonError) -> Result<String, AllocError>
-    ensures { IfOk result (λ made. string_bytes made ≡ json_message error.now) }
 {
     format!(in alloc; "{error}")
 }

@@ -1,33 +1,25 @@
-//! Views: what a caller knows once it has asked for a length, for a capacity or for the storage.
+//! Views: what a length, a capacity or the storage tells a caller.
 ghost use Rattle.std.specs.Prelude.{◌≡◌, ℕ, ◌+◌, ◌≤◌, ◌<◌, ◌↔◌, List, ◌++◌, [], ◌∷◌, IsTrue, IfNone, IfSome};
 ghost use Rattle.inlinable_string.specs.Text.{bytes_of, size};
 ghost use Rattle.inlinable_string.specs.State.{HasRoom};
 ghost use Rattle.inlinable_string.specs.Values.{inlinable_state};
 
-use inlinable_string::{InlinableStringN, InlineStringN, Storage, StringExt};
+use inlinable_string::{InlinableStringN, Storage, StringExt};
 
-/// The capacity is never below the length: only `capacity` is asked.
+/// The capacity is never below the length: `capacity` alone tells it.
 pub fn upper_bound<S: StringExt>(text: &S) -> usize
     ensures { size (S.state text.now).text ≤ result }
 {
     text.capacity()
 }
 
-/// An inline text has its limit's room: only `storage` is asked.
+/// An inline text has its limit's room: `storage` alone tells it.
 pub fn lies_inline(text: &dyn StringExt) -> bool
     ensures when { IsTrue result ↔ ((state text.now).storage ≡ Storage.Inline) }
     ensures room { IsTrue result → (state text.now).capacity ≡ (state text.now).policy.limit }
     ensures size { IsTrue result → size (state text.now).text ≤ (state text.now).policy.limit }
 {
     text.storage() == Storage::Inline
-}
-
-/// The length is within the capacity: only `len` is asked.
-pub fn length_of<S: StringExt>(text: &S) -> usize
-    ensures size { result ≡ size (S.state text.now).text }
-    ensures within { result ≤ (S.state text.now).capacity }
-{
-    text.len()
 }
 
 /// How many bytes more have room.
@@ -38,14 +30,7 @@ pub fn spare<S: StringExt>(text: &S) -> usize
     text.capacity() - text.len()
 }
 
-/// What is left of an array.
-pub fn left<const N: usize>(text: &InlineStringN<N>) -> usize
-    ensures { size text.now + result ≡ N }
-{
-    N - text.len()
-}
-
-/// The last byte, if there is one: the bytes are as many as the length says.
+/// The last byte, if there is one.
 pub fn last_byte<S: StringExt>(text: &S) -> Option<u8>
     ensures none { IfNone result (size (S.state text.now).text ≡ 0) }
     ensures last { IfSome result
@@ -53,14 +38,6 @@ pub fn last_byte<S: StringExt>(text: &S) -> Option<u8>
 {
     let (last, _) = text.as_bytes().split_last()?;
     Some(*last)
-}
-
-/// Whether the first text has more bytes.
-pub fn is_longer<S: StringExt, T: StringExt>(first: &S, second: &T) -> bool
-    ensures { IsTrue result
-        ↔ (size (T.state second.now).text < size (S.state first.now).text) }
-{
-    second.len() < first.len()
 }
 
 /// Whether a text is empty, wherever it lies.

@@ -22,7 +22,8 @@ pub use Rattle.inlinable_string.specs.State.{HasInlineRoom, HasRoom, IsLawful, I
 pub use Rattle.inlinable_string.specs.Step.{Covers, IsStep}
 pub use Rattle.inlinable_string.specs.Text.{IsCut, IsPlace, IsRemoval, IsSplice, bytes_of, cut, size, with_first}
 pub use Rattle.inlinable_string.specs.Utf16.{HasUnpaired, is_high_at, is_high_before, is_low_at, is_unpaired, lossy_unit, lossy_utf16, lossy_utf16_before, units_of}
-pub use Rattle.inlinable_string.specs.Values.{heap_state, inlinable_policy, inlinable_state}
+pub use Rattle.inlinable_string.specs.StringValues.{heap_state}
+pub use Rattle.inlinable_string.specs.Values.{inlinable_policy, inlinable_state}
 pub use Rattle.inlinable_string.specs.declared.run.Command.{Command}
 pub use Rattle.inlinable_string.specs.declared.run.Command.TheVariants.{Clear, Insert, InsertStr, Pop, Push, PushStr, Remove, ReplaceBytes, Reserve, ReserveExact, ShrinkToFit, Truncate}
 pub use Rattle.inlinable_string.specs.declared.run.Reply.{Reply}

@@ -76,12 +76,12 @@ pub pop_takes_last : (t v : List ℕ) (c : ℕ) → (edit t Pop ≡ yields c v) 
 pop_takes_last t v c = (pop_from t v c, pop_is t v c)
 
 -- only the empty text has none
-none_from : (t : List ℕ) → reply_of (pop_result (split_last t)) ≡ NoChar → t ≡ []
-none_from [] h = refl
-none_from (d ∷ t) h = cc
+nil_from_no_char : (t : List ℕ) → reply_of (pop_result (split_last t)) ≡ NoChar → t ≡ []
+nil_from_no_char [] h = refl
+nil_from_no_char (d ∷ t) h = cc
 
 pub pop_finds_none : (t : List ℕ) → (reply_of (edit t Pop) ≡ NoChar) ↔ (t ≡ [])
-pop_finds_none t = (none_from t, λ e. ap (λ x. reply_of (pop_result (split_last x))) e)
+pop_finds_none t = (nil_from_no_char t, λ e. ap (λ x. reply_of (pop_result (split_last x))) e)
 
 -- removals
 

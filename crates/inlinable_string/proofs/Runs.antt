@@ -1,6 +1,5 @@
-use Rattle.inlinable_string.proofs.Common.{◌≡◌, ℕ, ◌+◌, ◌<◌, ◌≤◌, List, [], ◌∷◌, ◌++◌, length, take, refl, sym, ◌∙◌, arith, subst, get_or, set, rules, take_more, take_more_set, length-take-le, take_all, size, TextState, IsLawful, text_after, state_after, state_after_step, IsLegal, LegalReplies, IsRun, Covers, IsStep, Command, Reply}
-
 -- A run grows by one command at its end.
+use Rattle.inlinable_string.proofs.Common.{◌≡◌, ℕ, ◌+◌, ◌<◌, ◌≤◌, List, [], ◌∷◌, ◌++◌, length, take, refl, sym, ◌∙◌, arith, subst, get_or, set, rules, take_more, take_more_set, length-take-le, take_all, size, TextState, IsLawful, text_after, state_after, state_after_step, IsLegal, LegalReplies, IsRun, Covers, IsStep, Command, Reply}
 
 -- the commands so far
 pub record IsRunSoFar (old : TextState) (commands : List Command) (replies : List Reply)

@@ -35,7 +35,7 @@ len_by_row c rest s (of4 a b d x l h f g k n e) =
     grind (arith, common_steps, none_above, row_four)
 
 -- where a character begins the bytes, it fills the row
-fills : (bs : List ℕ) (c : ℕ) (rest : List ℕ) → Begins bs c rest
+pub fills : (bs : List ℕ) (c : ℕ) (rest : List ℕ) → Begins bs c rest
     → (length (encode_utf8 c) ≡ 1 + length (row bs)) × (subpart_len bs ≡ 1 + length (row bs))
 fills bs c rest b =
     let fit = ap subpart_len b.joined ∙ table_fits c rest b.scalar in
@@ -71,7 +71,7 @@ begun bs n c rest within s is long =
     }
 
 -- a row of more than one byte that is filled is a character
-filled : (bs : List ℕ) → 0 < length bs → 0 < length (row bs)
+pub filled : (bs : List ℕ) → 0 < length bs → 0 < length (row bs)
     → count_in (row bs) (drop 1 bs) ≡ length (row bs) → char_len bs ≡ 1 + length (row bs)
 filled [] some more all = absurd (omega arith)
 filled (x ∷ xs) some more all =

@@ -170,3 +170,13 @@ pub replace_not_utf8 : (old new : TextState) (bytes : Bor (List ℕ)) → IsLawf
     → IsSameText old new → length bytes.now ≡ size old.text → ¬ (IsUtf8 bytes.now)
     → new.policy ≡ old.policy → IsStep old (ReplaceBytes bytes) NotUtf8 new
 replace_not_utf8 old new bytes laws same as_many not policy = search (rules, not_utf8, answered)
+
+-- what a run's command does where it is carried out, or refused for its bytes
+pub ruleset outcomes = (
+  insert_done,
+  truncate_done,
+  pop_char,
+  remove_char,
+  replace_done,
+  replace_not_utf8,
+)

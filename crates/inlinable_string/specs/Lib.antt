@@ -2,11 +2,13 @@ pub mod Text
 pub mod Utf16
 pub mod Lossy
 pub mod Cells
-pub mod Errors
 pub mod State
+pub mod StringValues
 pub mod Values
+pub mod BoxableValues
 pub mod Joins
 pub mod Edit
 pub mod Run
 pub mod Step
 pub mod Laws
+pub mod WellFormed

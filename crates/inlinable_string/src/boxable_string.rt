@@ -1,5 +1,5 @@
 //! `InlinableString` in a type that can go into a `Box<dyn StringExt + Drop>`.
-ghost use Rattle.inlinable_string.specs.Values.{boxable_state};
+ghost use Rattle.inlinable_string.specs.BoxableValues.{boxable_state};
 
 use crate::InlinableString;
 use crate::inline_string::ReplaceError;

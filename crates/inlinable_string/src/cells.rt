@@ -78,17 +78,18 @@ pub(crate) fn remove_up(cells: &mut [u8], len: usize, from: usize, to: usize)
 
 /// Moves the window to the front.
 #[inline]
-pub(crate) fn slide(cells: &mut [u8], start: usize, len: usize)
+pub(crate) fn move_to_front(cells: &mut [u8], start: usize, len: usize)
     requires { start + len ≤ length cells.old }
     ensures { take len cells.new ≡ take len (drop start cells.old) }
 {
     cells.copy_within(start..start + len, 0);
 }
 
-/// Puts bytes into the window at `at`, and tells where it starts then.
+/// Inserts bytes at `at` of the window, and returns its new start. Out of line: the usual push or
+/// insertion moves nothing.
 ///
-/// Where both sides have room the shorter part moves; where one side has, the part on that side;
-/// where neither has, the window first slides to the front.
+/// If both sides have room, the shorter part moves; if one side has, the part on that side; if
+/// neither has, the window first moves to the front.
 #[inline(never)]
 pub(crate) fn insert_in(
     cells: &mut [u8],
@@ -116,7 +117,7 @@ pub(crate) fn insert_in(
         insert_down(&mut cells[earlier..], len, at, added);
         earlier
     } else {
-        slide(cells, start, len);
+        move_to_front(cells, start, len);
         insert_up(cells, len, at, added);
         0
     }
@@ -139,14 +140,14 @@ pub(crate) fn insert_byte(cells: &mut [u8], start: &mut usize, len: usize, at: u
         insert_up(cells, len, at, &[byte][..]);
         return;
     }
-    insert_byte_further_in(cells, start, len, at, byte);
+    insert_byte_with_front_room(cells, start, len, at, byte);
 }
 
-/// `insert_byte` where there is room in front of the window. Out of line, so that a window that
-/// starts at the front, as that of a new text does, pays nothing for it.
+/// `insert_byte` of a window with room before it. Out of line, to keep the insertion into a window
+/// that starts at the front, as that of a new text does, small.
 #[cold]
 #[inline(never)]
-fn insert_byte_further_in(cells: &mut [u8], start: &mut usize, len: usize, at: usize, byte: u8)
+fn insert_byte_with_front_room(cells: &mut [u8], start: &mut usize, len: usize, at: usize, byte: u8)
     requires front { 0 < start.old }
     requires place { at ≤ len }
     requires inside { start.old + len ≤ length cells.old }

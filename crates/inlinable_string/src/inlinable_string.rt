@@ -1,10 +1,7 @@
-//! Text that lies inline while it has at most `N` bytes, and goes to the heap when it outgrows
-//! them.
+//! A text that is stored inline while it has at most `N` bytes, and moves to the heap when it
+//! outgrows them.
 ghost use Rattle.std.specs.Prelude.{◌≡◌, ◌+◌, ◌≤◌, ◌++◌, [], ◌∷◌, length, IfOk, IsOk, OnOk, OnErr};
-ghost use Rattle.std.specs.List.{insert_slice};
-ghost use Rattle.std.specs.Str.{chars, IsCharBoundary};
-ghost use Rattle.std.specs.String.{string_bytes, string_capacity};
-ghost use Rattle.inlinable_string.specs.Text.{size, IsPlace, IsSplice};
+ghost use Rattle.inlinable_string.specs.Text.{size};
 ghost use Rattle.inlinable_string.specs.State.{IsSameText, HasRoom, HasInlineRoom, storage_with_room};
 ghost use Rattle.inlinable_string.specs.Values.{inlinable_policy, inlinable_state};
 
@@ -20,12 +17,13 @@ mod joins;
 mod limits;
 mod makers;
 mod printed;
+mod promotion;
 
 /// An [`InlinableStringN`] of 30 bytes inline, the capacity of the Rust crate.
 pub type InlinableString = InlinableStringN<INLINE_STRING_CAPACITY>;
 
 /// A UTF-8 text of any length: in the value itself, or on the heap once a growth has passed `N`
-/// bytes. It does not come back when it is cut.
+/// bytes. Shortening it does not move it back.
 ///
 /// Each variant keeps the allocator, so that growths need none.
 #[derive(Drop)]
@@ -36,152 +34,6 @@ pub enum InlinableStringN<const N: usize> {
     Inline(InlineStringN<N>, Global),
 }
 
-impl<const N: usize> InlinableStringN<N> {
-    /// Moves an inline text to the heap, with `added` put in at `idx`, into room for as much and
-    /// for `spare` bytes more.
-    ///
-    /// Memory is asked for once, for the exact size, before anything is changed. This stands by
-    /// itself, so that a growth that stays inline pays nothing for it.
-    #[cold]
-    #[inline(never)]
-    fn promote(&mut self, idx: usize, added: &str, spare: usize) -> Result<(), AllocError>
-        requires inline { (inlinable_state N self.old).storage ≡ Storage.Inline }
-        requires place { IsPlace (inlinable_state N self.old).text idx }
-        ensures text { OnOk result (IsSplice (inlinable_state N self.old).text idx
-            (chars added.now) (inlinable_state N self.new).text) }
-        ensures len { OnOk result (size (inlinable_state N self.new).text
-            ≡ size (inlinable_state N self.old).text + length added.now) }
-        ensures storage { OnOk result ((inlinable_state N self.new).storage ≡ Storage.Heap) }
-        ensures room { OnOk result
-            (size (inlinable_state N self.old).text + length added.now + spare
-            ≤ (inlinable_state N self.new).capacity) }
-        ensures err { OnErr result
-            (IsSameText (inlinable_state N self.old) (inlinable_state N self.new)) }
-    {
-        let InlinableStringN::Inline(text, alloc) = self else {
-            unreachable!();
-        };
-        let alloc = *alloc;
-        let heap = spliced(alloc, text.as_str(), idx, added, spare)?;
-        *self = InlinableStringN::Heap(heap, alloc);
-        Ok(())
-    }
-
-    /// Moves an inline text to the heap, with `added` at its end: `promote` there, which cuts the
-    /// text nowhere.
-    #[cold]
-    #[inline(never)]
-    fn promote_appending(&mut self, added: &str) -> Result<(), AllocError>
-        requires inline { (inlinable_state N self.old).storage ≡ Storage.Inline }
-        ensures text { OnOk result ((inlinable_state N self.new).text
-            ≡ (inlinable_state N self.old).text ++ chars added.now) }
-        ensures len { OnOk result (size (inlinable_state N self.new).text
-            ≡ size (inlinable_state N self.old).text + length added.now) }
-        ensures storage { OnOk result ((inlinable_state N self.new).storage ≡ Storage.Heap) }
-        ensures room { OnOk result
-            (size (inlinable_state N self.old).text + length added.now
-            ≤ (inlinable_state N self.new).capacity) }
-        ensures err { OnErr result
-            (IsSameText (inlinable_state N self.old) (inlinable_state N self.new)) }
-    {
-        let InlinableStringN::Inline(text, alloc) = self else {
-            unreachable!();
-        };
-        let alloc = *alloc;
-        let heap = joined(alloc, text.as_str(), added)?;
-        *self = InlinableStringN::Heap(heap, alloc);
-        Ok(())
-    }
-
-    /// `push` of any character, wherever the text lies and its room is. Out of line, so that a push
-    /// of an ASCII character behind an inline text pays nothing for it.
-    #[cold]
-    #[inline(never)]
-    fn push_slowly(&mut self, ch: char) -> Result<(), AllocError>
-        ensures text { OnOk result ((inlinable_state N self.new).text
-            ≡ (inlinable_state N self.old).text ++ ch ∷ []) }
-        ensures len { OnOk result (size (inlinable_state N self.new).text
-            ≡ size (inlinable_state N self.old).text + size (ch ∷ [])) }
-        ensures char_len { size (ch ∷ []) ≤ 4 }
-        ensures storage { OnOk result ((inlinable_state N self.new).storage
-            ≡ storage_with_room (inlinable_state N self.old) (size (ch ∷ []))) }
-        ensures err { OnErr result
-            (IsSameText (inlinable_state N self.old) (inlinable_state N self.new)) }
-
-        // What fits is not refused, and no room is lost.
-        ensures granted { HasRoom (inlinable_state N self.old) (size (ch ∷ [])) → IsOk result }
-        ensures inline_granted { HasInlineRoom (inlinable_state N self.old) (size (ch ∷ []))
-            → IsOk result }
-        ensures room { OnOk result
-            ((inlinable_state N self.old).capacity ≤ (inlinable_state N self.new).capacity) }
-        ensures policy { (inlinable_state N self.new).policy
-            ≡ (inlinable_state N self.old).policy }
-    {
-        let mut buffer = [0; 4];
-        self.push_str(ch.encode_utf8(&mut buffer))
-    }
-
-    /// A copy of a text on the heap, which lies there too. Out of line, so that a copy of an inline
-    /// text pays nothing for it.
-    #[cold]
-    #[inline(never)]
-    fn copy_on_heap(alloc: Global, text: &String) -> Result<Self, AllocError>
-        ensures text { IfOk result
-            (λ made. (inlinable_state N made).text ≡ chars (string_bytes text.now)) }
-        ensures storage { IfOk result (λ made. (inlinable_state N made).storage ≡ Storage.Heap) }
-    {
-        let copy = text.clone()?;
-        Ok(InlinableStringN::Heap(copy, alloc))
-    }
-}
-
-/// Both texts, one behind the other, on the heap. Memory is asked for once, for their size; a size
-/// past `usize::MAX` is want of memory.
-fn joined(alloc: Global, text: &str, added: &str) -> Result<String, AllocError>
-    ensures bytes { IfOk result (λ made. string_bytes made ≡ text.now ++ added.now) }
-    ensures room { IfOk result
-        (λ made. length text.now + length added.now ≤ string_capacity made) }
-{
-    if text.is_empty() {
-        return String::from_str(alloc, added);
-    }
-    let Some(size) = text.len().checked_add(added.len()) else {
-        return Err(AllocError);
-    };
-    let mut made = String::with_capacity(alloc, size)?;
-    made.push_str(text)?;
-    made.push_str(added)?;
-    Ok(made)
-}
-
-/// The text with `added` put in at `idx`, on the heap, into room for as much and for `spare` bytes
-/// more. Memory is asked for once, for that size; a size past `usize::MAX` is want of memory.
-fn spliced(
-    alloc: Global,
-    text: &str,
-    idx: usize,
-    added: &str,
-    spare: usize,
-) -> Result<String, AllocError>
-    requires { IsCharBoundary text.now idx }
-    ensures bytes { IfOk result
-        (λ made. string_bytes made ≡ insert_slice text.now idx added.now) }
-    ensures room { IfOk result
-        (λ made. length text.now + length added.now + spare ≤ string_capacity made) }
-{
-    let Some(size) = text.len().checked_add(added.len()) else {
-        return Err(AllocError);
-    };
-    let Some(capacity) = size.checked_add(spare) else {
-        return Err(AllocError);
-    };
-    let mut made = String::with_capacity(alloc, capacity)?;
-    made.push_str(&text[..idx])?;
-    made.push_str(added)?;
-    made.push_str(&text[idx..])?;
-    Ok(made)
-}
-
 // The heap arms call the trait's methods: their contracts speak of characters, and those that
 // `String` has of its own speak of bytes.
 impl<const N: usize> StringExt for InlinableStringN<N> {
@@ -190,15 +42,15 @@ impl<const N: usize> StringExt for InlinableStringN<N> {
     #[inline]
     fn push(&mut self, ch: char) -> Result<(), AllocError> {
         if !ch.is_ascii() {
-            return self.push_slowly(ch);
+            return self.push_general(ch);
         }
         match self {
             InlinableStringN::Heap(text, _) => StringExt::push(text, ch),
             InlinableStringN::Inline(text, _) => {
-                if text.push_behind(ch) {
+                if text.try_push_ascii(ch) {
                     return Ok(());
                 }
-                self.push_slowly(ch)
+                self.push_general(ch)
             }
         }
     }
@@ -209,7 +61,7 @@ impl<const N: usize> StringExt for InlinableStringN<N> {
             InlinableStringN::Heap(text, _) => StringExt::push_str(text, string),
             InlinableStringN::Inline(text, _) => match text.push_str(string) {
                 Ok(()) => Ok(()),
-                Err(_) => self.promote_appending(string),
+                Err(_) => self.promote_and_append(string),
             },
         }
     }
@@ -222,7 +74,7 @@ impl<const N: usize> StringExt for InlinableStringN<N> {
                 Ok(()) => Ok(()),
                 Err(_) => {
                     let mut buffer = [0; 4];
-                    self.promote(idx, ch.encode_utf8(&mut buffer), 0)
+                    self.promote_and_insert(idx, ch.encode_utf8(&mut buffer), 0)
                 }
             },
         }
@@ -234,7 +86,7 @@ impl<const N: usize> StringExt for InlinableStringN<N> {
             InlinableStringN::Heap(text, _) => StringExt::insert_str(text, idx, string),
             InlinableStringN::Inline(text, _) => match text.insert_str(idx, string) {
                 Ok(()) => Ok(()),
-                Err(_) => self.promote(idx, string, 0),
+                Err(_) => self.promote_and_insert(idx, string, 0),
             },
         }
     }
@@ -248,7 +100,7 @@ impl<const N: usize> StringExt for InlinableStringN<N> {
                 if additional <= N - len {
                     return Ok(());
                 }
-                self.promote(len, "", additional)
+                self.promote_and_insert(len, "", additional)
             }
         }
     }
@@ -262,7 +114,7 @@ impl<const N: usize> StringExt for InlinableStringN<N> {
                 if additional <= N - len {
                     return Ok(());
                 }
-                self.promote(len, "", additional)
+                self.promote_and_insert(len, "", additional)
             }
         }
     }
@@ -291,6 +143,8 @@ impl<const N: usize> StringExt for InlinableStringN<N> {
         }
     }
 
+    // No `#[inline]`: with `String`'s `pop` out of line, a loop of pops would test the storage each
+    // time.
     fn pop(&mut self) -> Option<char> {
         match self {
             InlinableStringN::Heap(text, _) => StringExt::pop(text),
@@ -359,7 +213,37 @@ impl<const N: usize> StringExt for InlinableStringN<N> {
     }
 }
 
-/// The copy lies where the text does, and inline it is not refused.
+impl<const N: usize> InlinableStringN<N> {
+    /// `push` of any character, wherever the text lies and its room is. Out of line, so that a push
+    /// of an ASCII character behind an inline text pays nothing for it.
+    #[cold]
+    #[inline(never)]
+    fn push_general(&mut self, ch: char) -> Result<(), AllocError>
+        ensures text { OnOk result ((inlinable_state N self.new).text
+            ≡ (inlinable_state N self.old).text ++ ch ∷ []) }
+        ensures len { OnOk result (size (inlinable_state N self.new).text
+            ≡ size (inlinable_state N self.old).text + size (ch ∷ [])) }
+        ensures char_len { size (ch ∷ []) ≤ 4 }
+        ensures storage { OnOk result ((inlinable_state N self.new).storage
+            ≡ storage_with_room (inlinable_state N self.old) (size (ch ∷ []))) }
+        ensures err { OnErr result
+            (IsSameText (inlinable_state N self.old) (inlinable_state N self.new)) }
+
+        // What fits is not refused, and no room is lost.
+        ensures granted { HasRoom (inlinable_state N self.old) (size (ch ∷ [])) → IsOk result }
+        ensures inline_granted { HasInlineRoom (inlinable_state N self.old) (size (ch ∷ []))
+            → IsOk result }
+        ensures room { OnOk result
+            ((inlinable_state N self.old).capacity ≤ (inlinable_state N self.new).capacity) }
+        ensures policy { (inlinable_state N self.new).policy
+            ≡ (inlinable_state N self.old).policy }
+    {
+        let mut buffer = [0; 4];
+        self.push_str(ch.encode_utf8(&mut buffer))
+    }
+}
+
+/// The copy is stored as the text is. Copying an inline text cannot fail.
 impl<const N: usize> Clone for InlinableStringN<N> {
     ghost use Rattle.inlinable_string.specs.declared.string_ext.Storage.TheVariants.{Inline};
 
@@ -370,7 +254,7 @@ impl<const N: usize> Clone for InlinableStringN<N> {
     #[inline]
     fn clone(&self) -> Result<Self, AllocError> {
         match self {
-            InlinableStringN::Heap(text, alloc) => Self::copy_on_heap(*alloc, text),
+            InlinableStringN::Heap(text, alloc) => Self::clone_heap(*alloc, text),
             InlinableStringN::Inline(text, alloc) => {
                 let copy = text.clone()?;
                 Ok(InlinableStringN::Inline(copy, *alloc))

@@ -1,13 +1,12 @@
 //! Texts as JSON strings, and back.
 //!
 //! A [`Value`] is made and looked into; it is read and written as JSON by `serde_json` itself.
-ghost use Rattle.std.specs.Prelude.{◌≡◌, ◌≤◌, ◌<◌, ◌↔◌, ℕ, List, length, Some, None, Err, IfOk, IsOk, IsSomeAnd};
+ghost use Rattle.std.specs.Prelude.{◌≡◌, ◌≤◌, ◌<◌, ◌↔◌, ℕ, List, length, Some, None, Err, IfOk, IsOk, IsSomeAnd, if◌then◌else◌, codes};
 ghost use Rattle.serde_json.specs.Data.{string};
 ghost use Rattle.serde_json.specs.Find.{as_str};
 ghost use Rattle.serde_json.specs.View.{view};
 ghost use Rattle.inlinable_string.specs.Text.{bytes_of, size};
 ghost use Rattle.inlinable_string.specs.State.{storage_when_made};
-ghost use Rattle.inlinable_string.specs.Errors.{json_message};
 ghost use Rattle.inlinable_string.specs.Values.{inlinable_policy, inlinable_state};
 ghost use Rattle.inlinable_string.specs.declared.inline_json.JsonError.TheVariants.{NoMemory};
 
@@ -17,8 +16,6 @@ use serde_json::Value;
 use std::alloc::{AllocError, Global};
 use std::error::Error;
 use std::fmt;
-
-pub mod laws;
 
 /// Why a JSON value did not become a text.
 #[derive(Clone, Copy, Debug, PartialEq, Eq)]
@@ -40,7 +37,8 @@ impl From<AllocError> for JsonError {
 }
 
 impl fmt::Display for JsonError {
-    ghost output = { λ error. Some (json_message error) };
+    ghost output = { λ error. Some (if ⟦<JsonError as PartialEq>⟧.eq error NoMemory
+        then codes "there is no memory" else codes "the JSON value is not a string") };
 
     fn fmt<W: fmt::Write>(&self, f: &mut fmt::Formatter<W>) -> fmt::Result {
         match self {

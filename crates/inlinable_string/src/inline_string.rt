@@ -2,13 +2,13 @@
 //!
 //! Use [`InlineStringN`] where no text is longer than the limit, or where a longer one is to be
 //! refused; where a longer one is to be kept, use [`crate::InlinableStringN`].
-ghost use Rattle.std.specs.Prelude.{◌≡◌, ⊤, ℕ, ◌+◌, ◌-◌, ◌≤◌, ◌<◌, ◌↔◌, List, ◌++◌, [], ◌∷◌, length, drop, replicate, encode_utf8, IsTrue, true, OnOk, OnErr, Err, Some, MatchOption, MatchResult, IsUtf8, codes};
+ghost use Rattle.std.specs.Prelude.{◌≡◌, ⊤, ℕ, ◌+◌, ◌-◌, ◌≤◌, ◌<◌, ◌↔◌, List, ◌++◌, [], ◌∷◌, length, drop, replicate, encode_utf8, IsTrue, true, OnOk, OnErr, Err, Some, MatchOption, MatchResult, IsUtf8, if◌then◌else◌, codes};
 ghost use Rattle.std.specs.Bool.{OnTrue, OnFalse};
 ghost use Rattle.std.specs.Str.{all_scalars, chars, IsCharBoundary};
 ghost use Rattle.inlinable_string.specs.Text.{bytes_of, size, IsCut, IsPlace, IsSplice, IsRemoval};
-ghost use Rattle.inlinable_string.specs.Errors.{replacement_message};
 
 use crate::cells::{insert_byte, insert_in, remove_in, write_at, write_front};
+use crate::well_formed::text_in;
 use std::alloc::AllocError;
 use std::error::Error;
 use std::marker::Model;
@@ -20,13 +20,13 @@ mod printed;
 #[cfg(test)]
 mod tests;
 
-/// How many bytes an [`InlineString`] has at most, as in the crate `inlinable_string`.
+/// The capacity of an [`InlineString`] in bytes, as in the crate `inlinable_string`.
 pub const INLINE_STRING_CAPACITY: usize = 30;
 
 /// An [`InlineStringN`] of 30 bytes, the capacity of the Rust crate.
 pub type InlineString = InlineStringN<INLINE_STRING_CAPACITY>;
 
-/// The text would have more bytes than its limit. It was left as it was.
+/// The result would exceed the capacity. The text is unchanged.
 #[derive(Clone, Copy, Debug, PartialEq, Eq)]
 pub struct NotEnoughSpaceError;
 
@@ -40,19 +40,23 @@ impl fmt::Display for NotEnoughSpaceError {
     }
 }
 
-/// Why bytes did not take the place of a text's. It was left as it was.
+/// Why `replace_bytes` failed. The text is unchanged.
 #[derive(Clone, Copy, Debug, PartialEq, Eq)]
 pub enum ReplaceError {
-    /// They are not as many as those of the text.
+    /// The lengths differ.
     WrongLength,
-    /// They are not UTF-8.
+    /// The bytes are not UTF-8.
     NotUtf8,
 }
 
 impl Error for ReplaceError {}
 
 impl fmt::Display for ReplaceError {
-    ghost output = { λ error. Some (replacement_message error) };
+    ghost use Rattle.inlinable_string.specs.declared.inline_string.ReplaceError.TheVariants.{NotUtf8};
+
+    ghost output = { λ error. Some (if ⟦<ReplaceError as PartialEq>⟧.eq error NotUtf8
+        then codes "the bytes are not UTF-8"
+        else codes "the bytes are not as many as the text's") };
 
     fn fmt<W: fmt::Write>(&self, f: &mut fmt::Formatter<W>) -> fmt::Result {
         match self {
@@ -62,8 +66,8 @@ impl fmt::Display for ReplaceError {
     }
 }
 
-/// An owned text whose UTF-8 lies in `N` bytes of the value, so that no call asks for memory. A
-/// contract sees the list of its characters.
+/// A UTF-8 string of at most `N` bytes, stored in the value itself. No method allocates. A contract
+/// sees the list of its characters.
 // The text is the `len` bytes from `start` on, so that an edit near the front moves few bytes.
 // `len` comes second, as in std's `String`, so that an `InlinableStringN` has it in one place.
 #[derive(Drop)]
@@ -86,7 +90,7 @@ impl<const N: usize> Model for InlineStringN<N> {
 }
 
 impl<const N: usize> InlineStringN<N> {
-    /// The empty text.
+    /// Returns the empty text.
     #[inline]
     pub fn new() -> Self
         ensures { result ≡ [] }
@@ -122,16 +126,16 @@ impl<const N: usize> InlineStringN<N> {
         ensures char_len { size (ch ∷ []) ≤ 4 }
         ensures err { OnErr result (self.new ≡ self.old) }
     {
-        if self.push_behind(ch) {
+        if self.try_push_ascii(ch) {
             return Ok(());
         }
-        self.push_slowly(ch)
+        self.push_general(ch)
     }
 
-    /// Appends `ch` where it is ASCII and there is room behind the text: the usual push, in which
-    /// nothing moves. Else the answer is false, and nothing has changed.
+    /// Appends `ch` if it is ASCII and there is room after the text: the usual push, in which
+    /// nothing moves. Else returns false and changes nothing.
     #[inline]
-    pub(crate) fn push_behind(&mut self, ch: char) -> bool
+    pub(crate) fn try_push_ascii(&mut self, ch: char) -> bool
         ensures fits { OnTrue result (size self.old + size (ch ∷ []) ≤ N) }
         ensures pushed { OnTrue result (self.new ≡ self.old ++ ch ∷ []) }
         ensures len { OnTrue result (size self.new ≡ size self.old + size (ch ∷ [])) }
@@ -150,11 +154,11 @@ impl<const N: usize> InlineStringN<N> {
         false
     }
 
-    /// [`InlineStringN::push`] of any character, wherever its room is. Out of line, so that a push
-    /// of an ASCII character behind the text pays nothing for it.
+    /// [`InlineStringN::push`] of any character, before or after the text. Out of line, to keep the
+    /// push of an ASCII character after the text small.
     #[cold]
     #[inline(never)]
-    fn push_slowly(&mut self, ch: char) -> Result<(), NotEnoughSpaceError>
+    fn push_general(&mut self, ch: char) -> Result<(), NotEnoughSpaceError>
         ensures fits { MatchResult result
             (λ _. size self.old + size (ch ∷ []) ≤ N)
             (λ _. N < size self.old + size (ch ∷ [])) }
@@ -180,7 +184,7 @@ impl<const N: usize> InlineStringN<N> {
     {
         let len = self.len;
         let end = self.start + len;
-        // The usual case by itself, and first: there is room behind the text, and nothing moves.
+        // The usual case by itself, and first: there is room after the text, and nothing moves.
         if string.len() <= N - end {
             let new_len = len + string.len();
             write_at(&mut self.bytes[..], end, string.as_bytes());
@@ -210,7 +214,7 @@ impl<const N: usize> InlineStringN<N> {
         ensures char_len { size (ch ∷ []) ≤ 4 }
         ensures err { OnErr result (self.new ≡ self.old) }
 
-        // What was put in ends at a place.
+        // What was inserted ends at a character boundary.
         ensures within { idx ≤ size self.old }
         ensures behind { OnOk result (IsPlace self.new (idx + size (ch ∷ []))) }
     {
@@ -239,7 +243,7 @@ impl<const N: usize> InlineStringN<N> {
         ensures len { OnOk result (size self.new ≡ size self.old + length string.now) }
         ensures err { OnErr result (self.new ≡ self.old) }
 
-        // What was put in ends at a place.
+        // What was inserted ends at a character boundary.
         ensures within { idx ≤ size self.old }
         ensures behind { OnOk result (IsPlace self.new (idx + length string.now)) }
     {
@@ -272,7 +276,7 @@ impl<const N: usize> InlineStringN<N> {
         self.len = new_len;
     }
 
-    /// Removes and returns the last character; `None` where the text is empty.
+    /// Removes and returns the last character; `None` if the text is empty.
     pub fn pop(&mut self) -> Option<char>
         ensures text { MatchOption result
             ((self.old ≡ []) × (self.new ≡ []))
@@ -314,8 +318,8 @@ impl<const N: usize> InlineStringN<N> {
         self.len = 0;
     }
 
-    /// Overwrites the text with `bytes`, which must be as many as the text has, and UTF-8. Their
-    /// number is tested first. A refusal changes nothing.
+    /// Overwrites the text with `bytes`, which must have its length and be UTF-8. The length is
+    /// tested first. An error changes nothing.
     pub fn replace_bytes(&mut self, bytes: &[u8]) -> Result<(), ReplaceError>
         ensures ok { OnOk result (bytes_of self.new ≡ bytes.now) }
         ensures err { OnErr result (self.new ≡ self.old) }
@@ -331,14 +335,14 @@ impl<const N: usize> InlineStringN<N> {
         if bytes.len() != self.len {
             return Err(ReplaceError::WrongLength);
         }
-        let Ok(string) = str::from_utf8(bytes) else {
+        let Some(string) = text_in(bytes) else {
             return Err(ReplaceError::NotUtf8);
         };
         write_at(&mut self.bytes[..], self.start, string.as_bytes());
         Ok(())
     }
 
-    /// How many bytes the text has.
+    /// Returns the length in bytes.
     #[inline]
     pub fn len(&self) -> usize
         ensures value { result ≡ size self.now }
@@ -348,7 +352,7 @@ impl<const N: usize> InlineStringN<N> {
         self.len
     }
 
-    /// Whether the text has no character.
+    /// Returns whether the text is empty.
     #[inline]
     pub fn is_empty(&self) -> bool
         ensures text { IsTrue result ↔ (self.now ≡ []) }
@@ -357,9 +361,9 @@ impl<const N: usize> InlineStringN<N> {
         self.len() == 0
     }
 
-    /// Whether byte `idx` is a character boundary of the text: 0, its length, or the first byte of
-    /// a character. It is the test for the condition of `insert`, `insert_str`, `truncate`, and
-    /// where `idx < len()` of `remove`.
+    /// Returns whether byte `idx` is a character boundary of the text: 0, its length, or the first
+    /// byte of a character. Use it to establish the precondition of `insert`, `insert_str` and
+    /// `truncate`; `remove` also needs `idx < len()`.
     #[inline]
     pub fn is_char_boundary(&self, idx: usize) -> bool
         ensures { IsTrue result ↔ IsPlace self.now idx }
@@ -367,7 +371,7 @@ impl<const N: usize> InlineStringN<N> {
         self.as_str().is_char_boundary(idx)
     }
 
-    /// The UTF-8 bytes of the text.
+    /// Returns the UTF-8 bytes of the text.
     #[inline]
     pub fn as_bytes(&self) -> &[u8]
         ensures value { result.now ≡ bytes_of self.now }
@@ -385,7 +389,7 @@ impl<const N: usize> InlineStringN<N> {
         bytes
     }
 
-    /// The text as a `str`. Its character boundaries are those of the text.
+    /// Returns the text as a `str`. Its character boundaries are those of the text.
     #[inline]
     pub fn as_str(&self) -> &str
         ensures value { result.now ≡ bytes_of self.now }

@@ -1,22 +1,50 @@
-//! Laws of places, sizes and values, for callers: a call of one, which does nothing, makes its
-//! clauses known to the proof of the function that calls it.
-ghost use Rattle.std.specs.Prelude.{◌≡◌, ◌↔◌, Some, IsSome, codes, ℕ, ◌+◌, ◌≤◌, List, ◌++◌, [], ◌∷◌, length, take, drop, IsUtf8};
+//! Lemmas: calling one does nothing at run time, but its clauses are then known in the caller's
+//! proof. Those of this file are on places and sizes.
+ghost use Rattle.std.specs.Prelude.{◌≡◌, ◌↔◌, Some, IsSome, ℕ, ◌+◌, ◌≤◌, List, ◌++◌, [], ◌∷◌, length, take, drop, IsUtf8};
 ghost use Rattle.std.specs.Char.{encode_utf8};
 ghost use Rattle.std.specs.Str.{chars, IsCharBoundary};
 ghost use Rattle.inlinable_string.specs.Text.{bytes_of, size, cut, IsCut, IsPlace, IsSplice, IsRemoval};
 ghost use Rattle.inlinable_string.specs.Values.{inlinable_state};
 
 use crate::inlinable_string::InlinableStringN;
-use crate::inline_string::{InlineStringN, NotEnoughSpaceError, ReplaceError};
+use crate::inline_string::InlineStringN;
 use crate::string_ext::Storage;
 use std::alloc::Global;
 use std::default::{Emptied, MadeWith};
-use std::fmt;
 
-pub mod borrowed;
-pub mod compared;
-pub mod conversions;
-pub mod printed;
+mod borrowed;
+mod compared;
+mod conversions;
+mod encodings;
+mod json;
+mod printed;
+mod runs;
+
+pub use borrowed::{
+    items_are_joined, loops_go_over_the_text, strings_that_fit_are_added, texts_lend_their_bytes,
+};
+pub use compared::{
+    copies_are_alike, equality_is_that_of_texts, hashes_are_those_of_the_str,
+    order_is_that_of_the_bytes,
+};
+pub use conversions::{
+    alloc_errors_are_no_memory, boxed_as_it_is, conversions_succeed_where_it_fits,
+};
+pub use encodings::{
+    bytes_give_the_text_back, lossy_reading_is_by_parts, paired_units_are_texts,
+    subparts_are_maximal, utf16_is_read_as_it_is,
+};
+pub use json::json_gives_the_text_back;
+pub use printed::{printing_is_that_of_the_str, writing_appends};
+pub use runs::{
+    a_second_run_goes_on, cut_decides_places, each_reply_is_legal_in_its_turn,
+    each_text_has_its_own_run, edits_are_done_at_places, growths_add_their_bytes,
+    insertions_are_splices, outcomes_are_told_by_reply_and_text, pop_takes_off_the_last_character,
+    refusals_change_nothing, refusals_determine_the_run, remove_is_a_removal, remove_undoes_insert,
+    replacement_has_the_bytes, reserved_pushes_never_fail, runs_join, short_runs_are_edits,
+    short_runs_are_short_at_each_command, short_runs_never_ask, texts_are_told_by_their_bytes,
+    truncations_are_cuts, unrefused_runs_are_edits,
+};
 
 /// A place is at most the length, and a boundary of the bytes.
 pub fn places_are_boundaries()
@@ -86,14 +114,10 @@ pub fn sizes_of_parts()
     ensures string { (bs : List ℕ) → IsUtf8 bs → size (chars bs) ≡ length bs }
 {}
 
-/// `Default` makes the empty text.
-pub fn default_is_the_empty_text<const N: usize>()
-    ensures { (text : List ℕ)
+/// `Default`, `or_default` of a map, and `mem::try_take` leave the empty text, stored inline.
+pub fn default_texts_are_empty<const N: usize>()
+    ensures default { (text : List ℕ)
         → ⟦<InlineStringN<N> as Default>⟧.is_default text ↔ (text ≡ []) }
-{}
-
-/// `or_default` of a map puts in the empty text, and `mem::try_take` leaves it, inline.
-pub fn empty_texts_lie_inline<const N: usize>()
     ensures made { (text : InlinableStringN N)
         → ⟦<InlinableStringN<N> as MadeWith<Global>>⟧.is_made_with text
         ↔ (((inlinable_state N text).text ≡ [])
@@ -102,15 +126,4 @@ pub fn empty_texts_lie_inline<const N: usize>()
         → ⟦<InlinableStringN<N> as Emptied>⟧.is_emptied text
         ↔ (((inlinable_state N text).text ≡ [])
         × ((inlinable_state N text).storage ≡ Storage.Inline)) }
-{}
-
-/// What the errors print.
-pub fn errors_print_their_reason()
-    ensures full { (error : NotEnoughSpaceError)
-        → ⟦<NotEnoughSpaceError as fmt::Display>⟧.output error
-        ≡ Some (codes "the text does not fit") }
-    ensures wrong_length { ⟦<ReplaceError as fmt::Display>⟧.output ReplaceError.WrongLength
-        ≡ Some (codes "the bytes are not as many as the text's") }
-    ensures not_utf8 { ⟦<ReplaceError as fmt::Display>⟧.output ReplaceError.NotUtf8
-        ≡ Some (codes "the bytes are not UTF-8") }
 {}

@@ -16,6 +16,7 @@ pub mod inline_string;
 pub mod laws;
 pub mod run;
 pub mod string_ext;
+mod well_formed;
 
 pub use boxable_string::BoxableString;
 pub use inlinable_string::{InlinableString, InlinableStringN};

@@ -1,7 +1,7 @@
 //! Lists of commands, each with its reply.
 //!
-//! What they do to a text is a function of a list of characters, of a table that says where the
-//! text lies, and of the places at which memory was refused, whatever the text's type.
+//! What they do to a text is a function of a list of characters, of a table that gives its storage,
+//! and of the commands whose allocation failed, whatever the text's type.
 ghost use Rattle.std.specs.Prelude.{◌≡◌, ◌+◌, ◌≤◌, length};
 ghost use Rattle.inlinable_string.specs.Text.{size};
 ghost use Rattle.inlinable_string.specs.State.{IsLawful};
@@ -11,26 +11,18 @@ ghost use Rattle.inlinable_string.specs.Step.{IsStep};
 
 use crate::inline_string::ReplaceError;
 use crate::string_ext::StringExt;
+use bodies::{execute_body, insert_str_body, push_str_body, run_body, step_body};
 
+mod bodies;
+mod dynamic;
 mod each;
-mod laws;
-mod over_dyn;
 
+pub use crate::laws::{reserved_pushes_never_fail, runs_join, short_runs_never_ask};
+pub use dynamic::run_dyn;
 pub use each::run_each;
-pub use laws::{
-    a_second_run_goes_on, bad_places_are_no_places, cut_decides_places,
-    each_reply_is_legal_in_its_turn, each_text_has_its_own_run, edits_are_done_at_places,
-    growths_add_their_bytes, insertions_are_splices, outcomes_are_told_by_reply_and_text,
-    pop_takes_off_the_last_character, refusals_change_nothing, refusals_determine_the_run,
-    remove_is_a_removal, remove_undoes_insert, replacement_has_the_bytes,
-    reserved_pushes_never_fail, runs_join, short_runs_are_edits,
-    short_runs_are_short_at_each_command, short_runs_never_ask, texts_are_told_by_their_bytes,
-    truncations_are_cuts, unrefused_runs_are_edits,
-};
-pub use over_dyn::run_dyn;
 
-/// What can be asked of a text. A place is a byte offset; one that is no character boundary is
-/// answered `BadPlace`.
+/// An edit of a text. A place is a byte offset; the reply to one that is no character boundary is
+/// `BadPlace`.
 #[derive(Clone, Copy)]
 pub enum Command<'a> {
     /// Appends a character.
@@ -49,18 +41,18 @@ pub enum Command<'a> {
     Remove(usize),
     /// Empties the text.
     Clear,
-    /// Overwrites the text with bytes, which must be as many as it has, and UTF-8.
+    /// Overwrites the text with bytes, which must have its length and be UTF-8.
     ReplaceBytes(&'a [u8]),
-    /// Makes room for so many bytes more.
+    /// Reserves capacity for at least `n` more bytes.
     Reserve(usize),
-    /// Makes room for so many bytes more, and for no others where that can be helped.
+    /// Reserves the minimum capacity for `n` more bytes.
     ReserveExact(usize),
-    /// Gives back room that the text does not need.
+    /// Shrinks the capacity.
     ShrinkToFit,
 }
 
-/// What is answered to a command. Every reply but `Done` and `Char` leaves the text and its
-/// storage as they were.
+/// The reply to a command. With every reply except `Done` and `Char`, the text and its storage are
+/// unchanged.
 #[derive(Clone, Copy, Debug, PartialEq, Eq)]
 pub enum Reply {
     /// The command was carried out.
@@ -71,98 +63,28 @@ pub enum Reply {
     NoChar,
     /// The place is inside a character or past the end, or no character begins there.
     BadPlace,
-    /// The bytes are as many as those of the text, but are not UTF-8.
+    /// The bytes have the text's length, but are not UTF-8.
     NotUtf8,
-    /// The bytes are not as many as those of the text.
+    /// The lengths differ.
     WrongLength,
-    /// Memory was refused.
+    /// The allocation failed.
     NoMemory,
 }
 
-/// What a command does to a text, of a type of its own or behind a `dyn`. A place is tested before
-/// anything that can ask for memory. Two arms go by functions, since a `&str` out of a variant is
-/// known to be text only as an argument.
-macro_rules! reply_to_command {
-    ($text:ident, $command:ident, $push_str:ident, $insert_str:ident) => {
-        match $command {
-            Command::Push(ch) => match $text.push(ch) {
-                Ok(()) => Reply::Done,
-                Err(_) => Reply::NoMemory,
-            },
-            Command::PushStr(string) => $push_str($text, string),
-            Command::Insert(idx, ch) => {
-                if $text.is_char_boundary(idx) {
-                    match $text.insert(idx, ch) {
-                        Ok(()) => Reply::Done,
-                        Err(_) => Reply::NoMemory,
-                    }
-                } else {
-                    Reply::BadPlace
-                }
-            }
-            Command::InsertStr(idx, string) => $insert_str($text, idx, string),
-            Command::Truncate(new_len) => {
-                if $text.is_char_boundary(new_len) {
-                    $text.truncate(new_len);
-                    Reply::Done
-                } else {
-                    Reply::BadPlace
-                }
-            }
-            Command::Pop => match $text.pop() {
-                Some(last) => Reply::Char(last),
-                None => Reply::NoChar,
-            },
-            Command::Remove(idx) => {
-                if !$text.is_char_boundary(idx) {
-                    Reply::BadPlace
-                } else if idx < $text.len() {
-                    Reply::Char($text.remove(idx))
-                } else {
-                    Reply::BadPlace
-                }
-            }
-            Command::Clear => {
-                $text.clear();
-                Reply::Done
-            }
-            Command::ReplaceBytes(bytes) => match $text.replace_bytes(bytes) {
-                Ok(()) => Reply::Done,
-                Err(ReplaceError::WrongLength) => Reply::WrongLength,
-                Err(ReplaceError::NotUtf8) => Reply::NotUtf8,
-            },
-            Command::Reserve(additional) => match $text.reserve(additional) {
-                Ok(()) => Reply::Done,
-                Err(_) => Reply::NoMemory,
-            },
-            Command::ReserveExact(additional) => match $text.reserve_exact(additional) {
-                Ok(()) => Reply::Done,
-                Err(_) => Reply::NoMemory,
-            },
-            Command::ShrinkToFit => match $text.shrink_to_fit() {
-                Ok(()) => Reply::Done,
-                Err(_) => Reply::NoMemory,
-            },
-        }
-    };
-}
-
-pub(crate) use reply_to_command;
-
-/// Gives each command in turn to the text, and writes the reply to each, in the same order.
+/// Executes each command in turn, and writes the reply to each, in the same order.
 ///
-/// A command that is refused leaves the text as it was, and the commands after it are given all
-/// the same. It takes no memory of its own. The slices must have the same length.
+/// A refused command changes nothing, and the run continues. `run` itself never allocates. The
+/// slices must have the same length.
 pub fn run<S: StringExt>(text: &mut S, commands: &[Command], replies: &mut [Reply])
     requires { length replies.old ≡ length commands.now }
 
-    // The text is that of one list of characters, and lies where the placement table says.
+    // The text is that of one list of characters, stored where the placement table says.
     ensures text { (S.state text.new).text
         ≡ text_after (S.state text.old).text commands.now replies.new }
     ensures storage { (S.state text.new).storage
         ≡ storage_after (S.state text.old) commands.now replies.new }
 
-    // Each reply is that of `edit`, or want of memory to a command that is not free of it.
+    // Each reply is that of `edit`, or `NoMemory`, to a command that may allocate.
     ensures replies { LegalReplies (S.state text.old) commands.now replies.new }
 
     // A next run starts with no less credit than this one ended with.
@@ -171,38 +93,30 @@ pub fn run<S: StringExt>(text: &mut S, commands: &[Command], replies: &mut [Repl
         ≤ (S.state text.new).capacity }
     ensures policy { (S.state text.new).policy ≡ (S.state text.old).policy }
 {
-    let _ = text.len();
-    for (i, command) in commands.iter().enumerate() {
-        replies[i] = step(text, *command);
-    }
+    run_body!(text, commands, replies, step)
 }
 
-/// Gives one command.
+/// Executes one command.
 fn step<S: StringExt>(text: &mut S, command: Command) -> Reply
     ensures { IsStep (S.state text.old) command.entry result (S.state text.new) }
 {
-    let reply = reply_to(text, command);
-    // The laws of the text as it is now.
-    let _ = text.len();
-    reply
+    step_body!(text, command, execute)
 }
 
-/// Gives one command; that the text is lawful after it is left to the caller.
-fn reply_to<S: StringExt>(text: &mut S, command: Command) -> Reply
+/// Executes one command. The caller shows that the new state is lawful.
+#[tactic(auto, using(crate::proofs::Steps::outcomes))]
+fn execute<S: StringExt>(text: &mut S, command: Command) -> Reply
     ensures { IsLawful (S.state text.new)
         → IsStep (S.state text.old) command.entry result (S.state text.new) }
 {
-    reply_to_command!(text, command, push_str, insert_str)
+    execute_body!(text, command, push_str, insert_str)
 }
 
 fn push_str<S: StringExt>(text: &mut S, string: &str) -> Reply
     ensures { IsLawful (S.state text.new)
         → IsStep (S.state text.old) (Command.PushStr string.entry) result (S.state text.new) }
 {
-    match text.push_str(string) {
-        Ok(()) => Reply::Done,
-        Err(_) => Reply::NoMemory,
-    }
+    push_str_body!(text, string)
 }
 
 fn insert_str<S: StringExt>(text: &mut S, idx: usize, string: &str) -> Reply
@@ -210,12 +124,5 @@ fn insert_str<S: StringExt>(text: &mut S, idx: usize, string: &str) -> Reply
         → IsStep (S.state text.old) (Command.InsertStr idx string.entry) result
         (S.state text.new) }
 {
-    if text.is_char_boundary(idx) {
-        match text.insert_str(idx, string) {
-            Ok(()) => Reply::Done,
-            Err(_) => Reply::NoMemory,
-        }
-    } else {
-        Reply::BadPlace
-    }
+    insert_str_body!(text, idx, string)
 }

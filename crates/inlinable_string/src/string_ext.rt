@@ -8,7 +8,6 @@ ghost use Rattle.inlinable_string.specs.State.{TextState, IsLawful, IsSameText, 
 use crate::inline_string::ReplaceError;
 use std::alloc::{AllocError, Global};
 
-pub mod laws;
 mod make;
 mod std_string;
 mod utf16;
@@ -16,26 +15,26 @@ mod utf8;
 
 pub use make::{StringMake, Utf16Error};
 
-/// Where the bytes of a text lie.
+/// Where the bytes of a text are stored.
 #[derive(Clone, Copy, Debug, PartialEq, Eq)]
 pub enum Storage {
     /// In the value itself.
     Inline,
-    /// In memory that was asked for.
+    /// In an allocation.
     Heap,
 }
 
-/// A text that can be edited, wherever it lies. Lengths and places are in bytes.
+/// A text that can be edited, inline or on the heap. Lengths and indices are in bytes.
 ///
-/// An `AllocError` is an answer for want of memory, and leaves the text and its storage as they
-/// were. Growths promise no more than std's `String` does, but for those that fit the room at hand.
+/// `AllocError` means that an allocation failed; the text and its storage are unchanged. A growing
+/// method may fail wherever `String`'s would, except when the result fits in the current capacity.
 pub trait StringExt {
     /// What a contract sees of the value.
     ghost state: { Self → TextState };
 
     /// Appends `ch`.
     ///
-    /// It is not refused where the text has room for it, be it on the heap or inline.
+    /// Cannot fail if the capacity suffices, inline or on the heap.
     fn push(&mut self, ch: char) -> Result<(), AllocError>
         ensures text { OnOk result
             ((state self.new).text ≡ (state self.old).text ++ ch ∷ []) }
@@ -46,7 +45,7 @@ pub trait StringExt {
             ((state self.new).storage ≡ storage_with_room (state self.old) (size (ch ∷ []))) }
         ensures err { OnErr result (IsSameText (state self.old) (state self.new)) }
 
-        // What fits is not refused, and no room is lost.
+        // What fits cannot fail, and the capacity does not shrink.
         ensures granted { HasRoom (state self.old) (size (ch ∷ [])) → IsOk result }
         ensures inline_granted { HasInlineRoom (state self.old) (size (ch ∷ [])) → IsOk result }
         ensures room { OnOk result ((state self.old).capacity ≤ (state self.new).capacity) }
@@ -54,7 +53,7 @@ pub trait StringExt {
 
     /// Appends `string`.
     ///
-    /// It is not refused where the text has room for it, be it on the heap or inline.
+    /// Cannot fail if the capacity suffices, inline or on the heap.
     fn push_str(&mut self, string: &str) -> Result<(), AllocError>
         ensures text { OnOk result
             ((state self.new).text ≡ (state self.old).text ++ chars string.now) }
@@ -64,7 +63,7 @@ pub trait StringExt {
             ((state self.new).storage ≡ storage_with_room (state self.old) (length string.now)) }
         ensures err { OnErr result (IsSameText (state self.old) (state self.new)) }
 
-        // What fits is not refused, and no room is lost.
+        // What fits cannot fail, and the capacity does not shrink.
         ensures granted { HasRoom (state self.old) (length string.now) → IsOk result }
         ensures inline_granted { HasInlineRoom (state self.old) (length string.now) → IsOk result }
         ensures room { OnOk result ((state self.old).capacity ≤ (state self.new).capacity) }
@@ -73,7 +72,7 @@ pub trait StringExt {
     /// Inserts `ch` at byte `idx`, which must be a character boundary of the text
     /// (`is_char_boundary`).
     ///
-    /// It is not refused where the text lies inline and the result has room there.
+    /// Cannot fail if the text is stored inline and the result fits there.
     fn insert(&mut self, idx: usize, ch: char) -> Result<(), AllocError>
         requires { IsPlace (state self.old).text idx }
         ensures text { OnOk result
@@ -87,14 +86,14 @@ pub trait StringExt {
         ensures inline_granted { HasInlineRoom (state self.old) (size (ch ∷ [])) → IsOk result }
         ensures policy { (state self.new).policy ≡ (state self.old).policy }
 
-        // What was put in ends at a place.
+        // What was inserted ends at a character boundary.
         ensures within { idx ≤ size (state self.old).text }
         ensures behind { OnOk result (IsPlace (state self.new).text (idx + size (ch ∷ []))) };
 
     /// Inserts `string` at byte `idx`, which must be a character boundary of the text
     /// (`is_char_boundary`).
     ///
-    /// It is not refused where the text lies inline and the result has room there.
+    /// Cannot fail if the text is stored inline and the result fits there.
     fn insert_str(&mut self, idx: usize, string: &str) -> Result<(), AllocError>
         requires { IsPlace (state self.old).text idx }
         ensures text { OnOk result
@@ -107,14 +106,14 @@ pub trait StringExt {
         ensures inline_granted { HasInlineRoom (state self.old) (length string.now) → IsOk result }
         ensures policy { (state self.new).policy ≡ (state self.old).policy }
 
-        // What was put in ends at a place.
+        // What was inserted ends at a character boundary.
         ensures within { idx ≤ size (state self.old).text }
         ensures behind { OnOk result (IsPlace (state self.new).text (idx + length string.now)) };
 
-    /// Makes room for `additional` bytes more than the text has, and perhaps for others.
+    /// Reserves capacity for at least `additional` more bytes. May reserve more.
     ///
-    /// Pushes directly after it that add at most as many together are not refused. A text that
-    /// would not fit inline with them goes to the heap. A sum past `usize::MAX` is want of memory.
+    /// Pushes directly after it that add at most `additional` bytes together cannot fail. A text
+    /// that would not fit inline with them moves to the heap. `AllocError` on capacity overflow.
     fn reserve(&mut self, additional: usize) -> Result<(), AllocError>
         ensures text { (state self.new).text ≡ (state self.old).text }
         ensures storage { OnOk result
@@ -124,8 +123,7 @@ pub trait StringExt {
         ensures inline_granted { HasInlineRoom (state self.old) additional → IsOk result }
         ensures policy { (state self.new).policy ≡ (state self.old).policy };
 
-    /// Makes room for `additional` bytes more than the text has, as [`StringExt::reserve`] does,
-    /// and for no others where that can be helped.
+    /// Reserves the minimum capacity for `additional` more bytes, else as [`StringExt::reserve`].
     fn reserve_exact(&mut self, additional: usize) -> Result<(), AllocError>
         ensures text { (state self.new).text ≡ (state self.old).text }
         ensures storage { OnOk result
@@ -135,8 +133,8 @@ pub trait StringExt {
         ensures inline_granted { HasInlineRoom (state self.old) additional → IsOk result }
         ensures policy { (state self.new).policy ≡ (state self.old).policy };
 
-    /// Gives back room that the text does not need. A text of at most the limit that lies on the
-    /// heap comes back inline, if its type does that, and is not refused.
+    /// Shrinks the capacity. A heap text of at most `limit` bytes moves back inline if its type
+    /// does that, which cannot fail.
     fn shrink_to_fit(&mut self) -> Result<(), AllocError>
         ensures text { (state self.new).text ≡ (state self.old).text }
         ensures storage { OnOk result
@@ -147,7 +145,7 @@ pub trait StringExt {
         ensures policy { (state self.new).policy ≡ (state self.old).policy };
 
     /// Keeps the first `new_len` bytes. They must end at a character boundary of the text
-    /// (`is_char_boundary`). It stays where it lies.
+    /// (`is_char_boundary`). The storage stays.
     fn truncate(&mut self, new_len: usize)
         requires { IsPlace (state self.old).text new_len }
         ensures text { (rest : List ℕ)
@@ -158,8 +156,7 @@ pub trait StringExt {
         ensures back { (state self.old).text
             ≡ (state self.new).text ++ chars (drop new_len (bytes_of (state self.old).text)) };
 
-    /// Removes and returns the last character; `None` where the text is empty. It stays where it
-    /// lies.
+    /// Removes and returns the last character; `None` if the text is empty. The storage stays.
     fn pop(&mut self) -> Option<char>
         ensures text { MatchOption result
             (((state self.old).text ≡ []) × ((state self.new).text ≡ []))
@@ -171,7 +168,7 @@ pub trait StringExt {
         ensures policy { (state self.new).policy ≡ (state self.old).policy };
 
     /// Removes and returns the character that begins at byte `idx`, which must be a character
-    /// boundary of the text before its end. It stays where it lies.
+    /// boundary of the text before its end. The storage stays.
     fn remove(&mut self, idx: usize) -> char
         requires place { IsPlace (state self.old).text idx }
         requires below { idx < size (state self.old).text }
@@ -190,9 +187,8 @@ pub trait StringExt {
         self.truncate(0);
     }
 
-    /// Overwrites the text with `bytes`, which must be as many as the text has, and UTF-8. Their
-    /// number is tested first. A refusal changes nothing. It takes no memory, and the text stays
-    /// where it lies.
+    /// Overwrites the text with `bytes`, which must have its length and be UTF-8. The length is
+    /// tested first. An error changes nothing. Does not allocate, and the storage stays.
     fn replace_bytes(&mut self, bytes: &[u8]) -> Result<(), ReplaceError>
         ensures text { OnOk result (bytes_of (state self.new).text ≡ bytes.now) }
         ensures err { OnErr result (IsSameText (state self.old) (state self.new)) }
@@ -207,22 +203,22 @@ pub trait StringExt {
         ensures storage { (state self.new).storage ≡ (state self.old).storage }
         ensures policy { (state self.new).policy ≡ (state self.old).policy };
 
-    /// How many bytes have room where the text lies, its own included.
+    /// Returns the capacity in bytes.
     fn capacity(&self) -> usize
         ensures value { result ≡ (state self.now).capacity }
         ensures laws { IsLawful (state self.now) };
 
-    /// Where the text lies.
+    /// Returns where the bytes are stored.
     fn storage(&self) -> Storage
         ensures value { result ≡ (state self.now).storage }
         ensures laws { IsLawful (state self.now) };
 
-    /// How many bytes the text has.
+    /// Returns the length in bytes.
     fn len(&self) -> usize
         ensures value { result ≡ size (state self.now).text }
         ensures laws { IsLawful (state self.now) };
 
-    /// Whether the text has no character.
+    /// Returns whether the text is empty.
     fn is_empty(&self) -> bool
         ensures text { IsTrue result ↔ ((state self.now).text ≡ []) }
         ensures len { IsTrue result ↔ (size (state self.now).text ≡ 0) }
@@ -230,27 +226,27 @@ pub trait StringExt {
         self.len() == 0
     }
 
-    /// Whether byte `idx` is a character boundary of the text: 0, its length, or the first byte of
-    /// a character. It is the test for the condition of `insert`, `insert_str`, `truncate`, and
-    /// where `idx < len()` of `remove`.
+    /// Returns whether byte `idx` is a character boundary of the text: 0, its length, or the first
+    /// byte of a character. Use it to establish the precondition of `insert`, `insert_str` and
+    /// `truncate`; `remove` also needs `idx < len()`.
     fn is_char_boundary(&self, idx: usize) -> bool
         ensures { IsTrue result ↔ IsPlace (state self.now).text idx }
     {
         self.as_str().is_char_boundary(idx)
     }
 
-    /// Whether the text is `string`.
+    /// Returns whether the text is `string`.
     fn eq_str(&self, string: &str) -> bool
         ensures { IsTrue result ↔ (bytes_of (state self.now).text ≡ string.now) }
     {
         self.as_str() == string
     }
 
-    /// The UTF-8 bytes of the text.
+    /// Returns the UTF-8 bytes of the text.
     fn as_bytes(&self) -> &[u8]
         ensures { result.now ≡ bytes_of (state self.now).text };
 
-    /// The text as a `str`. Its character boundaries are those of the text.
+    /// Returns the text as a `str`. Its character boundaries are those of the text.
     fn as_str(&self) -> &str
         ensures bytes { result.now ≡ bytes_of (state self.now).text }
         ensures text { chars result.now ≡ (state self.now).text }

@@ -1,10 +1,9 @@
 -- The states and the commands of the worked rows.
 use Rattle.std.specs.Prelude.{ℕ, List, [], ◌∷◌, true, false}
-use Rattle.std.specs.Borrow.{Bor}
 use Rattle.inlinable_string.specs.State.{TextState}
 use Rattle.inlinable_string.specs.declared.string_ext.Storage.TheVariants.{Inline, Heap}
 use Rattle.inlinable_string.specs.declared.run.Command.{Command}
-use Rattle.inlinable_string.specs.declared.run.Command.TheVariants.{Push, PushStr, Insert, Truncate, Pop, Remove, Reserve}
+use Rattle.inlinable_string.specs.declared.run.Command.TheVariants.{Push, Insert, Truncate, Pop, Remove, Reserve}
 use Rattle.inlinable_string.specs.declared.run.Reply.{Reply}
 use Rattle.inlinable_string.specs.declared.run.Reply.TheVariants.{Done, Char, BadPlace, NoMemory}
 
@@ -34,15 +33,6 @@ heap_only_text t n = record {
   capacity = n;
   policy = record { demotes = false; limit = 30 };
 }
-
--- three texts put at the end, two places cut at, and the last character taken off
-abbrev pub six_commands : Bor (List ℕ) → Bor (List ℕ) → Bor (List ℕ) → List Command
-six_commands first second third =
-    PushStr first ∷ PushStr second ∷ PushStr third ∷ Truncate 28 ∷ Truncate 27 ∷ Pop ∷ []
-
--- the replies to them, of which the third is given
-abbrev pub six_replies : Reply → List Reply
-six_replies third = Done ∷ Done ∷ third ∷ BadPlace ∷ Done ∷ Char 97 ∷ []
 
 -- room asked for, € put in at 1 and taken out from two places, and room asked for again
 abbrev pub room_commands : List Command

@@ -1,5 +1,5 @@
-//! Tests with each request for memory refused in turn: of calls, and of runs with the plain program
-//! of `inline_model` beside them.
+//! Tests with each request for memory refused in turn: of calls, of runs with the plain program of
+//! `inline_model` beside them, and of scripts.
 #![tactic(auto)]
 
 #[cfg(test)]

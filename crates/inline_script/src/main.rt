@@ -6,15 +6,14 @@
 #[cfg(test)]
 mod memory;
 #[cfg(test)]
-mod refusals;
-#[cfg(test)]
 mod tests;
 
 use script_language::ScriptFault;
+use script_language::arguments::words_of;
 use script_language::script::script;
 use std::env::Env;
+use std::io;
 use std::process::ExitCode;
-use std::{env, io};
 
 fn main(rt: HostRuntime) -> ExitCode {
     match run_program(&rt) {
@@ -36,13 +35,4 @@ fn run_program<R: Env + Input + Print + AllocGlobal>(rt: &R) -> Result<(), Scrip
         &mut rt.reader(),
         &mut io::writer(rt),
     )
-}
-
-/// The arguments, without the program's own name.
-fn words_of<R: Env + AllocGlobal>(rt: &R) -> Result<Vec<String>, ScriptFault> {
-    match env::args(rt) {
-        Ok(words) => Ok(words.skip(1).collect(rt.alloc())?),
-        Err(error) if error.kind() == io::ErrorKind::OutOfMemory => Err(ScriptFault::NoMemory),
-        Err(_) => Err(ScriptFault::BadArgument),
-    }
 }

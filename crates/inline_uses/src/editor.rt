@@ -6,10 +6,10 @@ ghost use Rattle.inline_uses.specs.Editor.{Parts, text_of};
 
 use inlinable_string::InlineStringN;
 use inlinable_string::laws::{
-    cuts_are_at_places, cuts_are_cuts_of_bytes, parts_are_told_by_their_size,
+    cut_decides_places, cuts_are_at_places, cuts_are_cuts_of_bytes, parts_are_told_by_their_size,
     places_are_boundaries, sizes_of_parts, steps_are_over_characters,
 };
-use inlinable_string::run::{Command, cut_decides_places};
+use inlinable_string::run::Command;
 use std::marker::Model;
 
 /// What a key does to the text of a line, a command does at the cursor: so a list of keys is one of

@@ -8,7 +8,7 @@ use Rattle.std.proofs.lemmas.Str.{IsUtf8-encode}
 use Rattle.inlinable_string.proofs.Window.{chars_one}
 use Rattle.inlinable_string.specs.declared.run.Command.{Command}
 use Rattle.inlinable_string.specs.declared.run.Command.TheVariants.{Pop}
-use Rattle.script_language.specs.Line.{Arguments, nothing, character, number_and_character, arguments_of, IsCharText, IsFirstCut, IsLine, IsTail, space, word_of}
+use Rattle.script_language.specs.Line.{Arguments, nothing, number_and_character, arguments_of, IsFirstCut, IsLine, IsTail, space, word_of}
 use Rattle.script_language.proofs.Cuts.{has_mark, lacks-from_position}
 use Rattle.script_language.proofs.Lines.{line_of_word, line_with_word}
 use Rattle.script_language.proofs.Words.{form, form_behind, form_of_word}
@@ -30,12 +30,6 @@ nothing_has_no_tail : (rest : List ℕ) (args : Arguments) → form args ≡ not
     → ¬ (IsTail args (space ∷ rest))
 nothing_has_no_tail rest nothing is tail = cc
 nothing_has_no_tail rest args is tail = cc
-
-pub push_needs_a_character : (rest : List ℕ) → ((c : ℕ) → ¬ (IsCharText rest c))
-    → (args : Arguments) → form args ≡ character 0 → ¬ (IsTail args (space ∷ rest))
-push_needs_a_character rest none (character c) is (text, at, char) =
-    let same : text ≡ rest = search (sym at) in none c (subst (λ t. IsCharText t c) same char)
-push_needs_a_character rest none args is tail = cc
 
 pub insert_needs_a_space : (rest : List ℕ) → LacksByte space rest → (args : Arguments)
     → form args ≡ number_and_character 0 0 → ¬ (IsTail args (space ∷ rest))

@@ -1,5 +1,5 @@
 -- Scripts whose output the prover works out: what a script asks for, and what its run may print.
-use Rattle.std.proofs.Common.{◌≡◌, refl, sym, ap, subst, ◌∙◌, ℕ, ◌≤◌, List, [], ◌∷◌, ◌⊎◌, inl, inr, map}
+use Rattle.std.proofs.Common.{◌≡◌, refl, sym, ap, subst, ◌∙◌, ℕ, ◌≤◌, List, [], ◌∷◌, inl, inr, map}
 use Rattle.std.specs.String.{string_bytes}
 use Rattle.std.specs.declared.string.String.{String}
 use Rattle.inlinable_string.specs.State.{TextState, storage_when_made}
@@ -7,7 +7,6 @@ use Rattle.inlinable_string.specs.Edit.{reply_of, edit}
 use Rattle.inlinable_string.specs.Run.{IsFree, IsLegal, IsRun, LegalReplies, state_after_step, state_after}
 use Rattle.inlinable_string.specs.declared.run.Command.{Command}
 use Rattle.inlinable_string.specs.declared.run.Reply.{Reply}
-use Rattle.inlinable_string.specs.declared.run.Reply.TheVariants.{NoMemory}
 use Rattle.script_language.specs.Output.{printed}
 use Rattle.script_language.specs.Script.{LinesAskFor, IsMade, IsNamed, lines_of, policy_of, room_of, word_of_start}
 use Rattle.script_language.specs.declared.start.Start.{Start}
@@ -123,39 +122,3 @@ one_output_where_free words input output start commands expected named asks made
     script_prints words input output start commands (λ o. o ≡ expected) named asks made_so ran
     shown known lines
     (free_prints start (map plain commands) expected free is)
-
--- what one command that may be refused prints
-two_prints : (start : Start) (command : Command) (done refused : List ℕ)
-    → ((room : ℕ) → printed (reply_of (edit [] command) ∷ [])
-    (state_after_step (made start room) command (reply_of (edit [] command))) ≡ done)
-    → ((room : ℕ) → printed (NoMemory ∷ [])
-    (state_after_step (made start room) command NoMemory) ≡ refused)
-    → Printing start (command ∷ []) (λ o. (o ≡ done) ⊎ (o ≡ refused))
-two_prints start command done refused is or room [] fits legal = absurd legal
-two_prints start command done refused is or room (r ∷ o ∷ replies) fits legal = absurd legal.1
-two_prints start command done refused is or room (r ∷ []) fits legal = elim legal.0.answer [
-  | inl same ↦ inl (ap (λ x. printed (x ∷ []) (state_after_step (made start room) command x)) same
-      ∙ is room)
-  | inr none ↦ inr (ap (λ x. printed (x ∷ []) (state_after_step (made start room) command x)) none.0
-      ∙ or room)
-]
-
--- a script of one command to which memory may be refused has two outputs
-pub two_outputs_of_one : {Z : Type 0} (words : List (String Z)) (input output : List ℕ)
-    (start : Start) (command : Command) (done refused : List ℕ) {begun : Start}
-    {asked : List Command}
-    {old new : TextState} {replies : List Reply} → IsNamed words begun
-    → LinesAskFor (lines_of input) asked → IsMade begun old → IsRun old asked replies new
-    → output ≡ printed replies new
-    → map string_bytes words ≡ word_of_start start ∷ []
-    → LinesAskFor (lines_of input) (command ∷ [])
-    → ((room : ℕ) → printed (reply_of (edit [] (plain command)) ∷ [])
-    (state_after_step (made start room) (plain command) (reply_of (edit [] (plain command))))
-    ≡ done)
-    → ((room : ℕ) → printed (NoMemory ∷ []) (state_after_step (made start room) (plain command)
-    NoMemory) ≡ refused)
-    → (output ≡ done) ⊎ (output ≡ refused)
-two_outputs_of_one words input output start command done refused named asks made_so ran shown known
-    lines is or =
-    script_prints words input output start (command ∷ []) (λ o. (o ≡ done) ⊎ (o ≡ refused)) named
-    asks made_so ran shown known lines (two_prints start (plain command) done refused is or)

@@ -6,7 +6,8 @@ use Rattle.std.specs.List.{slice_split}
 use Rattle.std.specs.String.{string_bytes}
 use Rattle.std.specs.declared.string.String.{String}
 use Rattle.inlinable_string.specs.State.{Policy, TextState, storage_when_made}
-use Rattle.inlinable_string.specs.Values.{heap_policy, inlinable_policy}
+use Rattle.inlinable_string.specs.StringValues.{heap_policy}
+use Rattle.inlinable_string.specs.Values.{inlinable_policy}
 use Rattle.inlinable_string.specs.Run.{IsRun}
 use Rattle.inlinable_string.specs.declared.inline_string.TheConstants.{INLINE_STRING_CAPACITY}
 use Rattle.inlinable_string.specs.declared.run.Command.{Command}

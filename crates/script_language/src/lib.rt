@@ -4,6 +4,7 @@
 //! end.
 #![tactic(auto)]
 
+pub mod arguments;
 mod buffer;
 mod cut;
 mod fault;

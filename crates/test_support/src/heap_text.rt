@@ -1,5 +1,5 @@
 //! A `String` in a user-defined type.
-ghost use Rattle.inlinable_string.specs.Values.{heap_policy, string_state};
+ghost use Rattle.inlinable_string.specs.StringValues.{heap_policy, string_state};
 
 use inlinable_string::inline_string::ReplaceError;
 use inlinable_string::{Storage, StringExt, StringMake};

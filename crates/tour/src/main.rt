@@ -1,4 +1,4 @@
-//! The tour of the README: what a first program over the library looks like.
+//! The program of the README.
 #![tactic(auto)]
 
 ghost use Rattle.std.specs.Prelude.{◌≡◌, ◌++◌, ◌∷◌, OnOk};
@@ -9,7 +9,7 @@ use inlinable_string::{InlinableString, Storage, StringExt};
 use std::alloc::AllocError;
 use std::process::ExitCode;
 
-/// Adds `key=value` to a text of any type.
+/// Appends `key=value` to a text of any type.
 fn add_pair<S: StringExt>(text: &mut S, key: &str, value: &str) -> Result<(), AllocError>
     ensures { OnOk result ((S.state text.new).text
         ≡ (S.state text.old).text ++ chars key.now ++ 61 ∷ chars value.now) }
@@ -21,7 +21,7 @@ fn add_pair<S: StringExt>(text: &mut S, key: &str, value: &str) -> Result<(), Al
 
 fn main(rt: HostRuntime) -> ExitCode {
     let Ok(mut text) = InlinableString::from(rt.alloc(), "ship ") else {
-        unreachable!(); // five bytes lie inline, so memory is not asked for
+        unreachable!(); // five bytes fit inline, so this cannot fail
     };
     if add_pair(&mut text, "year", "1927").is_err() || text.storage() != Storage::Inline {
         return ExitCode::FAILURE;

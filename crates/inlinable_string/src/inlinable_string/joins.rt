@@ -121,7 +121,7 @@ impl<const N: usize> InlinableStringN<N> {
         // `len` tells the laws of the value.
         let _ = self.len();
         for string in items {
-            self.push_str(known_text(string))?;
+            self.push_str(assume_utf8_param(string))?;
         }
         Ok(())
     }
@@ -168,7 +168,7 @@ impl<const N: usize> InlinableStringN<N> {
 }
 
 /// The same string: a `&str` out of an iterator has no fact that it is UTF-8, a parameter has.
-fn known_text(string: &str) -> &str
+fn assume_utf8_param(string: &str) -> &str
     ensures value { result.now ≡ string.now }
     ensures utf8 { IsUtf8 string.now }
 {

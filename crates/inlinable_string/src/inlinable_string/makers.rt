@@ -8,6 +8,7 @@ ghost use Rattle.inlinable_string.specs.Values.{inlinable_policy, inlinable_stat
 use super::InlinableStringN;
 use crate::inline_string::InlineStringN;
 use crate::string_ext::{Storage, StringMake};
+use crate::well_formed::string_from;
 use std::alloc::{AllocError, Global};
 use std::string::FromUtf8Error;
 
@@ -91,7 +92,7 @@ impl<const N: usize> StringMake for InlinableStringN<N> {
     }
 
     fn from_utf8(alloc: Global, vec: Vec<u8>) -> Result<Self, FromUtf8Error> {
-        let heap = String::from_utf8(vec)?;
+        let heap = string_from(vec)?;
         Ok(InlinableStringN::Heap(heap, alloc))
     }
 

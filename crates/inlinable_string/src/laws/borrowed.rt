@@ -1,4 +1,4 @@
-//! Laws of a text in the place of a `str`, and of what std's traits add to one or collect.
+//! Lemmas on a text in the place of a `str`, and on what std's traits add to one or collect.
 ghost use Rattle.std.specs.Prelude.{◌≡◌, ◌↔◌, ℕ, ◌+◌, ◌≤◌, List, ◌++◌, length};
 ghost use Rattle.std.specs.Borrow.{Bor};
 ghost use Rattle.std.specs.Str.{chars};
@@ -13,12 +13,17 @@ use crate::inline_string::InlineStringN;
 use std::convert::{AsSlice, AsStr};
 use std::ops::{AddAssign, DerefStr};
 
-/// The `str` and the bytes that a text in an array lends are its own.
-pub fn inline_texts_lend_their_bytes<const N: usize>()
-    ensures deref { (s bytes : List ℕ) → ⟦<InlineStringN<N> as DerefStr>⟧.deref_gives s bytes
+/// The `str` and the bytes that a text lends are its own.
+pub fn texts_lend_their_bytes<const N: usize>()
+    ensures inline_deref { (s bytes : List ℕ) → ⟦<InlineStringN<N> as DerefStr>⟧.deref_gives s bytes
         → bytes ≡ bytes_of s }
-    ensures str { (s : List ℕ) → ⟦<InlineStringN<N> as AsStr>⟧.text s ≡ bytes_of s }
-    ensures slice { (s : List ℕ) → ⟦<InlineStringN<N> as AsSlice<u8>>⟧.items s ≡ bytes_of s }
+    ensures inline_str { (s : List ℕ) → ⟦<InlineStringN<N> as AsStr>⟧.text s ≡ bytes_of s }
+    ensures inline_slice { (s : List ℕ) → ⟦<InlineStringN<N> as AsSlice<u8>>⟧.items s ≡ bytes_of s }
+    ensures deref { (s : InlinableStringN N) (bytes : List ℕ)
+        → ⟦<InlinableStringN<N> as DerefStr>⟧.deref_gives s bytes
+        → bytes ≡ bytes_of (inlinable_state N s).text }
+    ensures slice { (s : InlinableStringN N) → ⟦<InlinableStringN<N> as AsSlice<u8>>⟧.items s
+        ≡ bytes_of (inlinable_state N s).text }
 {}
 
 /// A `for` over a text in an array goes over its characters.
@@ -26,15 +31,6 @@ pub fn loops_go_over_the_text<'a, const N: usize>()
     ensures rest { (s : Bor (List ℕ)) (rest : _)
         → ⟦<&'a InlineStringN<N> as IntoIterator>⟧.into_iter_gives s rest
         → chars_rest rest ≡ bytes_of s.now }
-{}
-
-/// The `str` and the bytes that a text lends are its own.
-pub fn texts_lend_their_bytes<const N: usize>()
-    ensures deref { (s : InlinableStringN N) (bytes : List ℕ)
-        → ⟦<InlinableStringN<N> as DerefStr>⟧.deref_gives s bytes
-        → bytes ≡ bytes_of (inlinable_state N s).text }
-    ensures slice { (s : InlinableStringN N) → ⟦<InlinableStringN<N> as AsSlice<u8>>⟧.items s
-        ≡ bytes_of (inlinable_state N s).text }
 {}
 
 /// `+=` appends a string, and may be written where it fits.

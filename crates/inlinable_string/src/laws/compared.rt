@@ -1,4 +1,4 @@
-//! Laws of what goes by the text alone, wherever it lies: equality, order, hashes and copies.
+//! Lemmas on what goes by the text alone: equality, order, hashes and copies.
 ghost use Rattle.std.specs.Prelude.{◌≡◌, ◌↔◌, ⊤, ℕ, List, IsTrue, true, Some};
 ghost use Rattle.std.specs.Ordering.{nat_cmp};
 ghost use Rattle.std.specs.Cmp.{IsTotalOrder};
@@ -16,18 +16,13 @@ use crate::string_ext::Storage;
 use std::cmp::Ordering;
 use std::hash::Hash;
 
-/// Two texts in arrays are equal exactly where they have the same bytes, and so the same
-/// characters. `len` tells that these are scalar values.
-pub fn equality_inline_is_that_of_texts<const N: usize>()
-    ensures bytes { (s t : List ℕ) → IsTrue (⟦<InlineStringN<N> as PartialEq>⟧.eq s t)
-        ↔ (bytes_of s ≡ bytes_of t) }
-    ensures characters { (s t : List ℕ) → all_scalars s ≡ true
-        → IsTrue (⟦<InlineStringN<N> as PartialEq>⟧.eq s t) ↔ (s ≡ t) }
-{}
-
-/// Two texts are equal exactly where they have the same bytes, and so the same characters, wherever
-/// they lie. `len` tells the laws of the first.
+/// Two texts are equal exactly where they have the same bytes, and so the same characters, whatever
+/// their storage. `len` states that these are scalar values.
 pub fn equality_is_that_of_texts<const N: usize>()
+    ensures inline_bytes { (s t : List ℕ) → IsTrue (⟦<InlineStringN<N> as PartialEq>⟧.eq s t)
+        ↔ (bytes_of s ≡ bytes_of t) }
+    ensures inline_characters { (s t : List ℕ) → all_scalars s ≡ true
+        → IsTrue (⟦<InlineStringN<N> as PartialEq>⟧.eq s t) ↔ (s ≡ t) }
     ensures bytes { (s t : InlinableStringN N)
         → IsTrue (⟦<InlinableStringN<N> as PartialEq>⟧.eq s t)
         ↔ (bytes_of (inlinable_state N s).text ≡ bytes_of (inlinable_state N t).text) }
@@ -36,21 +31,16 @@ pub fn equality_is_that_of_texts<const N: usize>()
         ↔ ((inlinable_state N s).text ≡ (inlinable_state N t).text) }
 {}
 
-/// Texts in arrays are ordered by their bytes, a front before the whole. The order is total, and
-/// `Equal` exactly for the same bytes.
-pub fn order_inline_is_that_of_the_bytes<const N: usize>()
-    ensures value { (s t : List ℕ) → ⟦<InlineStringN<N> as Ord>⟧.cmp s t
-        ≡ slice_cmp nat_cmp (bytes_of s) (bytes_of t) }
-    ensures partial { (s t : List ℕ) → ⟦<InlineStringN<N> as PartialOrd>⟧.partial_cmp s t
-        ≡ Some (slice_cmp nat_cmp (bytes_of s) (bytes_of t)) }
-    ensures total { IsTotalOrder ⟦<InlineStringN<N> as Ord>⟧.cmp }
-    ensures equal { (s t : List ℕ) → (⟦<InlineStringN<N> as Ord>⟧.cmp s t ≡ Ordering.Equal)
-        ↔ (bytes_of s ≡ bytes_of t) }
-{}
-
-/// Texts are ordered by their bytes, a front before the whole, wherever they lie. The order is
-/// total, and `Equal` exactly for the same bytes.
+/// Texts are ordered by their bytes, a prefix before the whole, whatever their storage. The order
+/// is total, and `Equal` exactly for the same bytes.
 pub fn order_is_that_of_the_bytes<const N: usize>()
+    ensures inline_value { (s t : List ℕ) → ⟦<InlineStringN<N> as Ord>⟧.cmp s t
+        ≡ slice_cmp nat_cmp (bytes_of s) (bytes_of t) }
+    ensures inline_partial { (s t : List ℕ) → ⟦<InlineStringN<N> as PartialOrd>⟧.partial_cmp s t
+        ≡ Some (slice_cmp nat_cmp (bytes_of s) (bytes_of t)) }
+    ensures inline_total { IsTotalOrder ⟦<InlineStringN<N> as Ord>⟧.cmp }
+    ensures inline_equal { (s t : List ℕ) → (⟦<InlineStringN<N> as Ord>⟧.cmp s t ≡ Ordering.Equal)
+        ↔ (bytes_of s ≡ bytes_of t) }
     ensures value { (s t : InlinableStringN N) → ⟦<InlinableStringN<N> as Ord>⟧.cmp s t
         ≡ slice_cmp nat_cmp
         (bytes_of (inlinable_state N s).text) (bytes_of (inlinable_state N t).text) }

@@ -1,4 +1,4 @@
-//! What the conversions that need no allocator give, and when each fails.
+//! Lemmas on the conversions that need no allocator, and on when each fails.
 ghost use Rattle.std.specs.Prelude.{◌≡◌, ◌↔◌, ◌≤◌, ◌<◌, ℕ, List, [], ◌∷◌, Ok, Err, length};
 ghost use Rattle.std.specs.Borrow.{Bor};
 ghost use Rattle.std.specs.Str.{chars};
@@ -8,44 +8,35 @@ ghost use Rattle.inlinable_string.specs.Values.{inlinable_state};
 
 use crate::boxable_string::BoxableString;
 use crate::inlinable_string::{InlinableString, InlinableStringN};
+use crate::inline_json::JsonError;
 use crate::inline_string::{InlineStringN, NotEnoughSpaceError};
+use crate::string_ext::Utf16Error;
+use std::alloc::AllocError;
 use std::str::FromStr;
 
-/// `parse` makes a text of an array exactly where the bytes have room.
-pub fn parsed_where_it_fits<const N: usize>()
-    ensures made { (bytes t : List ℕ)
+/// `parse`, and `try_from` of a `&str`, a character or a text of any storage, make a text in an
+/// array exactly where the bytes fit. The last hands its text back where they do not.
+pub fn conversions_succeed_where_it_fits<'a, const N: usize>()
+    ensures parsed { (bytes t : List ℕ)
         → ⟦<InlineStringN<N> as FromStr>⟧.from_str_gives bytes (Ok t)
         ↔ ((t ≡ chars bytes) × (length bytes ≤ N)) }
-    ensures refused { (bytes : List ℕ) (error : NotEnoughSpaceError)
+    ensures parse_fails { (bytes : List ℕ) (error : NotEnoughSpaceError)
         → ⟦<InlineStringN<N> as FromStr>⟧.from_str_gives bytes (Err error) ↔ (N < length bytes) }
-{}
-
-/// `try_from` of a `&str` makes a text of an array exactly where the bytes have room.
-pub fn taken_where_it_fits<'a, const N: usize>()
-    ensures made { (string : Bor (List ℕ)) (t : List ℕ)
+    ensures str_taken { (string : Bor (List ℕ)) (t : List ℕ)
         → ⟦<InlineStringN<N> as TryFrom<&'a str>>⟧.try_from_gives string (Ok t)
         ↔ ((t ≡ chars string.now) × (length string.now ≤ N)) }
-    ensures refused { (string : Bor (List ℕ)) (error : NotEnoughSpaceError)
+    ensures str_fails { (string : Bor (List ℕ)) (error : NotEnoughSpaceError)
         → ⟦<InlineStringN<N> as TryFrom<&'a str>>⟧.try_from_gives string (Err error)
         ↔ (N < length string.now) }
-{}
-
-/// `try_from` makes a text of an array of a character exactly where its bytes have room.
-pub fn character_where_it_fits<const N: usize>()
-    ensures made { (c : ℕ) (t : List ℕ)
+    ensures char_taken { (c : ℕ) (t : List ℕ)
         → ⟦<InlineStringN<N> as TryFrom<char>>⟧.try_from_gives c (Ok t)
         ↔ ((t ≡ c ∷ []) × (size (c ∷ []) ≤ N)) }
-    ensures refused { (c : ℕ) (error : NotEnoughSpaceError)
+    ensures char_fails { (c : ℕ) (error : NotEnoughSpaceError)
         → ⟦<InlineStringN<N> as TryFrom<char>>⟧.try_from_gives c (Err error) ↔ (N < size (c ∷ [])) }
-{}
-
-/// `try_from` takes a text that lies anywhere into an array exactly where its bytes have room, and
-/// else hands it back.
-pub fn taken_over_where_it_fits<const N: usize>()
-    ensures made { (text : InlinableStringN N) (t : List ℕ)
+    ensures text_taken { (text : InlinableStringN N) (t : List ℕ)
         → ⟦<InlineStringN<N> as TryFrom<InlinableStringN<N>>>⟧.try_from_gives text (Ok t)
         ↔ ((t ≡ (inlinable_state N text).text) × (size (inlinable_state N text).text ≤ N)) }
-    ensures refused { (text back : InlinableStringN N)
+    ensures text_fails { (text back : InlinableStringN N)
         → ⟦<InlineStringN<N> as TryFrom<InlinableStringN<N>>>⟧.try_from_gives text (Err back)
         ↔ ((back ≡ text) × (N < size (inlinable_state N text).text)) }
 {}
@@ -54,4 +45,14 @@ pub fn taken_over_where_it_fits<const N: usize>()
 pub fn boxed_as_it_is()
     ensures { (text : InlinableStringN INLINE_STRING_CAPACITY) (made : BoxableString)
         → ⟦<BoxableString as From<InlinableString>>⟧.from_gives text made ↔ (made.0 ≡ text) }
+{}
+
+/// A failed allocation is the error's `NoMemory`, as `?` converts it.
+pub fn alloc_errors_are_no_memory()
+    ensures utf16 { (failed : AllocError) (error : Utf16Error)
+        → ⟦<Utf16Error as From<AllocError>>⟧.from_gives failed error
+        ↔ (error ≡ Utf16Error.NoMemory) }
+    ensures json { (failed : AllocError) (error : JsonError)
+        → ⟦<JsonError as From<AllocError>>⟧.from_gives failed error
+        ↔ (error ≡ JsonError.NoMemory) }
 {}

@@ -1,4 +1,4 @@
-//! Laws of printing, and of writing into a text.
+//! Lemmas on printing, and on writing into a text.
 ghost use Rattle.std.specs.Prelude.{◌≡◌, ◌↔◌, ℕ, List, ◌++◌, Some};
 ghost use Rattle.std.specs.Fmt.{styled_text, debug_str, WritesInCalls};
 ghost use Rattle.inlinable_string.specs.Text.{bytes_of};
@@ -9,21 +9,16 @@ use crate::inlinable_string::InlinableStringN;
 use crate::inline_string::InlineStringN;
 use std::fmt;
 
-/// A text in an array is printed as its `str` is, padded too; so it is between quotes, which std
-/// tells of ASCII.
-pub fn printing_inline_is_that_of_the_str<const N: usize>()
-    ensures plain { (s : List ℕ) → ⟦<InlineStringN<N> as fmt::Display>⟧.output s
+/// A text is printed as its `str` is, also padded, whatever its storage; so it is between quotes,
+/// which std states of ASCII.
+pub fn printing_is_that_of_the_str<const N: usize>()
+    ensures inline_plain { (s : List ℕ) → ⟦<InlineStringN<N> as fmt::Display>⟧.output s
         ≡ Some (bytes_of s) }
-    ensures styled { (s : List ℕ) (spec : _)
+    ensures inline_styled { (s : List ℕ) (spec : _)
         → ⟦<InlineStringN<N> as fmt::Display>⟧.styled_output s spec
         ≡ Some (styled_text spec (bytes_of s)) }
-    ensures debug { (s : List ℕ) → ⟦<InlineStringN<N> as fmt::Debug>⟧.debug_output s
+    ensures inline_debug { (s : List ℕ) → ⟦<InlineStringN<N> as fmt::Debug>⟧.debug_output s
         ≡ debug_str (bytes_of s) }
-{}
-
-/// A text is printed as its `str` is, padded too, wherever it lies; so it is between quotes, which
-/// std tells of ASCII.
-pub fn printing_is_that_of_the_str<const N: usize>()
     ensures plain { (s : InlinableStringN N)
         → ⟦<InlinableStringN<N> as fmt::Display>⟧.output s
         ≡ Some (bytes_of (inlinable_state N s).text) }
@@ -35,7 +30,8 @@ pub fn printing_is_that_of_the_str<const N: usize>()
         ≡ debug_str (bytes_of (inlinable_state N s).text) }
 {}
 
-/// What is written into a text is appended to its bytes.
+/// Writing into a text appends to its bytes. What `write!` writes in several calls is appended as
+/// one string.
 pub fn writing_appends<const N: usize>()
     ensures inline { (s : List ℕ) (bytes : List ℕ) (t : List ℕ)
         → ⟦<InlineStringN<N> as fmt::Write>⟧.write_str_gives s bytes t
@@ -43,14 +39,10 @@ pub fn writing_appends<const N: usize>()
     ensures any { (s : InlinableStringN N) (bytes : List ℕ) (t : InlinableStringN N)
         → ⟦<InlinableStringN<N> as fmt::Write>⟧.write_str_gives s bytes t
         ↔ (bytes_of (inlinable_state N t).text ≡ bytes_of (inlinable_state N s).text ++ bytes) }
-{}
-
-/// What `write!` writes in several calls is appended to the bytes of a text as one string.
-pub fn writing_in_calls_appends<const N: usize>()
-    ensures inline { (s : List ℕ) (bytes : List ℕ) (t : List ℕ)
+    ensures inline_in_calls { (s : List ℕ) (bytes : List ℕ) (t : List ℕ)
         → WritesInCalls ⟦<InlineStringN<N> as fmt::Write>⟧.write_str_gives s bytes t
         → bytes_of t ≡ bytes_of s ++ bytes }
-    ensures any { (s : InlinableStringN N) (bytes : List ℕ) (t : InlinableStringN N)
+    ensures any_in_calls { (s : InlinableStringN N) (bytes : List ℕ) (t : InlinableStringN N)
         → WritesInCalls ⟦<InlinableStringN<N> as fmt::Write>⟧.write_str_gives s bytes t
         → bytes_of (inlinable_state N t).text ≡ bytes_of (inlinable_state N s).text ++ bytes }
 {}

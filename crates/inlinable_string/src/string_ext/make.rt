@@ -1,22 +1,22 @@
 //! Texts from bytes and from UTF-16, and back to bytes: code over the trait makes a `String`, a
 //! [`crate::InlinableStringN`] or a text of one's own.
-ghost use Rattle.std.specs.Prelude.{◌≡◌, ◌≤◌, ◌↔◌, [], Some, IsTrue, IfOk, IfErr, IsOk, Err, MatchResult, IsUtf8};
+ghost use Rattle.std.specs.Prelude.{◌≡◌, ◌≤◌, ◌↔◌, if◌then◌else◌, codes, [], Some, IsTrue, IfOk, IfErr, IsOk, Err, MatchResult, IsUtf8};
 ghost use Rattle.std.specs.Str.{chars};
 ghost use Rattle.std.specs.String.{from_utf8_error_vec};
 ghost use Rattle.std.specs.Cow.{cow_str_bytes, IsBorrowedStr};
 ghost use Rattle.inlinable_string.specs.Text.{bytes_of};
 ghost use Rattle.inlinable_string.specs.Utf16.{units_of, HasUnpaired, lossy_utf16};
 ghost use Rattle.inlinable_string.specs.Lossy.{lossy_utf8};
-ghost use Rattle.inlinable_string.specs.Errors.{utf16_message};
 ghost use Rattle.inlinable_string.specs.State.{Policy, storage_when_made};
 ghost use Rattle.inlinable_string.specs.declared.string_ext.make.Utf16Error.TheVariants.{NoMemory};
 
 use super::{Storage, StringExt, utf8, utf16};
+use crate::well_formed::text_in;
 use std::alloc::{AllocError, Global};
 use std::borrow::CowStr;
 use std::error::Error;
+use std::fmt;
 use std::string::FromUtf8Error;
-use std::{fmt, str};
 
 /// Why units of UTF-16 did not become a text.
 #[derive(Clone, Copy, Debug, PartialEq, Eq)]
@@ -38,7 +38,8 @@ impl From<AllocError> for Utf16Error {
 }
 
 impl fmt::Display for Utf16Error {
-    ghost output = { λ error. Some (utf16_message error) };
+    ghost output = { λ error. Some (if ⟦<Utf16Error as PartialEq>⟧.eq error NoMemory
+        then codes "there is no memory" else codes "a surrogate is unpaired") };
 
     fn fmt<W: fmt::Write>(&self, f: &mut fmt::Formatter<W>) -> fmt::Result {
         match self {
@@ -101,7 +102,7 @@ pub trait StringMake: StringExt {
         ensures borrowed { IfOk result (λ read. IsBorrowedStr read ↔ IsUtf8 v.now) }
         ensures granted { IsUtf8 v.now → IsOk result }
     {
-        if let Ok(text) = str::from_utf8(v) {
+        if let Some(text) = text_in(v) {
             return Ok(CowStr::Borrowed(text));
         }
         Ok(CowStr::Owned(utf8::lossy(alloc, v)?))

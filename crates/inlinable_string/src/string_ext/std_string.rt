@@ -1,10 +1,13 @@
-//! std's `String` as a text that can be edited: it lies on the heap always, the empty one too.
-ghost use Rattle.inlinable_string.specs.Values.{heap_policy, string_state};
+//! std's `String` as a text that can be edited: it is on the heap always, the empty one too.
+//!
+//! Growths and moves stay out of line (`#[inline(never)]`), so that a call on a text that may be
+//! inline stays small.
+ghost use Rattle.inlinable_string.specs.StringValues.{heap_policy, string_state};
 
 use super::{Storage, StringExt, StringMake};
 use crate::inline_string::ReplaceError;
+use crate::well_formed::{string_from, text_in};
 use std::alloc::{AllocError, Global};
-use std::str;
 use std::string::FromUtf8Error;
 
 impl StringExt for String {
@@ -64,7 +67,7 @@ impl StringExt for String {
         if bytes.len() != self.len() {
             return Err(ReplaceError::WrongLength);
         }
-        let Ok(string) = str::from_utf8(bytes) else {
+        let Some(string) = text_in(bytes) else {
             return Err(ReplaceError::NotUtf8);
         };
         self.clear();
@@ -105,7 +108,7 @@ impl StringMake for String {
     }
 
     fn from_utf8(_alloc: Global, vec: Vec<u8>) -> Result<Self, FromUtf8Error> {
-        String::from_utf8(vec)
+        string_from(vec)
     }
 
     unsafe fn from_utf8_unchecked(_alloc: Global, bytes: Vec<u8>) -> Self {

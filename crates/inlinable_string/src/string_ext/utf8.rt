@@ -19,7 +19,7 @@ pub(super) fn lossy(alloc: Global, bytes: &[u8]) -> Result<String, AllocError>
     let mut made = String::with_capacity(alloc, len)?;
     let mut rest = bytes;
     loop {
-        let (text, left) = split_fault(rest);
+        let (text, left) = split_invalid(rest);
         made.push_str(text)?;
         let Some(left) = left else {
             return Ok(made);
@@ -37,7 +37,7 @@ fn lossy_len(bytes: &[u8]) -> Option<usize>
     let mut len: usize = 0;
     let mut rest = bytes;
     loop {
-        let (text, left) = split_fault(rest);
+        let (text, left) = split_invalid(rest);
         len = len.checked_add(text.len())?;
         let Some(left) = left else {
             return Some(len);
@@ -49,7 +49,7 @@ fn lossy_len(bytes: &[u8]) -> Option<usize>
 
 /// The longest front that is UTF-8, and what is left behind the maximal subpart that follows it;
 /// `None` where that front is the whole.
-fn split_fault(bytes: &[u8]) -> (&str, Option<&[u8]>)
+fn split_invalid(bytes: &[u8]) -> (&str, Option<&[u8]>)
     ensures text { MatchOption result.1
         (lossy_utf8 bytes.now ≡ chars result.0.now)
         (λ left. lossy_utf8 bytes.now ≡ chars result.0.now ++ 0xFFFD ∷ lossy_utf8 left.now) }
@@ -58,7 +58,7 @@ fn split_fault(bytes: &[u8]) -> (&str, Option<&[u8]>)
 {
     let mut end = 0;
     while end < bytes.len() {
-        match start_of(&bytes[end..]) {
+        match char_or_subpart_len(&bytes[end..]) {
             Ok(len) => end += len,
             Err(len) => {
                 let text = unsafe { str::from_utf8_unchecked(&bytes[..end]) };
@@ -71,7 +71,7 @@ fn split_fault(bytes: &[u8]) -> (&str, Option<&[u8]>)
 
 /// How many bytes the character has that begins `bytes`; where none does, how many the maximal
 /// subpart has.
-fn start_of(bytes: &[u8]) -> Result<usize, usize>
+fn char_or_subpart_len(bytes: &[u8]) -> Result<usize, usize>
     requires { 0 < length bytes.now }
     ensures len { MatchResult result
         (λ len. (char_len bytes.now ≡ len) × (0 < len))
@@ -86,20 +86,20 @@ fn start_of(bytes: &[u8]) -> Result<usize, usize>
     if first < 0xC2 || 0xF4 < first {
         return Err(1);
     }
-    let (least, most) = second_of(first);
-    if !is_in(bytes, 1, least, most) {
+    let (least, most) = second_byte_range(first);
+    if !byte_in_range(bytes, 1, least, most) {
         return Err(1);
     }
     if first < 0xE0 {
         return Ok(2);
     }
-    if !is_in(bytes, 2, 0x80, 0xBF) {
+    if !byte_in_range(bytes, 2, 0x80, 0xBF) {
         return Err(2);
     }
     if first < 0xF0 {
         return Ok(3);
     }
-    if is_in(bytes, 3, 0x80, 0xBF) {
+    if byte_in_range(bytes, 3, 0x80, 0xBF) {
         Ok(4)
     } else {
         Err(3)
@@ -107,14 +107,14 @@ fn start_of(bytes: &[u8]) -> Result<usize, usize>
 }
 
 /// Whether there is a byte at that index, and it is in the range.
-fn is_in(bytes: &[u8], index: usize, least: u8, most: u8) -> bool
+fn byte_in_range(bytes: &[u8], index: usize, least: u8, most: u8) -> bool
     ensures { count_in ((least, most) ∷ []) (drop index bytes.now) ≡ (if result then 1 else 0) }
 {
     index < bytes.len() && least <= bytes[index] && bytes[index] <= most
 }
 
 /// The range of the byte behind the first one of a character that has more.
-fn second_of(first: u8) -> (u8, u8)
+fn second_byte_range(first: u8) -> (u8, u8)
     ensures { 0xC2 ≤ first → first ≤ 0xF4 → take 1 (following first) ≡ result ∷ [] }
 {
     match first {

@@ -15,28 +15,6 @@ pub fn places_of_two_characters()
     ensures past { cut (97 ∷ 233 ∷ []) 4 ≡ None }
 {}
 
-/// "aé€" and the G clef have ten bytes and the places 0, 1, 3, 6 and 10.
-pub fn places_of_each_width()
-    ensures bytes { size (97 ∷ 233 ∷ 8364 ∷ 119070 ∷ []) ≡ 10 }
-    ensures start { cut (97 ∷ 233 ∷ 8364 ∷ 119070 ∷ []) 0
-        ≡ Some ([], 97 ∷ 233 ∷ 8364 ∷ 119070 ∷ []) }
-    ensures after_a { cut (97 ∷ 233 ∷ 8364 ∷ 119070 ∷ []) 1
-        ≡ Some (97 ∷ [], 233 ∷ 8364 ∷ 119070 ∷ []) }
-    ensures after_e { cut (97 ∷ 233 ∷ 8364 ∷ 119070 ∷ []) 3
-        ≡ Some (97 ∷ 233 ∷ [], 8364 ∷ 119070 ∷ []) }
-    ensures after_euro { cut (97 ∷ 233 ∷ 8364 ∷ 119070 ∷ []) 6
-        ≡ Some (97 ∷ 233 ∷ 8364 ∷ [], 119070 ∷ []) }
-    ensures end { cut (97 ∷ 233 ∷ 8364 ∷ 119070 ∷ []) 10
-        ≡ Some (97 ∷ 233 ∷ 8364 ∷ 119070 ∷ [], []) }
-    ensures in_e { cut (97 ∷ 233 ∷ 8364 ∷ 119070 ∷ []) 2 ≡ None }
-    ensures early_in_euro { cut (97 ∷ 233 ∷ 8364 ∷ 119070 ∷ []) 4 ≡ None }
-    ensures late_in_euro { cut (97 ∷ 233 ∷ 8364 ∷ 119070 ∷ []) 5 ≡ None }
-    ensures early_in_clef { cut (97 ∷ 233 ∷ 8364 ∷ 119070 ∷ []) 7 ≡ None }
-    ensures amid_clef { cut (97 ∷ 233 ∷ 8364 ∷ 119070 ∷ []) 8 ≡ None }
-    ensures late_in_clef { cut (97 ∷ 233 ∷ 8364 ∷ 119070 ∷ []) 9 ≡ None }
-    ensures past { cut (97 ∷ 233 ∷ 8364 ∷ 119070 ∷ []) 11 ≡ None }
-{}
-
 /// Each outcome has its own reply.
 pub fn replies_of_outcomes()
     ensures done { (v : List ℕ) → reply_of (becomes v) ≡ Reply.Done }
@@ -76,12 +54,6 @@ pub fn pop_of_two_texts()
     ensures none { edit [] Command.Pop ≡ has_no_char }
 {}
 
-/// "bc" put at the end of "a" makes "abc".
-pub fn push_of_two_letters(string: &str)
-    requires { string.now ≡ codes "bc" }
-    ensures { edit (codes "a") (Command.PushStr string.entry) ≡ becomes (codes "abc") }
-{}
-
 /// The three bytes of € are one character.
 pub fn push_of_a_euro(string: &str)
     requires { string.now ≡ 226 ∷ 130 ∷ 172 ∷ [] }
@@ -109,13 +81,6 @@ pub fn euro_put_in_and_taken_out()
         ≡ yields 8364 (97 ∷ 233 ∷ []) }
 {}
 
-/// Nothing is put into "é" at 1, which is inside it.
-pub fn insert_inside_a_character(string: &str)
-    ensures character { edit (233 ∷ []) (Command.Insert 1 120) ≡ has_no_place }
-    ensures text { edit (233 ∷ []) (Command.InsertStr 1 string.entry)
-        ≡ has_no_place }
-{}
-
 /// "bar" put into "foo" at 2 makes "fobaro".
 pub fn insert_of_three_letters(string: &str)
     requires { string.now ≡ codes "bar" }
@@ -140,13 +105,6 @@ pub fn replace_of_two_bytes(one: &[u8], broken: &[u8], letters: &[u8])
         ≡ is_not_utf8 }
     ensures done { edit (233 ∷ []) (Command.ReplaceBytes letters.entry)
         ≡ becomes (codes "ab") }
-{}
-
-/// The bytes of "hello" in their opposite order make "olleh".
-pub fn replace_of_five_bytes(bytes: &[u8])
-    requires { bytes.now ≡ 111 ∷ 108 ∷ 108 ∷ 101 ∷ 104 ∷ [] }
-    ensures { edit (codes "hello") (Command.ReplaceBytes bytes.entry)
-        ≡ becomes (codes "olleh") }
 {}
 
 /// Room is reserved and given back without a change of the text.

@@ -64,19 +64,6 @@ pub fn units_that_are_paired()
     ensures last { lossy_utf16 (0xDBFF ∷ 0xDFFF ∷ []) ≡ 0x10FFFF ∷ [] }
 {}
 
-/// Units of which some is unpaired.
-pub fn units_that_are_unpaired()
-    ensures high { lossy_utf16
-        (0xD834 ∷ 0xDD1E ∷ 0x6D ∷ 0x75 ∷ 0xD800 ∷ 0x69 ∷ 0x63 ∷ [])
-        ≡ 0x1D11E ∷ 0x6D ∷ 0x75 ∷ 0xFFFD ∷ 0x69 ∷ 0x63 ∷ [] }
-    ensures both { lossy_utf16
-        (0xD834 ∷ 0xDD1E ∷ 0x6D ∷ 0x75 ∷ 0x73 ∷ 0xDD1E ∷ 0x69 ∷ 0x63 ∷ 0xD834 ∷ [])
-        ≡ 0x1D11E ∷ 0x6D ∷ 0x75 ∷ 0x73 ∷ 0xFFFD ∷ 0x69 ∷ 0x63 ∷ 0xFFFD ∷ [] }
-    ensures before_a_pair { lossy_utf16 (0xD800 ∷ 0xD834 ∷ 0xDD1E ∷ []) ≡ 0xFFFD ∷ 0x1D11E ∷ [] }
-    ensures low_then_high { lossy_utf16 (0xDC00 ∷ 0xD800 ∷ []) ≡ 0xFFFD ∷ 0xFFFD ∷ [] }
-    ensures behind_a_pair { lossy_utf16 (0xD834 ∷ 0xDD1E ∷ 0xDD1E ∷ []) ≡ 0x1D11E ∷ 0xFFFD ∷ [] }
-{}
-
 /// Which of these lists has an unpaired unit.
 pub fn lists_with_an_unpaired_unit()
     ensures high { HasUnpaired (0xD834 ∷ 0xDD1E ∷ 0x6D ∷ 0x75 ∷ 0xD800 ∷ 0x69 ∷ 0x63 ∷ []) }
@@ -85,15 +72,6 @@ pub fn lists_with_an_unpaired_unit()
     ensures before_a_pair { HasUnpaired (0xD800 ∷ 0xD834 ∷ 0xDD1E ∷ []) }
     ensures low_then_high { HasUnpaired (0xDC00 ∷ 0xD800 ∷ []) }
     ensures behind_a_pair { HasUnpaired (0xD834 ∷ 0xDD1E ∷ 0xDD1E ∷ []) }
-{}
-
-/// Bytes that are UTF-8: none, "he", and characters of four, three, two and one byte.
-pub fn bytes_that_are_utf8()
-    ensures none { lossy_utf8 [] ≡ [] }
-    ensures he { lossy_utf8 (0x68 ∷ 0x65 ∷ []) ≡ 0x68 ∷ 0x65 ∷ [] }
-    ensures each_width { lossy_utf8
-        (0xF0 ∷ 0x9D ∷ 0x84 ∷ 0x9E ∷ 0xE2 ∷ 0x82 ∷ 0xAC ∷ 0xC3 ∷ 0xA9 ∷ 0x61 ∷ [])
-        ≡ 0x1D11E ∷ 0x20AC ∷ 0xE9 ∷ 0x61 ∷ [] }
 {}
 
 /// Bytes that are not.

@@ -1,6 +1,6 @@
 //! The words of the laws: runs without refusals, runs that stay within a limit, and pushes within a
 //! reservation.
-ghost use Rattle.std.specs.Prelude.{◌≡◌, ◌∷◌, [], List, ℕ, true, false, codes};
+ghost use Rattle.std.specs.Prelude.{◌≡◌, ◌∷◌, [], List, ℕ, true, false};
 ghost use Rattle.std.specs.Str.{chars};
 ghost use Rattle.inlinable_string.specs.Text.{size};
 ghost use Rattle.inlinable_string.specs.Run.{at_end, anywhere, reserved, tight, no_room};
@@ -15,12 +15,6 @@ pub fn four_edits_in_turn()
     ensures replies { replies_of (97 ∷ []) four_edits
         ≡ Reply.Done ∷ Reply.BadPlace ∷ Reply.Char 97 ∷ Reply.Char 233 ∷ [] }
     ensures text { text_after_edits (97 ∷ []) four_edits ≡ [] }
-{}
-
-/// No commands have no replies, and leave the text.
-pub fn no_edits()
-    ensures replies { (t : List ℕ) → replies_of t [] ≡ [] }
-    ensures text { (t : List ℕ) → text_after_edits t [] ≡ t }
 {}
 
 /// Beside three bytes 27 may be reserved within 30, and 28 may not.
@@ -51,12 +45,6 @@ pub fn thirty_bytes_stay_within(string: &str)
     requires { size (chars string.now) ≡ 30 }
     ensures met { StaysWithin 30 [] (Command.PushStr string.entry ∷ []) }
     ensures missed { ¬ StaysWithin 29 [] (Command.PushStr string.entry ∷ []) }
-{}
-
-/// And 31 bytes don't.
-pub fn thirty_one_bytes_do_not_stay_within(string: &str)
-    requires { size (chars string.now) ≡ 31 }
-    ensures { ¬ StaysWithin 30 [] (Command.PushStr string.entry ∷ []) }
 {}
 
 /// What is reserved counts beside the text: 30 bytes beside none, 27 beside three.
@@ -98,12 +86,6 @@ pub fn two_pushes_are_within(first: &str, second: &str)
         (Command.PushStr first.entry ∷ Command.PushStr second.entry ∷ []) }
     ensures missed { ¬ PushesWithin 9
         (Command.PushStr first.entry ∷ Command.PushStr second.entry ∷ []) }
-{}
-
-/// A push of eleven bytes is not within ten.
-pub fn eleven_bytes_are_not_within(string: &str)
-    requires { size (chars string.now) ≡ 11 }
-    ensures { ¬ PushesWithin 10 (Command.PushStr string.entry ∷ []) }
 {}
 
 /// Commands other than pushes are not within any number, also where they add nothing; no commands

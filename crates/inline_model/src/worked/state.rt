@@ -3,7 +3,8 @@ ghost use Rattle.std.specs.Prelude.{◌≡◌, ◌∷◌, [], List, ℕ, true, f
 ghost use Rattle.std.specs.Str.{all_scalars};
 ghost use Rattle.inlinable_string.specs.Text.{size};
 ghost use Rattle.inlinable_string.specs.State.{TextState, IsLawful, IsSameText, HasRoom, HasInlineRoom, is_inline, storage_with_room, storage_when_shrunk, storage_when_made};
-ghost use Rattle.inlinable_string.specs.Values.{heap_policy, inlinable_policy};
+ghost use Rattle.inlinable_string.specs.StringValues.{heap_policy};
+ghost use Rattle.inlinable_string.specs.Values.{inlinable_policy};
 ghost use Rattle.inline_model.specs.Worked.{inline_text, heap_text, heap_only_text};
 
 use inlinable_string::Storage;
@@ -12,12 +13,6 @@ use inlinable_string::Storage;
 pub fn room_for_30_bytes_is_made_inline()
     ensures inline { storage_when_made (inlinable_policy 30) 30 ≡ Storage.Inline }
     ensures heap { storage_when_made (inlinable_policy 30) 31 ≡ Storage.Heap }
-{}
-
-/// Where none may lie inline, room for none is made there, and room for one on the heap.
-pub fn room_for_one_byte_is_made_on_the_heap()
-    ensures inline { storage_when_made (inlinable_policy 0) 0 ≡ Storage.Inline }
-    ensures heap { storage_when_made (inlinable_policy 0) 1 ≡ Storage.Heap }
 {}
 
 /// Under a policy that has no text inline, room for any number of bytes is made on the heap.

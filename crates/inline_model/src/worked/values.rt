@@ -2,7 +2,9 @@
 ghost use Rattle.std.specs.Prelude.{◌≡◌, true, false};
 ghost use Rattle.std.specs.Str.{chars};
 ghost use Rattle.std.specs.String.{string_bytes, string_capacity};
-ghost use Rattle.inlinable_string.specs.Values.{string_state, inlinable_state, boxable_state};
+ghost use Rattle.inlinable_string.specs.StringValues.{string_state};
+ghost use Rattle.inlinable_string.specs.Values.{inlinable_state};
+ghost use Rattle.inlinable_string.specs.BoxableValues.{boxable_state};
 ghost use Rattle.inline_model.specs.Worked.{inline_text};
 
 use inlinable_string::{BoxableString, InlinableStringN, InlineStringN, Storage};

@@ -1,4 +1,4 @@
-//! Each request for memory refused in turn, in runs over all commands.
+//! Runs over all commands.
 use inlinable_string::run::Command::{
     self, Clear, Insert, InsertStr, Pop, Push, PushStr, Remove, ReplaceBytes, Reserve,
     ReserveExact, ShrinkToFit, Truncate,
@@ -43,8 +43,7 @@ const COMMANDS: &[Command<'static>] = &[
     Pop,
 ];
 
-/// The replies to them where no request is refused. That for room past what a `usize` counts is for
-/// want of memory all the same.
+/// The replies to them where no request is refused. Room past what a `usize` counts fails always.
 const REPLIES: &[Reply] = &[
     Done,
     Done,
@@ -68,7 +67,18 @@ const REPLIES: &[Reply] = &[
     NoChar,
 ];
 
-/// How many replies are for want of memory.
+const A30: &str = "aaaaaaaaaaaaaaaaaaaaaaaaaaaaaa";
+
+/// 32 bytes.
+const A29_EURO: &str = "aaaaaaaaaaaaaaaaaaaaaaaaaaaaa€";
+
+/// 33 bytes.
+const A30_EURO: &str = "aaaaaaaaaaaaaaaaaaaaaaaaaaaaaa€";
+
+/// The second promotes a new text, and the fourth grows it on the heap.
+const PROMOTING: &[Command<'static>] = &[PushStr(A30), Push('b'), Pop, Push('€')];
+
+/// How many commands failed for memory.
 fn count_no_memory(replies: &[Reply]) -> usize {
     let mut count = 0usize;
     for reply in replies {
@@ -79,112 +89,95 @@ fn count_no_memory(replies: &[Reply]) -> usize {
     count
 }
 
+/// Whether a request was refused in a run with these replies, which are `ample` where none is.
+/// `None` where no single refusal explains them.
+pub fn refused_in(replies: &[Reply], ample: &[Reply]) -> Option<bool> {
+    if replies == ample {
+        return Some(false);
+    }
+    let has_one_more = count_no_memory(replies) == count_no_memory(ample).saturating_add(1);
+    if has_one_more { Some(true) } else { None }
+}
+
 /// What the plain program says of commands with their replies on a new text.
 fn verdict_from_new(
     alloc: Global,
-    start: Seen<'_>,
     policy: Policy,
     commands: &[Command],
     replies: &[Reply],
     end: Seen<'_>,
 ) -> Result<Verdict, AllocError> {
+    let storage = if policy.demotes {
+        Storage::Inline
+    } else {
+        Storage::Heap
+    };
     let plain = plain_from(
         alloc,
-        start.string,
-        start.storage,
-        start.capacity,
+        "",
+        storage,
+        policy.limit,
         policy.demotes,
         policy.limit,
     )?;
     verdict_of(alloc, plain, commands, replies, end)
 }
 
-/// What is wrong after a run.
-#[derive(Clone, Copy, Debug, PartialEq)]
-pub enum Wrong {
-    /// More than one request was refused.
-    SecondRefusal,
-    /// None was refused, and the replies are not those with none refused.
-    Replies,
-}
-
-/// Whether a request was refused in a run with these replies, which are `ample` where none is; or
-/// what is wrong with them.
-pub fn refused_in(replies: &[Reply], ample: &[Reply]) -> Result<bool, Wrong> {
-    let mut refusals = Refusals::none();
-    for _ in count_no_memory(ample)..count_no_memory(replies) {
-        if !refusals.meet() {
-            return Err(Wrong::SecondRefusal);
-        }
-    }
-    let refused = refusals.has_met;
-    if !refused && replies != ample {
-        return Err(Wrong::Replies);
-    }
-    Ok(refused)
-}
-
-/// Asserts that at most one request was refused, that the replies are those with none refused where
-/// none was, and that the plain program agrees. Answers whether one was refused.
-///
-/// The plain program's own request may be the refused one: then it is asked again.
-fn assert_refused_once(
-    rt: &impl Abort,
+/// Asserts that at most one request was refused, and that the plain program agrees. Says so where
+/// one was refused: it may be the plain program's own, which then is made again.
+fn assert_agrees(
+    rt: &(impl Abort + Print),
     alloc: Global,
     policy: Policy,
-    commands: &[Command],
-    replies: &[Reply],
-    ample: &[Reply],
+    (commands, replies, ample): (&[Command], &[Reply], &[Reply]),
     end: Seen<'_>,
-) -> bool {
+) -> Result<(), Fail> {
     let refused = refused_in(replies, ample);
-    assert!(rt; refused.is_ok(), "{refused:?} in {replies:?}");
-    let refused = refused.unwrap_or(false);
-    let storage = if policy.demotes {
-        Storage::Inline
-    } else {
-        Storage::Heap
+    assert!(rt; refused.is_some(), "{replies:?}");
+    let mut refusals = Refusals {
+        has_met: refused == Some(true),
     };
-    let start = Seen {
-        string: "",
-        storage,
-        capacity: policy.limit,
-    };
-    let verdict = match verdict_from_new(alloc, start, policy, commands, replies, end) {
+    let verdict = match verdict_from_new(alloc, policy, commands, replies, end) {
         Ok(verdict) => verdict,
-        Err(_) => {
-            assert!(rt; !refused, "want of memory with no request refused");
-            let again = verdict_from_new(alloc, start, policy, commands, replies, end);
-            again.expect(rt, "memory for the plain program")
+        Err(AllocError) => {
+            assert!(rt;
+                refusals.meet(),
+                "allocation failure with no request refused"
+            );
+            let again = verdict_from_new(alloc, policy, commands, replies, end);
+            again.expect(rt, "one request is refused at most")
         }
     };
     assert_eq!(rt; verdict, Verdict::Agrees, "{replies:?}");
-    refused
+    super::tell(rt, &refusals)
 }
 
-/// Gives the commands to a new text. Answers whether a request was refused.
-fn meets_refusal<S: StringMake + Drop>(rt: &impl Abort, alloc: Global, policy: Policy) -> bool {
+/// Gives all commands to a new text.
+fn assert_run<S: StringMake + Drop>(
+    rt: &(impl Abort + Print),
+    alloc: Global,
+    policy: Policy,
+) -> Result<(), Fail> {
     let mut text = S::new(alloc);
     let mut replies = [BadPlace; 20];
     run(&mut text, COMMANDS, &mut replies);
-    let end = seen_of(&text);
-    assert_refused_once(rt, alloc, policy, COMMANDS, &replies, REPLIES, end)
+    assert_agrees(
+        rt,
+        alloc,
+        policy,
+        (COMMANDS, &replies, REPLIES),
+        seen_of(&text),
+    )
 }
 
 #[test]
 fn a_run_on_an_inline_or_heap_text(rt: HostRuntime) -> Result<(), Fail> {
-    if meets_refusal::<InlinableString>(&rt, rt.alloc(), inlinable(30)) {
-        println!(rt; "refused")?;
-    }
-    Ok(())
+    assert_run::<InlinableString>(&rt, rt.alloc(), inlinable(30))
 }
 
 #[test]
 fn a_run_on_a_text_with_a_small_limit(rt: HostRuntime) -> Result<(), Fail> {
-    if meets_refusal::<InlinableStringN<8>>(&rt, rt.alloc(), inlinable(8)) {
-        println!(rt; "refused")?;
-    }
-    Ok(())
+    assert_run::<InlinableStringN<8>>(&rt, rt.alloc(), inlinable(8))
 }
 
 #[test]
@@ -192,58 +185,25 @@ fn a_run_on_a_string_behind_a_dyn(rt: HostRuntime) -> Result<(), Fail> {
     let mut text = <String as StringMake>::new(rt.alloc());
     let mut replies = [BadPlace; 20];
     run_dyn(&mut text, COMMANDS, &mut replies);
-    let end = seen_of_dyn(&text);
-    if assert_refused_once(&rt, rt.alloc(), HEAP, COMMANDS, &replies, REPLIES, end) {
-        println!(rt; "refused")?;
-    }
-    Ok(())
+    assert_agrees(
+        &rt,
+        rt.alloc(),
+        HEAP,
+        (COMMANDS, &replies, REPLIES),
+        seen_of_dyn(&text),
+    )
 }
 
-/// Commands of which the second promotes a new text, and the fourth grows it on the heap.
-const PROMOTING: &[Command<'static>] = &[PushStr(A30), Push('b'), Pop, Push('€')];
-
-/// The replies to them where no request is refused.
-const PROMOTED: &[Reply] = &[Done, Done, Char('b'), Done];
-
-/// Gives them to a new text. Answers whether a request was refused.
-fn meets_refusal_at_promotion<S: StringMake + Drop>(
-    rt: &impl Abort,
-    alloc: Global,
-    policy: Policy,
-) -> bool {
-    let mut text = S::new(alloc);
-    let mut replies = [BadPlace; 4];
-    run(&mut text, PROMOTING, &mut replies);
-    let end = seen_of(&text);
-    let refused = assert_refused_once(rt, alloc, policy, PROMOTING, &replies, PROMOTED, end);
-    if refused {
-        assert_one_refused(rt, replies, end);
-    }
-    refused
-}
-
-/// The first request is that of the promotion, the second that of the growth after it.
-fn assert_one_refused(rt: &impl Abort, replies: [Reply; 4], end: Seen<'_>) {
-    let wanted = if replies[1] == NoMemory {
-        ([Done, NoMemory, Char('a'), Done], A29_EURO)
-    } else {
-        ([Done, Done, Char('b'), NoMemory], A30)
+/// Whether a request was refused: first that of the promotion, then that of the growth after it.
+fn is_refused(rt: &impl Abort, replies: [Reply; 4], end: Seen<'_>) -> bool {
+    let (wanted, string) = match replies {
+        [_, NoMemory, ..] => ([Done, NoMemory, Char('a'), Done], A29_EURO),
+        [.., NoMemory] => ([Done, Done, Char('b'), NoMemory], A30),
+        _ => ([Done, Done, Char('b'), Done], A30_EURO),
     };
-    assert_eq!(rt; (replies, end.string), wanted);
-    assert_eq!(rt; end.storage, Storage::Heap);
-}
-
-const A30: &str = "aaaaaaaaaaaaaaaaaaaaaaaaaaaaaa";
-
-/// 32 bytes.
-const A29_EURO: &str = "aaaaaaaaaaaaaaaaaaaaaaaaaaaaa€";
-
-#[test]
-fn a_promotion_in_a_run(rt: HostRuntime) -> Result<(), Fail> {
-    if meets_refusal_at_promotion::<InlinableString>(&rt, rt.alloc(), inlinable(30)) {
-        println!(rt; "refused")?;
-    }
-    Ok(())
+    assert_eq!(rt; replies, wanted);
+    assert_eq!(rt; (end.string, end.storage), (string, Storage::Heap));
+    replies.contains(&NoMemory)
 }
 
 /// A list of one new text, in a box.
@@ -253,41 +213,34 @@ fn boxed(alloc: Global) -> Result<Vec<Box<dyn StringExt + Drop>>, AllocError> {
     Ok(texts)
 }
 
-/// The same, again if it is refused.
-fn boxed_once_more(
-    rt: &impl Abort,
-    alloc: Global,
-    refusals: &mut Refusals,
-) -> Vec<Box<dyn StringExt + Drop>> {
-    match boxed(alloc) {
-        Ok(texts) => texts,
-        Err(AllocError) => {
-            assert!(rt; refusals.meet(), "want of memory with no request refused");
-            boxed(alloc).expect(rt, "one request is refused at most")
-        }
-    }
+#[test]
+fn a_promotion_in_a_run(rt: HostRuntime) -> Result<(), Fail> {
+    let mut text = InlinableString::new(rt.alloc());
+    let mut replies = [BadPlace; 4];
+    run(&mut text, PROMOTING, &mut replies);
+    let has_met = is_refused(&rt, replies, seen_of(&text));
+    super::tell(&rt, &Refusals { has_met })
 }
 
 #[test]
 fn a_promotion_in_a_run_on_boxed_texts(rt: HostRuntime) -> Result<(), Fail> {
     let (alloc, mut refusals) = (rt.alloc(), Refusals::none());
-    let mut texts = boxed_once_more(&rt, alloc, &mut refusals);
-    assert!(rt; texts.len() == 1);
+    let mut made = boxed(alloc);
+    if made.is_err() {
+        assert!(rt; refusals.meet());
+        made = boxed(alloc);
+    }
+    let mut texts = made.expect(&rt, "one request is refused at most");
     let mut replies = [BadPlace; 4];
+    assert!(rt; texts.len() == 1);
     run_each(
         &mut texts,
         &[PushStr(A30), Push('b'), Pop, Push('€')],
         &mut replies,
     );
-    let refused = refused_in(&replies, PROMOTED);
-    if refused == Ok(true) {
+    let text = texts.first().expect(&rt, "the one text");
+    if is_refused(&rt, replies, seen_of_dyn(&**text)) {
         assert!(rt; refusals.meet(), "{replies:?}");
-        let text = texts.first().expect(&rt, "the one text");
-        assert_one_refused(&rt, replies, seen_of_dyn(&**text));
     }
-    assert!(rt; refused.is_ok(), "{refused:?} in {replies:?}");
-    if refusals.has_met {
-        println!(rt; "refused")?;
-    }
-    Ok(())
+    super::tell(&rt, &refusals)
 }

@@ -1,30 +1,21 @@
 //! Readers and writers that hand over little, fail, or never end.
 
-use std::io;
-use std::io::{ErrorKind, Read, Write};
+use std::io::{self, ErrorKind, Read, Write};
 
 /// Hands out its bytes one at a time, and fails at the read of that number, counted from 1.
 #[derive(Drop)]
 pub struct OneByOne<'a> {
     rest: &'a [u8],
-    failing_read: Option<usize>,
-    /// How many reads were asked for.
+    failing_read: usize,
+    /// How many reads were made.
     pub reads: usize,
 }
 
 impl<'a> OneByOne<'a> {
-    pub fn new(bytes: &'a [u8]) -> OneByOne<'a> {
+    pub fn failing_at(rest: &'a [u8], failing_read: usize) -> OneByOne<'a> {
         OneByOne {
-            rest: bytes,
-            failing_read: None,
-            reads: 0,
-        }
-    }
-
-    pub fn failing_at(bytes: &'a [u8], read: usize) -> OneByOne<'a> {
-        OneByOne {
-            rest: bytes,
-            failing_read: Some(read),
+            rest,
+            failing_read,
             reads: 0,
         }
     }
@@ -33,7 +24,7 @@ impl<'a> OneByOne<'a> {
 impl Read for OneByOne<'_> {
     fn read(&mut self, buf: &mut [u8]) -> io::Result<usize> {
         self.reads = self.reads.saturating_add(1);
-        if self.failing_read == Some(self.reads) {
+        if self.failing_read == self.reads {
             return Err(io::Error::from(ErrorKind::Interrupted));
         }
         let (Some((first, rest)), Some(cell)) = (self.rest.split_first(), buf.first_mut()) else {
@@ -60,40 +51,32 @@ impl Read for Endless {
     }
 }
 
-/// How a write goes wrong.
-#[derive(Clone, Copy, Debug)]
-pub enum Failure {
-    /// It answers this error.
-    Error(ErrorKind),
-    /// It takes no byte.
-    NoByte,
-}
-
-/// Takes at most three bytes a write, and fails at the write of that number, counted from 1.
+/// Takes at most three bytes a write, and fails at the write of that number, counted from 1: with
+/// an error, or by taking no byte.
 #[derive(Drop)]
 pub struct Narrow<'a> {
     cells: &'a mut [u8],
     failing_write: usize,
-    failure: Failure,
-    writes: usize,
+    error: Option<ErrorKind>,
+    /// How many writes were made.
+    pub writes: usize,
     /// How many bytes were taken.
     pub taken: usize,
 }
 
 impl<'a> Narrow<'a> {
-    pub fn failing_at(cells: &'a mut [u8], write: usize, failure: Failure) -> Narrow<'a> {
+    pub fn failing_at(
+        cells: &'a mut [u8],
+        failing_write: usize,
+        error: Option<ErrorKind>,
+    ) -> Narrow<'a> {
         Narrow {
             cells,
-            failing_write: write,
-            failure,
+            failing_write,
+            error,
             writes: 0,
             taken: 0,
         }
-    }
-
-    /// Whether the failing write was asked for.
-    pub fn has_failed(&self) -> bool {
-        self.writes >= self.failing_write
     }
 }
 
@@ -101,10 +84,7 @@ impl Write for Narrow<'_> {
     fn write(&mut self, buf: &[u8]) -> io::Result<usize> {
         self.writes = self.writes.saturating_add(1);
         if self.writes == self.failing_write {
-            return match self.failure {
-                Failure::Error(kind) => Err(io::Error::from(kind)),
-                Failure::NoByte => Ok(0),
-            };
+            return self.error.map_or(Ok(0), |kind| Err(io::Error::from(kind)));
         }
         let Some(room) = self.cells.get_mut(self.taken..) else {
             return Ok(0);
@@ -123,7 +103,7 @@ impl Write for Narrow<'_> {
 /// Takes all that it is given.
 #[derive(Drop)]
 pub struct Counted {
-    /// How many writes were asked for.
+    /// How many writes were made.
     pub writes: usize,
     /// How many bytes were taken.
     pub taken: usize,

@@ -1,8 +1,8 @@
 //! Lines that ask for nothing, and the first of them.
-ghost use Rattle.std.specs.Prelude.{◌≡◌, ◌∷◌, ◌++◌, [], ℕ, List, codes};
+ghost use Rattle.std.specs.Prelude.{◌∷◌, [], ℕ, List, codes};
 ghost use Rattle.inlinable_string.specs.declared.run.Command.{Command};
 ghost use Rattle.script_language.specs.Line.{IsCharText, IsHexText, IsLine, IsNumberText};
-ghost use Rattle.script_language.specs.Script.{IsFirstBad, IsScript};
+ghost use Rattle.script_language.specs.Script.{IsFirstBad};
 
 /// No number: no digit, a sign, a letter, 21 digits, one past the largest, a space.
 pub fn texts_of_no_number()
@@ -47,25 +47,6 @@ pub fn lines_without_their_argument()
     ensures insert { (command : Command) → ¬ (IsLine (codes "insert 3") command) }
 {}
 
-/// A word with an argument of another kind.
-pub fn lines_with_another_argument()
-    ensures none { (command : Command) → ¬ (IsLine (codes "push ") command) }
-    ensures two { (command : Command) → ¬ (IsLine (codes "push ab") command) }
-    ensures plus { (command : Command) → ¬ (IsLine (codes "truncate +5") command) }
-    ensures long { (command : Command)
-        → ¬ (IsLine (codes "truncate 000000000000000000005") command) }
-    ensures large { (command : Command)
-        → ¬ (IsLine (codes "truncate 18446744073709551616") command) }
-    ensures insert { (command : Command) → ¬ (IsLine (codes "insert 3 ab") command) }
-{}
-
-/// No word of the language.
-pub fn lines_of_no_word()
-    ensures capital { (command : Command) → ¬ (IsLine (codes "Pop") command) }
-    ensures before { (command : Command) → ¬ (IsLine (codes " pop") command) }
-    ensures empty { (command : Command) → ¬ (IsLine [] command) }
-{}
-
 /// The first bad line is counted from 1, with the lines that have no byte.
 pub fn first_bad_lines()
     ensures first { IsFirstBad (codes "pop " ∷ codes "pop" ∷ []) 1 }
@@ -73,10 +54,4 @@ pub fn first_bad_lines()
     ensures last { IsFirstBad (codes "clear" ∷ codes "Pop" ∷ []) 2 }
     ensures none { (number : ℕ) → ¬ (IsFirstBad (codes "pop" ∷ [] ∷ []) number) }
     ensures second { ¬ (IsFirstBad (codes "pop " ∷ codes "Pop" ∷ []) 2) }
-{}
-
-/// A script with a bad line prints nothing.
-pub fn bad_scripts_have_no_output(words: &[String])
-    ensures space { (output : List ℕ) → ¬ (IsScript words.now (codes "pop \n") output) }
-    ensures second { (output : List ℕ) → ¬ (IsScript words.now (codes "clear\nPop\n") output) }
 {}

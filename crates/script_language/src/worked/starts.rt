@@ -1,5 +1,5 @@
 //! What the words name, and the lines of an input.
-ghost use Rattle.std.specs.Prelude.{◌≡◌, ◌+◌, ◌≤◌, ◌∷◌, ◌++◌, [], ℕ, true, false, Some, None, codes, map};
+ghost use Rattle.std.specs.Prelude.{◌≡◌, ◌+◌, ◌≤◌, ◌∷◌, ◌++◌, [], true, false, Some, None, codes, map};
 ghost use Rattle.std.specs.String.{string_bytes};
 ghost use Rattle.inlinable_string.specs.State.{Policy, TextState};
 ghost use Rattle.script_language.specs.Script.{bytes_left, lines_left, lines_of, policy_of, room_of, word_of_start, IsMade, IsNamed};
@@ -80,34 +80,6 @@ pub fn starts_keep_their_policy_and_room()
     ensures inline0 { (s : TextState) → IsMade Start.Inline0 s → s.policy.limit ≡ 0 }
     ensures inline8 { (s : TextState) → IsMade Start.Inline8 s → s.policy.limit ≡ 8 }
     ensures room { (s : TextState) → IsMade Start.Heap s → 31 ≤ s.capacity }
-{}
-
-/// The empty text is made in its room, on each start.
-pub fn starts_are_made()
-    ensures inline { IsMade Start.Inline (record {
-      text = [];
-      storage = Storage.Inline;
-      capacity = 30;
-      policy = record { demotes = true; limit = 30 };
-    }) }
-    ensures heap { IsMade Start.Heap (record {
-      text = [];
-      storage = Storage.Heap;
-      capacity = 31;
-      policy = record { demotes = true; limit = 30 };
-    }) }
-    ensures inline0 { IsMade Start.Inline0 (record {
-      text = [];
-      storage = Storage.Inline;
-      capacity = 0;
-      policy = record { demotes = true; limit = 0 };
-    }) }
-    ensures inline8 { IsMade Start.Inline8 (record {
-      text = [];
-      storage = Storage.Inline;
-      capacity = 8;
-      policy = record { demotes = true; limit = 8 };
-    }) }
 {}
 
 /// A line feed ends a line, and begins the next; a carriage return belongs to its line.

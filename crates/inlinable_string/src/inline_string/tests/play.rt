@@ -1,222 +1,161 @@
-//! Plays tables of commands on texts whose start in the array is known.
-//!
-//! What plays a table answers the first row that is wrong, and one function asserts that none is.
-//! So tests of the tests (`wrong_tables`) can play tables that are wrong in one value.
-ghost use Rattle.std.specs.Prelude.{◌≤◌, IsOk, IsTrue};
+//! Plays tables of calls on texts whose start in the array is known.
+ghost use Rattle.std.specs.Prelude.{◌≤◌};
 
-use crate::inline_string::{InlineStringN, NotEnoughSpaceError, ReplaceError};
-use crate::run::Command::{
-    self, Clear, Insert, InsertStr, Pop, Push, PushStr, Remove, ReplaceBytes, Reserve,
-    ReserveExact, ShrinkToFit, Truncate,
+use super::super::{InlineStringN, NotEnoughSpaceError, ReplaceError};
+use Call::{
+    Clear, Insert, InsertStr, IntoBytes, Pop, Push, PushStr, Remove, ReplaceBytes, Truncate,
 };
-use crate::run::Reply::{self, BadPlace, Char, Done, NoChar, NoMemory, NotUtf8, WrongLength};
-use std::fmt::Debug;
 use std::process::Abort;
 
-/// A command, the reply to it, and the text and its start after it.
-pub type Step<'a> = (Command<'a>, Reply, &'a str, usize);
+/// A call. One that returns a character or bytes has what it must return.
+#[derive(Clone, Copy)]
+pub enum Call<'a> {
+    Push(char),
+    PushStr(&'a str),
+    Insert(usize, char),
+    InsertStr(usize, &'a str),
+    Truncate(usize),
+    Pop(Option<char>),
+    Remove(usize, char),
+    Clear,
+    ReplaceBytes(&'a [u8]),
+    /// On a copy.
+    IntoBytes(&'a [u8]),
+}
 
-/// A text and its start, a command, the reply to it, and the text and its start after it.
-pub type Row<'a> = (&'a str, usize, Command<'a>, Reply, &'a str, usize);
+/// Why a call fails, or what is wrong after it.
+#[derive(Clone, Copy, Debug, PartialEq)]
+pub enum Fault {
+    NotEnoughSpace,
+    WrongLength,
+    NotUtf8,
+    /// The place is none of the text, so the call is not made.
+    BadPlace,
+    /// It returns something else, or fails in another way than its row says.
+    OtherAnswer,
+    OtherText,
+    OtherStart,
+}
 
-/// A text and its start, and the bytes that it gives.
-pub type Shown<'a> = (&'a str, usize, &'a [u8]);
+/// The text and its start after a call, or why it fails and changes neither.
+#[derive(Clone, Copy)]
+pub enum End<'a> {
+    To(&'a str, usize),
+    Fails(Fault),
+}
 
-fn growth(answer: Result<(), NotEnoughSpaceError>) -> Reply {
+/// A text and its start, a call, and its end.
+pub type Row<'a> = (&'a str, usize, Call<'a>, End<'a>);
+
+fn growth(answer: Result<(), NotEnoughSpaceError>) -> Option<Fault> {
     match answer {
-        Ok(()) => Done,
-        Err(NotEnoughSpaceError) => NoMemory,
+        Ok(()) => None,
+        Err(NotEnoughSpaceError) => Some(Fault::NotEnoughSpace),
     }
 }
 
-/// Makes the call that the command names, where its place is one of the text. Want of memory stands
-/// for the error of an array. It has no reservations, and nothing to shrink.
-pub fn reply_by_call<const N: usize>(text: &mut InlineStringN<N>, command: Command) -> Reply {
-    match command {
+fn wanted(is_wanted: bool) -> Option<Fault> {
+    if is_wanted {
+        None
+    } else {
+        Some(Fault::OtherAnswer)
+    }
+}
+
+fn bytes_of<const N: usize>(text: &InlineStringN<N>, bytes: &[u8]) -> Option<Fault> {
+    match text.clone() {
+        Ok(copy) => wanted(&copy.into_bytes()[..] == bytes),
+        Err(_) => Some(Fault::OtherAnswer),
+    }
+}
+
+fn fault_of<const N: usize>(text: &mut InlineStringN<N>, call: Call) -> Option<Fault> {
+    match call {
         Push(ch) => growth(text.push(ch)),
         PushStr(string) => growth(text.push_str(string)),
-        Insert(idx, ch) => {
-            if text.is_char_boundary(idx) {
-                growth(text.insert(idx, ch))
-            } else {
-                BadPlace
-            }
+        Insert(idx, ch) if text.is_char_boundary(idx) => growth(text.insert(idx, ch)),
+        InsertStr(idx, string) if text.is_char_boundary(idx) => {
+            growth(text.insert_str(idx, string))
         }
-        InsertStr(idx, string) => {
-            if text.is_char_boundary(idx) {
-                growth(text.insert_str(idx, string))
-            } else {
-                BadPlace
-            }
+        Truncate(new_len) if text.is_char_boundary(new_len) => {
+            text.truncate(new_len);
+            None
         }
-        Truncate(new_len) => {
-            let is_place = text.is_char_boundary(new_len);
-            if is_place {
-                text.truncate(new_len);
-            }
-            if is_place { Done } else { BadPlace }
+        Remove(idx, ch) if idx < text.len() && text.is_char_boundary(idx) => {
+            wanted(text.remove(idx) == ch)
         }
-        Pop => text.pop().map_or(NoChar, Char),
-        Remove(idx) => {
-            if idx < text.len() && text.is_char_boundary(idx) {
-                Char(text.remove(idx))
-            } else {
-                BadPlace
-            }
-        }
+        Insert(..) | InsertStr(..) | Truncate(_) | Remove(..) => Some(Fault::BadPlace),
+        Pop(last) => wanted(text.pop() == last),
         Clear => {
             text.clear();
-            Done
+            None
         }
         ReplaceBytes(bytes) => match text.replace_bytes(bytes) {
-            Ok(()) => Done,
-            Err(ReplaceError::WrongLength) => WrongLength,
-            Err(ReplaceError::NotUtf8) => NotUtf8,
+            Ok(()) => None,
+            Err(ReplaceError::WrongLength) => Some(Fault::WrongLength),
+            Err(ReplaceError::NotUtf8) => Some(Fault::NotUtf8),
         },
-        Reserve(_) | ReserveExact(_) | ShrinkToFit => Done,
-    }
-}
-
-/// What is wrong after a command.
-#[derive(Clone, Copy, Debug, PartialEq)]
-pub enum Wrong {
-    /// The reply, which is this.
-    Reply(Reply),
-    /// The text.
-    Text,
-    /// Where the text starts, which is here.
-    Start(usize),
-    /// The bytes that the text gives.
-    Bytes,
-}
-
-/// How many rows were right, or the number of the first that was wrong, and what is wrong there.
-pub type Tally = Result<usize, (usize, Wrong)>;
-
-/// Asserts that two values are the same.
-fn assert_same<T: Copy + Debug + PartialEq>(rt: &impl Abort, given: T, wanted: T)
-    ensures { IsTrue (T.eq given wanted) }
-{
-    assert_eq!(rt; given, wanted);
-}
-
-/// Asserts that no row was wrong.
-fn assert_right(rt: &impl Abort, tally: Tally)
-    ensures { IsOk tally }
-{
-    assert!(rt; tally.is_ok(), "{tally:?}");
-}
-
-pub fn assert_text<const N: usize>(
-    rt: &impl Abort,
-    text: &InlineStringN<N>,
-    string: &str,
-    start: usize,
-) {
-    assert_same(rt, (text.as_str(), text.start), (string, start));
-}
-
-/// Gives a command so many times.
-fn repeat<const N: usize>(
-    rt: &impl Abort,
-    text: &mut InlineStringN<N>,
-    times: usize,
-    command: Command,
-    reply: Reply,
-) {
-    for _ in 0..times {
-        assert_same(rt, reply_by_call(text, command), reply);
+        IntoBytes(bytes) => bytes_of(text, bytes),
     }
 }
 
 /// A text at a start: bytes are put before it and taken out again.
 fn text_at<const N: usize>(rt: &impl Abort, string: &str, start: usize) -> InlineStringN<N> {
-    // The start moves only where a byte stays behind the one that is taken out.
+    // The start moves only where a byte stays after the one that is taken out.
     let needs_byte = string.is_empty() && 0 < start;
     let kept = if needs_byte { ">" } else { string };
     let mut text = InlineStringN::new();
-    repeat(rt, &mut text, start, Push('<'), Done);
-    repeat(rt, &mut text, 1, PushStr(kept), Done);
-    repeat(rt, &mut text, start, Remove(0), Char('<'));
-    repeat(rt, &mut text, usize::from(needs_byte), Pop, Char('>'));
-    assert_text(rt, &text, string, start);
+    for _ in 0..start {
+        assert!(rt; text.push('<').is_ok());
+    }
+    assert!(rt; text.push_str(kept).is_ok());
+    for _ in 0..start {
+        assert!(rt; fault_of(&mut text, Remove(0, '<')).is_none());
+    }
+    if needs_byte {
+        text.clear();
+    }
+    assert_eq!(rt; (text.as_str(), text.start), (string, start));
     text
 }
 
-/// Makes a step on the text.
-fn wrong_after<const N: usize>(text: &mut InlineStringN<N>, step: Step) -> Option<Wrong> {
-    let (command, reply, after, start) = step;
-    let given = reply_by_call(text, command);
-    if given != reply {
-        Some(Wrong::Reply(given))
+/// Makes the call of a row, and compares its answer, the text and its start.
+fn wrong_after<const N: usize>(text: &mut InlineStringN<N>, row: Row) -> Option<Fault> {
+    let (string, start, call, end) = row;
+    let (answer, after, new_start) = match end {
+        End::To(after, new_start) => (None, after, new_start),
+        End::Fails(fault) => (Some(fault), string, start),
+    };
+    if fault_of(text, call) != answer {
+        Some(Fault::OtherAnswer)
     } else if text.as_str() != after {
-        Some(Wrong::Text)
-    } else if text.start != start {
-        Some(Wrong::Start(text.start))
+        Some(Fault::OtherText)
+    } else if text.start != new_start {
+        Some(Fault::OtherStart)
     } else {
         None
     }
 }
 
-/// Gives the command of each row on a text of its own.
-pub fn play_each<const N: usize>(rt: &impl Abort, rows: &[Row]) -> Tally
+/// Plays the rows. Returns the number of the first that is wrong, and what is wrong there.
+pub fn first_wrong<const N: usize>(rt: &impl Abort, rows: &[Row]) -> Option<(usize, Fault)>
     requires { N ≤ 300 }
 {
-    let mut count = 0usize;
-    for (i, &(string, start, command, reply, after, new_start)) in rows.iter().enumerate() {
-        let mut text = text_at::<N>(rt, string, start);
-        if let Some(wrong) = wrong_after(&mut text, (command, reply, after, new_start)) {
-            return Err((i, wrong));
+    let mut text = InlineStringN::<N>::new();
+    for (i, row) in rows.iter().enumerate() {
+        if (text.as_str(), text.start) != (row.0, row.1) {
+            text = text_at(rt, row.0, row.1);
         }
-        count = count.saturating_add(1);
-    }
-    Ok(count)
-}
-
-/// Makes the steps in turn on one text.
-pub fn play_in_turn<const N: usize>(rt: &impl Abort, string: &str, steps: &[Step]) -> Tally
-    requires { N ≤ 300 }
-{
-    let mut text = text_at::<N>(rt, string, 0);
-    let mut count = 0usize;
-    for (i, step) in steps.iter().enumerate() {
-        if let Some(wrong) = wrong_after(&mut text, *step) {
-            return Err((i, wrong));
+        if let Some(fault) = wrong_after(&mut text, *row) {
+            return Some((i, fault));
         }
-        count = count.saturating_add(1);
     }
-    Ok(count)
+    None
 }
 
-/// Compares the bytes of each row with those that its text gives.
-pub fn compare_bytes<const N: usize>(rt: &impl Abort, rows: &[Shown]) -> Tally
+pub fn assert_rows<const N: usize>(rt: &impl Abort, rows: &[Row])
     requires { N ≤ 300 }
 {
-    let mut count = 0usize;
-    for (i, &(string, start, bytes)) in rows.iter().enumerate() {
-        let given = text_at::<N>(rt, string, start).into_bytes();
-        if &given[..] != bytes {
-            return Err((i, Wrong::Bytes));
-        }
-        count = count.saturating_add(1);
-    }
-    Ok(count)
-}
-
-pub fn assert_each<const N: usize>(rt: &impl Abort, rows: &[Row])
-    requires { N ≤ 300 }
-{
-    assert_right(rt, play_each::<N>(rt, rows));
-}
-
-pub fn assert_in_turn<const N: usize>(rt: &impl Abort, string: &str, steps: &[Step])
-    requires { N ≤ 300 }
-{
-    assert_right(rt, play_in_turn::<N>(rt, string, steps));
-}
-
-pub fn assert_bytes<const N: usize>(rt: &impl Abort, rows: &[Shown])
-    requires { N ≤ 300 }
-{
-    assert_right(rt, compare_bytes::<N>(rt, rows));
+    let first = first_wrong::<N>(rt, rows);
+    assert!(rt; first.is_none(), "{first:?}");
 }

@@ -5,7 +5,7 @@ use Rattle.inlinable_string.proofs.inlinable_string.InlinableStringN.extend_strs
 
 pub loop-string-preserved : goal.loop-string-preserved
 loop-string-preserved g c =
-    let known = c.known_text.ensures in
+    let known = c.assume_utf8_param.ensures in
     let push = c.in_ok-push_str.ensures in
     grown_more _ _ _ _ _ _ _ c.loop-string.invariant (text_of_strs-more _ c.in-Some.string)
     (sym (size-chars _ known.utf8)) (rw known.value at push.text) (rw known.value at push.storage)
@@ -13,7 +13,7 @@ loop-string-preserved g c =
 
 pub returns-in_err-push_str-clause-err : goal.returns-in_err-push_str-clause-err
 returns-in_err-push_str-clause-err g c =
-    let known = c.known_text.ensures in
+    let known = c.assume_utf8_param.ensures in
     let push = c.in_err-push_str.ensures in
     let led = rw c.into_iter-string-iterator.ensures.into_iter_gives at c.loop-string.yielded_by in
     refused c.from_residual.result
@@ -24,7 +24,7 @@ returns-in_err-push_str-clause-err g c =
 
 pub returns-in_err-push_str-clause-granted : goal.returns-in_err-push_str-clause-granted
 returns-in_err-push_str-clause-granted g c fits =
-    let known = c.known_text.ensures in
+    let known = c.assume_utf8_param.ensures in
     let push = c.in_err-push_str.ensures in
     let led = rw c.into_iter-string-iterator.ensures.into_iter_gives at c.loop-string.yielded_by in
     absurd (all_fit text_of_strs _ _ _ _

@@ -8,4 +8,4 @@ returns-in-Err-clause-text g c = search (rules, chars_one)
 
 pub returns-in-Err-clause-behind : goal.returns-in-Err-clause-behind
 returns-in-Err-clause-behind g c =
-    on_ok_weaker c.promote.result place_behind (returns-in-Err-clause-text g c)
+    on_ok_weaker c.promote_and_insert.result place_behind (returns-in-Err-clause-text g c)

@@ -2,4 +2,4 @@ use Rattle.inlinable_string.proofs.inlinable_string.InlinableStringNStringExt.pu
 
 pub returns-in-Err-clause-text : goal.returns-in-Err-clause-text
 returns-in-Err-clause-text g c =
-    rw (c.in-Inline.is, ← c.in-Err.ensures.err) c.promote_appending.ensures.text
+    rw (c.in-Inline.is, ← c.in-Err.ensures.err) c.promote_and_append.ensures.text

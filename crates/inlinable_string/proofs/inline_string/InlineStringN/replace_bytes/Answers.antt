@@ -11,17 +11,17 @@ returns-then-bytes-self-clause-wrong_length g c _ e =
 pub returns-in_default-clause-not_utf8 : goal.returns-in_default-clause-not_utf8
 returns-in_default-clause-not_utf8 g c _ =
     let h = held c.self.inside c.self.view_is c.self.told c.self.invariant in
-    (c.if-bytes-self.false ∙ sym (size_of h), c.in_default.ensures.cases.0)
+    (c.if-bytes-self.false ∙ sym (size_of h), c.in_default.ensures)
 
 pub invariant_of-self : goal.invariant_of-self
 invariant_of-self g c =
-    let utf8 = c.in-Ok.ensures.cases in
+    let utf8 = c.in-Some.ensures in
     (window_replaced c.self.inside c.self.view_is c.self.told c.self.invariant _ _
     (c.as_bytes.ensures.value ∙ utf8.0) utf8.1 c.if-bytes-self.false c.write_at.ensures.text).0
 
 pub returns-clause-ok : goal.returns-clause-ok
 returns-clause-ok g c =
-    let utf8 = c.in-Ok.ensures.cases in
+    let utf8 = c.in-Some.ensures in
     (window_replaced c.self.inside c.self.view_is c.self.told c.self.invariant _ _
     (c.as_bytes.ensures.value ∙ utf8.0) utf8.1 c.if-bytes-self.false c.write_at.ensures.text).1
 

@@ -8,3 +8,9 @@ returns-clause-total g c =
 
 pub returns-clause-equal : goal.returns-clause-equal
 returns-clause-equal g c s t = ties_are_equal _ _
+
+pub returns-clause-inline_total : goal.returns-clause-inline_total
+returns-clause-inline_total g c = on_total (λ s. bytes_of s) nat_list_cmp_total
+
+pub returns-clause-inline_equal : goal.returns-clause-inline_equal
+returns-clause-inline_equal g c s t = ties_are_equal _ _

@@ -9,9 +9,9 @@ loop-made-init c =
 pub returns-in_default-left : goal.returns-in_default-left
 returns-in_default-left c =
     let old = string_bytes c.loop-made.made in
-    let text = c.split_fault.result.0.now in
-    let whole = read_whole c.split_fault.result.1 (λ l. l.now) c.loop-made.rest.now (chars text)
-    c.in_default-left.is c.split_fault.ensures.text in
+    let text = c.split_invalid.result.0.now in
+    let whole = read_whole c.split_invalid.result.1 (λ l. l.now) c.loop-made.rest.now (chars text)
+    c.in_default-left.is c.split_invalid.ensures.text in
     ap chars c.in_ok-push_str.ensures.bytes
     ∙ chars-append old text (IsUtf8-string_bytes c.loop-made.made)
     ∙ ap (λ t. chars old ++ t) (sym whole)
@@ -20,10 +20,10 @@ returns-in_default-left c =
 pub loop-made-preserved : goal.loop-made-preserved
 loop-made-preserved c =
     let old = string_bytes c.loop-made.made in
-    let text = c.split_fault.result.0.now in
+    let text = c.split_invalid.result.0.now in
     let more = lossy_utf8 c.in-Some-left.left.now in
-    let on = read_on c.split_fault.result.1 (λ l. l.now) c.loop-made.rest.now (chars text)
-    c.in-Some-left.left c.in-Some-left.is c.split_fault.ensures.text in
+    let on = read_on c.split_invalid.result.1 (λ l. l.now) c.loop-made.rest.now (chars text)
+    c.in-Some-left.left c.in-Some-left.is c.split_invalid.ensures.text in
     let pushed = ap chars c.in_ok-push_str.ensures.bytes
     ∙ chars-append old text (IsUtf8-string_bytes c.loop-made.made) in
     let ended = replaced-chars _ _ (IsUtf8-string_bytes c.push_str-in-loop-made.new.self)

@@ -5,9 +5,9 @@ use Rattle.inlinable_string.proofs.string_ext.utf8.lossy_len.Goals as goal
 
 pub returns-in_err-len : goal.returns-in_err-len
 returns-in_err-len c =
-    let split = c.split_fault.ensures in
-    let text = c.split_fault.result.0.now in
-    let within = size_within c.split_fault.result.1 (λ l. l.now) c.loop-len.rest.now (chars text)
+    let split = c.split_invalid.ensures in
+    let text = c.split_invalid.result.0.now in
+    let within = size_within c.split_invalid.result.1 (λ l. l.now) c.loop-len.rest.now (chars text)
     split.text in
     let past : 2 ^ 64 ≤ size (lossy_utf8 c.args.bytes.now) =
     omega (arith, c.in_err-len.ensures, c.loop-len.invariant, size-chars text split.utf8, within) in
@@ -18,9 +18,9 @@ returns-in_default c = search (rules, read_whole, size-chars)
 
 pub returns-in_err-len-2 : goal.returns-in_err-len-2
 returns-in_err-len-2 c =
-    let split = c.split_fault.ensures in
-    let text = c.split_fault.result.0.now in
-    let on = size_on c.split_fault.result.1 (λ l. l.now) c.loop-len.rest.now (chars text)
+    let split = c.split_invalid.ensures in
+    let text = c.split_invalid.result.0.now in
+    let on = size_on c.split_invalid.result.1 (λ l. l.now) c.loop-len.rest.now (chars text)
     c.in-Some.left c.in-Some.is split.text in
     let past : 2 ^ 64 ≤ size (lossy_utf8 c.args.bytes.now) =
     omega (
@@ -36,9 +36,9 @@ returns-in_err-len-2 c =
 
 pub loop-len-preserved : goal.loop-len-preserved
 loop-len-preserved c =
-    let split = c.split_fault.ensures in
-    let text = c.split_fault.result.0.now in
-    let on = size_on c.split_fault.result.1 (λ l. l.now) c.loop-len.rest.now (chars text)
+    let split = c.split_invalid.ensures in
+    let text = c.split_invalid.result.0.now in
+    let on = size_on c.split_invalid.result.1 (λ l. l.now) c.loop-len.rest.now (chars text)
     c.in-Some.left c.in-Some.is split.text in
     omega (
       arith,

@@ -4,10 +4,10 @@ use Rattle.inlinable_string.proofs.string_ext.std_string.StringStringMake.from_u
 
 pub returns-clause-text : goal.returns-clause-text
 returns-clause-text c =
-    IfOk-weaker c.from_utf8.result _ _
-    (λ made e. makers.bytes_made made c.args.vec e) c.from_utf8.ensures.ok
+    IfOk-weaker c.string_from.result _ _
+    (λ made e. makers.bytes_made made c.args.vec e) c.string_from.ensures.ok
 
 pub returns-clause-well_formed : goal.returns-clause-well_formed
 returns-clause-well_formed c =
-    makers.well_formed c.from_utf8.result c.args.vec c.from_utf8.ensures.ok
-    c.from_utf8.ensures.succeeds
+    makers.well_formed c.string_from.result c.args.vec c.string_from.ensures.ok
+    c.string_from.ensures.succeeds

@@ -1,0 +1,62 @@
+"""gate times CRATE [--test] [--only PATH]: what each function of a crate costs to prove, from nothing.
+
+The crate is checked in a copy by one job, and for each function that the check names as done, the
+processor time since the one before is printed, the dearest first. With --test its tests are checked too;
+--only takes one function, or the functions of a module or a type.
+"""
+import os
+import re
+import shutil
+import subprocess
+from glob import glob
+
+from gate_parts.options import options
+from gate_parts.rooms import copies
+from gate_parts.tree import Failure, crate_folder, crates_with, text_of, write_text
+
+# A function that is done, and the line before the first.
+CHECKED = re.compile(r'^checked (\S+), \d+ of \d+$|^so far: 0 of')
+BEFORE = 'before the first function'
+
+
+def ticks(process):
+    """What a process and all that it started have taken of the processor so far."""
+    try:
+        own = text_of(f'/proc/{process}/stat').rpartition(')')[2].split()[11:15]
+        started = [child for path in glob(f'/proc/{process}/task/*/children') for child in text_of(path).split()]
+    except OSError:  # it has ended, and is in the ticks of what started it
+        return 0
+    return sum(map(int, own)) + sum(map(ticks, started))
+
+
+def forget(folder):
+    """Has a check of a copied crate begin from nothing: its text is like no other's, and nothing is kept."""
+    root = next(path for path in (f'{folder}/src/lib.rt', f'{folder}/src/main.rt') if os.path.exists(path))
+    write_text(root, text_of(root) + '// timed\n')
+    shutil.rmtree(f'{folder}/out', ignore_errors=True)
+    os.makedirs(f'{folder}/out/incremental')
+
+
+def timed(folder, words):
+    """By function, the seconds of processor that its check takes; under BEFORE those before the first."""
+    costs, last = {}, 0
+    with subprocess.Popen(['rt', 'check', '--jobs', '1', '--progress', *words], cwd=folder, encoding='utf-8',
+                          errors='replace', stdout=subprocess.PIPE, stderr=subprocess.STDOUT) as check:
+        for found in filter(None, map(CHECKED.match, check.stdout)):
+            now = ticks(check.pid) / os.sysconf('SC_CLK_TCK')
+            costs[found[1] or BEFORE], last = now - last, now
+    return costs
+
+
+def main(words):
+    given = options('times', __doc__, words, 'crate', '--test', '--only')
+    if given.crate not in crates_with('src'):
+        raise Failure(f'there is no crate {given.crate}')
+    asked = ['--test'] * given.test + ['--only', given.only] * bool(given.only)
+    with copies([given.crate], 1) as (room,):
+        forget(crate_folder(given.crate, room))
+        costs = timed(crate_folder(given.crate, room), asked)
+    for function, seconds in sorted(costs.items(), key=lambda each: -each[1]):
+        print(f'{seconds:7.1f} s  {function}')
+    print(f'{sum(costs.values()):7.1f} s  in all')
+    return bool(costs)

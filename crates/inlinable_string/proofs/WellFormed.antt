@@ -1,0 +1,309 @@
+-- The states of the test for UTF-8, and the ranges of bytes that each has before it.
+use Rattle.inlinable_string.proofs.Common.{common_steps, ◌≡◌, ◌↔◌, inl, inr, ℕ, zero, suc, ◌+◌, ◌-◌, ◌*◌, ◌/◌, ◌%◌, ◌<◌, ◌≤◌, Bool, true, false, List, [], ◌∷◌, ◌++◌, length, take, drop, refl, ap, sym, ◌∙◌, arith, subst, ⊎_elim, IsAscii, IsUtf8, IsUtf8-append, IsUtf8-encode, encode_utf8, encode_utf8_all, append-nil, take_all, take_more, length-encode, len_utf8_bounds, nil_from_length, eqb-true, take-append-drop, drop_at, append_assoc, ◌==◌, if◌then◌else◌, nat_lt, nat_eq, cases_lt, cases_Bool, cond-true, cond-false, and_parts, nat_tests, ltb-true, lt-ltb, le-ltb, slice_index, following, count_in, char_len}
+use Rattle.std.specs.Int.{is_in_range}
+use Rattle.std.specs.Prelude.{◌&&◌, ◌^◌}
+use Rattle.inlinable_string.specs.WellFormed.{Follows, nothing, ranges_of, is_state, state_of, Leads}
+use Rattle.std.proofs.lemmas.Str.{IsUtf8-nil}
+use Rattle.std.proofs.str.Laws.{one}
+use Rattle.inlinable_string.specs.declared.well_formed.TheConstants.{ROWS}
+use Rattle.inlinable_string.proofs.Subparts.{Begins, len_of_char, one_more}
+use Rattle.inlinable_string.proofs.Table.{is_scalar, none_in}
+use Rattle.inlinable_string.proofs.Starts.{fills, filled, rowless}
+
+-- what has to follow a byte, where these ranges were before it
+abbrev pub next : List (ℕ × ℕ) → ℕ → List (ℕ × ℕ)
+next [] b =
+    if nat_lt b 128 then [] else (if nat_eq (length (following b)) 0 then nothing else following b)
+next (r ∷ ranges) b = if is_in_range r.0 r.1 b then ranges else nothing
+
+none_follows : (s : List ℕ) → Follows nothing s → ⊥
+none_follows [] f = f
+none_follows (b ∷ s) f = grind (arith, nat_tests, f.0)
+
+-- bytes that fill the ranges, with text after them
+counted : (ranges : List (ℕ × ℕ)) (s : List ℕ) → Follows ranges s
+    → (count_in ranges s ≡ length ranges) × IsUtf8 (drop (length ranges) s)
+    × (length ranges ≤ length s)
+counted [] s f = (refl, f, omega arith)
+counted (r ∷ ranges) [] f = absurd f
+counted (r ∷ ranges) (b ∷ s) f =
+    let c = counted ranges s f.1 in
+    let here : count_in (r ∷ ranges) (b ∷ s) ≡ 1 + count_in ranges s = cond-true _ _ _ f.0 in
+    (omega (arith, here, c.0), c.1, omega (arith, c.2))
+
+follows : (ranges : List (ℕ × ℕ)) (s : List ℕ) → count_in ranges s ≡ length ranges
+    → IsUtf8 (drop (length ranges) s) → Follows ranges s
+follows [] s all u = u
+follows (r ∷ ranges) [] all u = absurd (omega (arith, all))
+follows (r ∷ ranges) (b ∷ s) all u =
+    ⊎_elim
+    (λ inside.
+    let here : count_in (r ∷ ranges) (b ∷ s) ≡ 1 + count_in ranges s = cond-true _ _ _ inside in
+    (inside, follows ranges s (omega (arith, all, here)) u))
+    (λ outside.
+    let none : count_in (r ∷ ranges) (b ∷ s) ≡ 0 = cond-false _ _ _ outside in
+    absurd (omega (arith, all, none)))
+    (cases_Bool (is_in_range r.0 r.1 b))
+
+-- text that is not empty is a character with text after it
+first : (b : ℕ) (s : List ℕ) → IsUtf8 (b ∷ s)
+    → (c : ℕ) × (rest : List ℕ) × Begins (b ∷ s) c rest × IsUtf8 rest
+first b s ([], (scalars, is)) = let none = ap length is in absurd (omega (arith, none))
+first b s (c ∷ cs, (scalars, is)) =
+    let p = and_parts _ _ scalars in
+    (c, encode_utf8_all cs, record { scalar = p.0; joined = sym is }, (cs, (p.1, refl)))
+
+-- what is after the first byte of a character, by the row of that byte
+behind : (b : ℕ) (s : List ℕ) (c : ℕ) (rest : List ℕ) → Begins (b ∷ s) c rest
+    → (count_in (following b) s ≡ length (following b)) × (drop (length (following b)) s ≡ rest)
+behind b s c rest begins =
+    let f = fills (b ∷ s) c rest begins in
+    let long : length (encode_utf8 c) ≡ suc (length (following b)) = omega (arith, f.0) in (
+      omega (arith, f.1),
+      ap (λ n. drop n (b ∷ s)) (sym long) ∙ ap (drop (length (encode_utf8 c))) begins.joined
+          ∙ drop_at (encode_utf8 c) rest _ refl,
+    )
+
+from_utf8 : (b : ℕ) (s : List ℕ) → IsUtf8 (b ∷ s) → Follows (following b) s
+from_utf8 b s u =
+    let f = first b s u in
+    let r = behind b s f.0 f.1 f.2 in
+    follows (following b) s r.0 (subst IsUtf8 (sym r.1) f.3)
+
+-- a byte of ASCII is a character by itself
+ascii_front : (b : ℕ) (s : List ℕ) → b < 128 → IsUtf8 s → IsUtf8 (b ∷ s)
+ascii_front b s below u =
+    let single = IsUtf8-encode b (is_scalar b (inl (omega (arith, below)))) in
+    subst (λ code. IsUtf8 (code ++ s)) (one b below) (IsUtf8-append (encode_utf8 b) s single u)
+
+-- bytes that fill the row of the first are a character
+char_front : (b : ℕ) (s : List ℕ) → 0 < length (following b) → Follows (following b) s
+    → IsUtf8 (b ∷ s)
+char_front b s some f =
+    let c = counted (following b) s f in
+    let n = suc (length (following b)) in
+    let long : char_len (b ∷ s) ≡ n = omega (arith, filled (b ∷ s) (omega arith) some c.0) in
+    let all : 0 + n ≡ n = omega arith in
+    let front = subst (λ m. IsUtf8 (take m (b ∷ s))) all
+    (one_more (b ∷ s) 0 n IsUtf8-nil long (omega arith)) in
+    subst IsUtf8 (take-append-drop n (b ∷ s))
+    (IsUtf8-append (take n (b ∷ s)) (drop n (b ∷ s)) front c.1)
+
+-- a byte that begins none
+no_front : (b : ℕ) (s : List ℕ) → 128 ≤ b → length (following b) ≡ 0 → IsUtf8 (b ∷ s) → ⊥
+no_front b s above none u =
+    let f = first b s u in
+    let len = len_of_char (b ∷ s) f.0 f.1 f.2 in
+    let no = rowless (b ∷ s) (omega arith) above (nil_from_length _ none) in
+    omega (arith, len, no.0, length-encode f.0, len_utf8_bounds f.0)
+
+positive : (n : ℕ) → nat_eq n 0 ≡ false → 0 < n
+positive zero is = grind (arith, nat_tests, is)
+positive (suc n) is = omega arith
+
+-- what begins a text, and what has to follow it
+pub begins : (b : ℕ) (s : List ℕ) → IsUtf8 (b ∷ s) ↔ Follows (next [] b) s
+begins b s =
+    ⊎_elim
+    (λ below.
+    let is : next [] b ≡ [] = cond-true _ _ _ (lt-ltb _ _ below) in
+    let row = none_in b (omega (arith, below)) in (
+      (λ u. subst (λ n. Follows n s) (sym is)
+          (subst (λ n. Follows n s) row (from_utf8 b s u))),
+      (λ f. ascii_front b s below (subst (λ n. Follows n s) is f)),
+    ))
+    (λ above.
+    let big : nat_lt b 128 ≡ false = le-ltb _ _ above in
+    ⊎_elim
+    (λ none.
+    let is : next [] b ≡ nothing = cond-false _ _ _ big ∙ cond-true _ _ _ none in (
+      (λ u. absurd (no_front b s above (eqb-true _ _ none) u)),
+      (λ f. absurd (none_follows s (subst (λ n. Follows n s) is f))),
+    ))
+    (λ some.
+    let is : next [] b ≡ following b = cond-false _ _ _ big ∙ cond-false _ _ _ some in (
+      (λ u. subst (λ n. Follows n s) (sym is) (from_utf8 b s u)),
+      (λ f. char_front b s (positive (length (following b)) some) (subst (λ n. Follows n s) is f)),
+    ))
+    (cases_Bool (nat_eq (length (following b)) 0)))
+    (cases_lt b 128)
+
+-- one byte more
+pub step : (ranges : List (ℕ × ℕ)) (b : ℕ) (s : List ℕ)
+    → Follows ranges (b ∷ s) ↔ Follows (next ranges b) s
+step [] b s = begins b s
+step (r ∷ ranges) b s =
+    ⊎_elim
+    (λ inside.
+    let is : next (r ∷ ranges) b ≡ ranges = cond-true _ _ _ inside in (
+      (λ f. subst (λ n. Follows n s) (sym is) f.1),
+      (λ f. (inside, subst (λ n. Follows n s) is f)),
+    ))
+    (λ outside.
+    let is : next (r ∷ ranges) b ≡ nothing = cond-false _ _ _ outside in (
+      (λ f. absurd (grind (arith, f.0, outside))),
+      (λ f. absurd (none_follows s (subst (λ n. Follows n s) is f))),
+    ))
+    (cases_Bool (is_in_range r.0 r.1 b))
+
+-- whether p holds of each number below n
+abbrev every_below : (ℕ → Bool) → ℕ → Bool
+every_below p zero = true
+every_below p (suc n) = p n && every_below p n
+
+below_is : (p : ℕ → Bool) (n i : ℕ) → every_below p n ≡ true → i < n → p i ≡ true
+below_is p zero i all less = absurd (omega (arith, less))
+below_is p (suc n) i all less =
+    let both = and_parts (p n) (every_below p n) all in
+    ⊎_elim (λ lower. below_is p n i both.1 lower)
+    (λ last. let is : n ≡ i = omega (arith, less, last) in subst (λ k. p k ≡ true) is both.0)
+    (cases_lt i n)
+
+-- whether two lists of ranges are the same
+abbrev same : List (ℕ × ℕ) → List (ℕ × ℕ) → Bool
+same [] [] = true
+same [] (s ∷ ss) = false
+same (r ∷ rs) [] = false
+same (r ∷ rs) (s ∷ ss) = (nat_eq r.0 s.0 && nat_eq r.1 s.1) && same rs ss
+
+same_is : (rs ss : List (ℕ × ℕ)) → same rs ss ≡ true → rs ≡ ss
+same_is [] [] is = refl
+same_is [] (s ∷ ss) is = grind (arith, is)
+same_is (r ∷ rs) [] is = grind (arith, is)
+same_is (r ∷ rs) (s ∷ ss) is =
+    let parts = and_parts (nat_eq r.0 s.0 && nat_eq r.1 s.1) (same rs ss) is in
+    let pair = and_parts (nat_eq r.0 s.0) (nat_eq r.1 s.1) parts.0 in
+    let from = eqb-true r.0 s.0 pair.0 in
+    let to = eqb-true r.1 s.1 pair.1 in
+    λ i. (from i, to i) ∷ same_is rs ss parts.1 i
+
+-- the row of a byte leads from a state to what the ranges say
+abbrev row_is_right : List ℕ → ℕ → ℕ → Bool
+row_is_right rows b k =
+    let n = state_of (slice_index rows b / 2 ^ (6 * k)) in
+    is_state n && same (ranges_of n) (next (ranges_of (6 * k)) b)
+
+-- so each row does, which is computed
+rows_lead : every_below (λ b. every_below (row_is_right ROWS.now b) 9) 256 ≡ true
+rows_lead = refl
+
+is_sixth : (n : ℕ) → is_state n ≡ true → (6 * (n / 6) ≡ n) × (n / 6 < 9)
+is_sixth n is =
+    let parts = and_parts (nat_lt n 54) (nat_eq (n % 6) 0) is in
+    let top = ltb-true n 54 parts.0 in
+    let even = eqb-true (n % 6) 0 parts.1 in
+    (omega (arith, even), omega (arith, top))
+
+-- one row
+row_leads : (b n : ℕ) → b < 256 → is_state n ≡ true
+    → (is_state (state_of (slice_index ROWS.now b / 2 ^ n)) ≡ true)
+    × (ranges_of (state_of (slice_index ROWS.now b / 2 ^ n)) ≡ next (ranges_of n) b)
+row_leads b n byte is =
+    let sixth = is_sixth n is in
+    let row = below_is (λ b. every_below (row_is_right ROWS.now b) 9) 256 b rows_lead byte in
+    let to = state_of (slice_index ROWS.now b / 2 ^ (6 * (n / 6))) in
+    let found = and_parts (is_state to) (same (ranges_of to) (next (ranges_of (6 * (n / 6))) b))
+    (below_is (row_is_right ROWS.now b) 9 (n / 6) row sixth.1) in
+    subst (λ m. (is_state (state_of (slice_index ROWS.now b / 2 ^ m)) ≡ true)
+    × (ranges_of (state_of (slice_index ROWS.now b / 2 ^ m)) ≡ next (ranges_of m) b))
+    sixth.0 (found.0, same_is _ _ found.1)
+
+-- the bytes before i are read
+abbrev pub IsRead : ℕ → List ℕ → ℕ → ℕ → Type 0
+IsRead from bs i to = Leads from (take i bs) to
+
+pub read_none : (from : ℕ) (bs : List ℕ) → is_state from ≡ true → IsRead from bs 0 from
+read_none from bs known = record { known = known; rest = λ s. ((λ f. f), (λ f. f)) }
+
+-- one byte more is read
+pub read_one : (from : ℕ) (bs : List ℕ) (i bits row : ℕ) → IsRead from bs i (state_of bits)
+    → i < length bs → slice_index bs i < 256 → row ≡ slice_index ROWS.now (slice_index bs i)
+    → IsRead from bs (i + 1) (state_of (row / 2 ^ state_of bits))
+read_one from bs i bits row read within byte is =
+    let b = slice_index bs i in
+    let n = state_of bits in
+    let to = row_leads b n byte read.known in
+    subst (λ r. IsRead from bs (i + 1) (state_of (r / 2 ^ n))) (sym is) record {
+      known = to.0;
+      rest = λ s.
+          let both = step (ranges_of n) b s in
+          let before = read.rest (b ∷ s) in
+          let one_more : take (i + 1) bs ++ s ≡ take i bs ++ b ∷ s =
+          ap (λ front. front ++ s) (take_more bs i 0 within)
+          ∙ append_assoc (take i bs) (b ∷ []) s in (
+            (λ u. subst (λ ranges. Follows ranges s) (sym to.1)
+                (both.0 (before.0 (subst (Follows (ranges_of from)) one_more u)))),
+            (λ f. subst (Follows (ranges_of from)) (sym one_more)
+                (before.1 (both.1 (subst (λ ranges. Follows ranges s) to.1 f)))),
+          );
+    }
+
+pub read_whole : (from : ℕ) (bs : List ℕ) (i to : ℕ) → IsRead from bs i to → length bs ≤ i
+    → Leads from bs to
+read_whole from bs i to read all = subst (λ l. Leads from l to) (take_all i bs all) read
+
+-- bytes after others
+pub leads_on : (from between to : ℕ) (bs cs : List ℕ) → Leads from bs between
+    → Leads between cs to → Leads from (bs ++ cs) to
+leads_on from between to bs cs one other = record {
+  known = other.known;
+  rest = λ s.
+      let joined = append_assoc bs cs s in (
+        (λ u. (other.rest s).0
+            ((one.rest (cs ++ s)).0 (subst (Follows (ranges_of from)) joined u))),
+        (λ f. subst (Follows (ranges_of from)) (sym joined)
+            ((one.rest (cs ++ s)).1 ((other.rest s).1 f))),
+      );
+}
+
+-- the bytes before the rest are read
+abbrev pub IsReadTo : List ℕ → List ℕ → ℕ → Type 0
+IsReadTo bs rest to = (front : List ℕ) × (bs ≡ front ++ rest) × Leads 0 front to
+
+-- a block more is read
+pub read_block : (bs rest block behind : List ℕ) (from to : ℕ) → IsReadTo bs rest from
+    → rest ≡ block ++ behind → Leads from block to → IsReadTo bs behind to
+read_block bs rest block behind from to (front, is, read) parts more = (
+  front ++ block,
+  is ∙ ap (λ l. front ++ l) parts ∙ sym (append_assoc front block behind),
+  leads_on 0 from to front block read more,
+)
+
+-- and the rest
+pub read_to_end : (bs rest : List ℕ) (from to : ℕ) → IsReadTo bs rest from → Leads from rest to
+    → Leads 0 bs to
+read_to_end bs rest from to (front, is, read) last =
+    subst (λ l. Leads 0 l to) (sym is) (leads_on 0 from to front rest read last)
+
+-- bytes of ASCII are text by themselves
+ascii_leads : (bs : List ℕ) → IsAscii bs → Leads 0 bs 0
+ascii_leads [] is = record { known = refl; rest = λ s. ((λ f. f), (λ f. f)) }
+ascii_leads (b ∷ bs) is =
+    let rest = ascii_leads bs (λ i. is (suc i)) in
+    let none : next [] b ≡ [] = cond-true _ _ _ (lt-ltb _ _ (is 0)) in record {
+      known = refl;
+      rest = λ s.
+          let both = step [] b (bs ++ s) in (
+            (λ u. (rest.rest s).0 (subst (λ ranges. Follows ranges (bs ++ s)) none (both.0 u))),
+            (λ f. both.1
+                (subst (λ ranges. Follows ranges (bs ++ s)) (sym none) ((rest.rest s).1 f))),
+          );
+    }
+
+pub ascii_block : (bs : List ℕ) (n : ℕ) → n ≡ 0 → IsAscii bs → Leads n bs n
+ascii_block bs n first is = subst (λ m. Leads m bs m) (sym first) (ascii_leads bs is)
+
+-- text ends in the first state alone
+ends : (n : ℕ) → nat_eq n 0 ≡ false → Follows (ranges_of n) [] → ⊥
+ends n is f = grind (arith, common_steps)
+
+pub is_text : (bs : List ℕ) (n : ℕ) → Leads 0 bs n → (nat_eq n 0 ≡ true) ↔ IsUtf8 bs
+is_text bs n read =
+    let whole = append-nil bs in
+    let both = read.rest [] in (
+      (λ first. subst IsUtf8 whole
+          (both.1 (subst (λ ranges. Follows ranges []) (sym (cond-true _ _ _ first)) IsUtf8-nil))),
+      (λ u. ⊎_elim (λ first. first)
+          (λ later. absurd (ends n later (both.0 (subst IsUtf8 (sym whole) u))))
+          (cases_Bool (nat_eq n 0))),
+    )

@@ -1,5 +1,0 @@
-use Rattle.inlinable_string.proofs.Compared.{same_characters}
-use Rattle.inlinable_string.proofs.laws.compared.equality_inline_is_that_of_texts.Goals as goal
-
-pub returns-clause-characters : goal.returns-clause-characters
-returns-clause-characters g c s t are = same_characters s t are

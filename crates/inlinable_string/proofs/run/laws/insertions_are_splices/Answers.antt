@@ -1,5 +1,0 @@
-use Rattle.inlinable_string.proofs.Edits.{insert_splices, insert_str_splices}
-use Rattle.inlinable_string.proofs.run.laws.insertions_are_splices.Goals as goal
-
-pub returns : goal.returns
-returns c = record { character = insert_splices; string = insert_str_splices }

@@ -1,5 +1,0 @@
-use Rattle.inlinable_string.proofs.Edits.{remove_removes}
-use Rattle.inlinable_string.proofs.run.laws.remove_is_a_removal.Goals as goal
-
-pub returns : goal.returns
-returns c = remove_removes

@@ -1,5 +1,0 @@
-use Rattle.inlinable_string.proofs.Places.{truncations_cut}
-use Rattle.inlinable_string.proofs.run.laws.truncations_are_cuts.Goals as goal
-
-pub returns : goal.returns
-returns c = truncations_cut

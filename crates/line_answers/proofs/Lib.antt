@@ -1,3 +1,0 @@
-mod FirstDigits
-pub mod Passed
-pub mod Stored

@@ -1,5 +1,0 @@
-pub mod Answer
-pub mod Digits
-pub mod Fault
-pub mod Line
-pub mod Pair

@@ -1,0 +1,83 @@
+//! The calls that `InlinableStringN` and `String` have by themselves, beside those of the traits.
+
+use crate::calls::text::{is_reader, play_text, put, read};
+use crate::calls::views::done_or;
+use crate::calls::{Answer, Call, Played};
+use crate::fault::LineFault;
+use inlinable_string::{InlinableStringN, Storage, StringExt, StringMake};
+use std::alloc::{AllocError, Global};
+use std::mem;
+
+impl<const N: usize> Played for InlinableStringN<N> {
+    fn play(&mut self, alloc: Global, call: Call) -> Result<Answer, LineFault> {
+        if is_reader(call) {
+            return read(alloc, self, call);
+        }
+        let string = call.text(alloc)?;
+        let made = match call.word {
+            "default" => Ok(InlinableStringN::default(alloc)),
+            "from" => InlinableStringN::from(alloc, &string),
+            "from_str" => InlinableStringN::from_str(alloc, &string),
+            "from_string" => Ok(InlinableStringN::from_string(alloc, string)),
+            "from_chars" => InlinableStringN::from_chars(alloc, string.chars()),
+            "from_strs" => InlinableStringN::from_strs(alloc, string.split(',')),
+            "collect" => string.chars().collect(alloc),
+            "add" | "extend" | "extend_chars" | "extend_char_refs" | "extend_strs" => {
+                return done_or(join(alloc, self, call, &string)?, "no_memory");
+            }
+            _ => return play_text(alloc, self, call, &string),
+        };
+        Ok(put(self, made))
+    }
+
+    fn seen(&self) -> (Storage, &str) {
+        (self.storage(), StringExt::as_str(self))
+    }
+}
+
+/// The calls that add several pieces.
+fn join<const N: usize>(
+    alloc: Global,
+    text: &mut InlinableStringN<N>,
+    call: Call,
+    string: &str,
+) -> Result<Result<(), AllocError>, LineFault> {
+    match call.word {
+        "extend" => Ok(text.extend(string.chars())),
+        "extend_chars" => Ok(text.extend_chars(string.chars())),
+        "extend_char_refs" => {
+            let chars: Vec<char> = string.chars().collect(alloc)?;
+            Ok(text.extend_char_refs(chars.iter()))
+        }
+        "extend_strs" => Ok(text.extend_strs(string.split(','))),
+        _ => match mem::replace(text, InlinableStringN::new(alloc)).add(string) {
+            Ok(joined) => {
+                *text = joined;
+                Ok(Ok(()))
+            }
+            Err(same) => {
+                *text = same;
+                Ok(Err(AllocError))
+            }
+        },
+    }
+}
+
+impl Played for String {
+    fn play(&mut self, alloc: Global, call: Call) -> Result<Answer, LineFault> {
+        if is_reader(call) {
+            return read(alloc, self, call);
+        }
+        let string = call.text(alloc)?;
+        match call.word {
+            "from" => Ok(put(self, String::from_str(alloc, &string))),
+            "collect" => Ok(put(self, string.chars().collect(alloc))),
+            "extend" => done_or(self.extend(string.chars()), "no_memory"),
+            _ => play_text(alloc, self, call, &string),
+        }
+    }
+
+    fn seen(&self) -> (Storage, &str) {
+        (self.storage(), self.as_str())
+    }
+}

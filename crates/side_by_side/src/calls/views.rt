@@ -1,0 +1,80 @@
+//! Answers, and how a text of any type hashes and prints.
+
+use crate::calls::{Answer, Call};
+use crate::fault::LineFault;
+use std::alloc::Global;
+use std::cmp::Ordering;
+use std::fmt::{Debug, Display};
+use std::hash::{DefaultHasher, Hash, Hasher};
+
+/// How a text compares with another.
+pub fn compare<T: Ord>(text: &T, other: &T, word: &str) -> Result<Answer, LineFault> {
+    match word {
+        "eq" => Ok(truth(text == other)),
+        "cmp" => Ok(order(text.cmp(other))),
+        "partial_cmp" => match text.partial_cmp(other) {
+            Some(found) => Ok(order(found)),
+            None => Ok(Answer::Word("none")),
+        },
+        _ => Err(LineFault::NoInput),
+    }
+}
+
+/// How a text hashes or prints, by the call's word, in several formats of its number.
+pub fn view<T: Hash + Display + Debug>(
+    alloc: Global,
+    text: &T,
+    call: Call,
+) -> Result<Answer, LineFault> {
+    let number = call.number;
+    let printed = match call.word {
+        "hash" => {
+            let mut state = DefaultHasher::new();
+            text.hash(&mut state);
+            return bytes(alloc, "bytes", &state.finish().to_be_bytes());
+        }
+        "display" => format!(in alloc; "{text}")?,
+        "padded" => format!(in alloc;
+            "{text:number$}|{text:*<number$}|{text:>number$}|{text:é^number$}"
+        )?,
+        "cut" => format!(in alloc;
+            "{text:.number$}|{text:<9.number$}|{text:0>12.number$}|{text:😀^12.number$}"
+        )?,
+        "debug" => format!(in alloc; "{text:?}")?,
+        _ => return Err(LineFault::NoInput),
+    };
+    bytes(alloc, "bytes", printed.as_bytes())
+}
+
+/// What a call gave.
+pub fn bytes(alloc: Global, word: &'static str, bytes: &[u8]) -> Result<Answer, LineFault> {
+    Ok(Answer::Bytes(word, Vec::from_slice(alloc, bytes)?))
+}
+
+/// The character that was taken, where there was one.
+pub fn character(alloc: Global, taken: Option<char>) -> Result<Answer, LineFault> {
+    match taken {
+        Some(ch) => bytes(alloc, "char", ch.encode_utf8(&mut [0; 4]).as_bytes()),
+        None => Ok(Answer::Word("none")),
+    }
+}
+
+/// That it was done, or else why not.
+pub fn done_or<E: Drop>(done: Result<(), E>, fault: &'static str) -> Result<Answer, LineFault> {
+    Ok(Answer::Word(match done {
+        Ok(()) => "done",
+        Err(_) => fault,
+    }))
+}
+
+pub fn truth(truth: bool) -> Answer {
+    Answer::Word(if truth { "true" } else { "false" })
+}
+
+fn order(order: Ordering) -> Answer {
+    Answer::Word(match order {
+        Ordering::Less => "less",
+        Ordering::Equal => "equal",
+        Ordering::Greater => "greater",
+    })
+}

@@ -1,0 +1,93 @@
+//! The calls of `InlineString`.
+use crate::Played;
+use crate::call::{Call, bytes, character, done, order};
+use crate::departures::{Departure, Departures};
+use crate::printed;
+use original_30::{INLINE_STRING_CAPACITY, InlineString};
+use std::fmt::Write;
+use std::mem;
+
+impl Played for InlineString {
+    fn play(&mut self, call: &Call, departures: &mut Departures) -> Option<String> {
+        let (string, place) = (call.text()?, call.number);
+        if is_refused(self, call, &string, departures) {
+            return Some("bad_place".into());
+        }
+        let added = || string.chars().next();
+        Some(match call.word {
+            "new" => done(*self = InlineString::new()),
+            "default" => done(*self = InlineString::default()),
+            "clone" => done(*self = self.clone()),
+            "from" | "eq" | "cmp" | "partial_cmp" if string.len() > INLINE_STRING_CAPACITY => {
+                let make = || InlineString::from(&string[..]);
+                departures.meet_panic(Departure::LongerThanArray, make);
+                "too_long".into()
+            }
+            "from" => done(*self = InlineString::from(&string[..])),
+            "push" => or(self.push(added()?), "full"),
+            "push_str" => or(self.push_str(&string), "full"),
+            "insert" => or(self.insert(place, added()?), "full"),
+            "insert_str" => or(self.insert_str(place, &string), "full"),
+            "write_char" => or(self.write_char(added()?), "write_fault"),
+            "write_str" => or(self.write_str(&string), "write_fault"),
+            "pop" => character(self.pop()),
+            "remove" => character(Some(self.remove(place))),
+            "truncate" => done(self.truncate(place)),
+            "clear" => done(self.clear()),
+            "into_bytes" => bytes("bytes", &mem::take(self).into_bytes()),
+            "len" => format!("number={}", self.len()),
+            "is_empty" => self.is_empty().to_string(),
+            "as_bytes" => bytes("bytes", self.as_bytes()),
+            "as_str" => bytes("bytes", self[..].as_bytes()),
+            "eq" => (*self == InlineString::from(&string[..])).to_string(),
+            "eq_str" => (*self == string[..]).to_string(),
+            // the original's arrays have no order: that of `str` is wanted
+            "cmp" => order(self[..].cmp(&string)),
+            "partial_cmp" => order(self[..].partial_cmp(&string)?),
+            "hash" => printed::hash(self),
+            "debug" => debugged(self, departures),
+            _ => return printed::display(self, self, true, call, departures),
+        })
+    }
+
+    fn is_inline(&self) -> bool {
+        true
+    }
+
+    fn text(&self) -> &str {
+        self
+    }
+}
+
+fn or<E>(added: Result<(), E>, fault: &str) -> String {
+    if added.is_ok() { "done" } else { fault }.into()
+}
+
+/// Whether the call is at a place that is none.
+fn is_refused(text: &InlineString, call: &Call, string: &str, departures: &mut Departures) -> bool {
+    let (len, place, mut copy) = (text.len(), call.number, text.clone());
+    let is_place = text.is_char_boundary(place);
+    match call.word {
+        "insert" | "insert_str" if !is_place && place <= len => {
+            departures.meet(Departure::InsideCharacter);
+        }
+        "insert" | "insert_str" if !is_place => {
+            departures.meet_panic(Departure::BadPlace, || copy.insert_str(place, string));
+        }
+        "truncate" if !is_place => {
+            departures.meet_panic(Departure::BadPlace, || copy.truncate(place));
+        }
+        "remove" if !is_place || place == len => {
+            departures.meet_panic(Departure::BadPlace, || copy.remove(place));
+        }
+        _ => return false,
+    }
+    true
+}
+
+/// The original shows the array: wanted is what the string shows.
+fn debugged(text: &InlineString, departures: &mut Departures) -> String {
+    assert!(format!("{text:?}").starts_with("InlineString {"));
+    departures.meet(Departure::DerivedDebug);
+    bytes("bytes", format!("{:?}", &text[..]).as_bytes())
+}
