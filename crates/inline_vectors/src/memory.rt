@@ -266,8 +266,8 @@ const FOUR_TENS: &[Step] = &[
 
 const TEN_4: &str = "0123456789012345678901234567890123456789";
 
-/// Texts that fill the room that was reserved, or that they were made with: the capacity that a text
-/// is made with, its start, the reservation, the text's storage after it, and the steps then.
+/// Texts that fill the room that was reserved, or that they were made with: the capacity that a
+/// text is made with, its start, the reservation, its storage after it, and the steps then.
 const FILLED: &[(Option<usize>, &str, Command, Where, &[Step])] = &[
     (None, "foo", Reserve(50), OnHeap, FIVE_TENS),
     (None, "foo", ReserveExact(50), OnHeap, FIVE_TENS),
