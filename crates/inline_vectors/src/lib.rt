@@ -14,8 +14,6 @@ mod each;
 #[cfg(test)]
 mod encodings;
 #[cfg(test)]
-mod followed;
-#[cfg(test)]
 mod generated;
 #[cfg(test)]
 mod growths;
@@ -55,5 +53,3 @@ mod texts;
 mod ways;
 #[cfg(test)]
 mod wrong;
-#[cfg(test)]
-mod wrong_rows;

@@ -14,8 +14,8 @@ use std::alloc::Global;
 use std::process::Abort;
 use test_support::letters::{LETTERS_30, LETTERS_31};
 
-/// The limits before the move and after it, a text and the capacity that it is made with, the memory
-/// that is left, and where the text is after the move, or in the value that is handed back.
+/// The limits before the move and after it, a text and the capacity that it is made with, the
+/// memory that is left, and where the text is after the move, or in the value that is handed back.
 pub type MoveRow<'a> = (
     usize,
     usize,

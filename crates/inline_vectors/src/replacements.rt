@@ -20,32 +20,21 @@ pub fn play_replaced(
     let letters = whole_of(rt, alloc, "a", limit);
     let mut bytes = Vec::from_slice(alloc, letters.as_bytes()).expect(rt, "memory");
     for (i, &byte) in sequence.iter().enumerate() {
-        *bytes
-            .get_mut(at.saturating_add(i))
-            .expect(rt, "a byte of the text") = byte;
+        *bytes.get_mut(at.saturating_add(i)).expect(rt, "a byte") = byte;
     }
     let content = match str::from_utf8(&bytes) {
         Ok(content) if reply == Done => content,
         _ => letters.as_str(),
     };
     let steps = [(ReplaceBytes(&bytes), reply, content, AsMade)];
-    play(
-        rt,
-        alloc,
-        within(limit),
-        at,
-        ample(letters.as_str(), &steps),
-    )
+    let row = ample(letters.as_str(), &steps);
+    play(rt, alloc, within(limit), at, row)
 }
 
 /// At both ends of a text, and in its middle.
 fn assert_replaced(rt: &impl Abort, alloc: Global, sequence: &[u8], reply: Reply) {
-    for (limit, at) in [
-        (8, 0),
-        (8, 1),
-        (30, 13),
-        (30, 30usize.saturating_sub(sequence.len())),
-    ] {
+    let last = 30usize.saturating_sub(sequence.len());
+    for (limit, at) in [(8, 0), (8, 1), (30, 13), (30, last)] {
         assert_right(rt, play_replaced(rt, alloc, limit, sequence, at, reply));
     }
 }
@@ -122,17 +111,14 @@ fn bytes_just_outside_of_a_range_are_refused(rt: HostRuntime) {
     }
 }
 
-fn assert_first_bytes_refused(rt: &impl Abort, alloc: Global, first: u8, last: u8) {
-    for byte in first..=last {
-        assert_replaced(rt, alloc, &[byte, b'a', b'a', b'a'], NotUtf8);
-        assert_replaced(rt, alloc, &[byte, 0x80, 0x80, 0x80], NotUtf8);
-    }
-}
-
 #[test]
 fn a_byte_that_begins_no_character_is_refused(rt: HostRuntime) {
-    assert_first_bytes_refused(&rt, rt.alloc(), 0x80, 0xC1);
-    assert_first_bytes_refused(&rt, rt.alloc(), 0xF5, 0xFF);
+    for (first, last) in [(0x80u8, 0xC1), (0xF5, 0xFF)] {
+        for byte in first..=last {
+            assert_replaced(&rt, rt.alloc(), &[byte, b'a', b'a', b'a'], NotUtf8);
+            assert_replaced(&rt, rt.alloc(), &[byte, 0x80, 0x80, 0x80], NotUtf8);
+        }
+    }
 }
 
 const ILL_FORMED: &[&[u8]] = &[
@@ -152,9 +138,7 @@ const ILL_FORMED: &[&[u8]] = &[
 ];
 
 /// A limit, bytes, where they begin among the letters, and the reply.
-type ReplacedRow<'a> = (usize, &'a [u8], usize, Reply);
-
-const REPLACED: &[ReplacedRow] = &[
+const REPLACED: &[(usize, &[u8], usize, Reply)] = &[
     (1, b"\x80", 0, NotUtf8),
     (3, b"\xED\xA0\x80", 0, NotUtf8),
     (3, b"\xED\x9F\xBF", 0, Done),
@@ -170,9 +154,7 @@ fn ill_formed_bytes_of_every_kind_are_refused(rt: HostRuntime) {
         assert_replaced(&rt, rt.alloc(), sequence, NotUtf8);
     }
     for &(limit, sequence, at, reply) in REPLACED {
-        assert_right(
-            &rt,
-            play_replaced(&rt, rt.alloc(), limit, sequence, at, reply),
-        );
+        let tally = play_replaced(&rt, rt.alloc(), limit, sequence, at, reply);
+        assert_right(&rt, tally);
     }
 }

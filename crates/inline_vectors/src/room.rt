@@ -2,9 +2,7 @@
 //! back inline.
 use crate::held::Memory::{self, Ample};
 use crate::kinds::Kind::{Boxable, Inlinable, Own, String as OfString};
-use crate::player::{
-    EACH_WAY, Kinds, Row, assert_each, assert_each_alone, assert_right, play, play_each,
-};
+use crate::player::{EACH_WAY, Kinds, Row, assert_each, assert_each_alone, assert_right, play};
 use crate::steps::List;
 use crate::steps::Where::{AsMade, OnHeap, Shrunk};
 use crate::texts::whole_of;
@@ -12,7 +10,6 @@ use inlinable_string::run::Command::{
     self, Clear, Pop, Push, PushStr, Reserve, ReserveExact, ShrinkToFit,
 };
 use inlinable_string::run::Reply::{Char, Done, NoChar, NoMemory};
-use inlinable_string::{InlinableString, StringMake};
 use std::alloc::Global;
 use std::process::Abort;
 use test_support::letters::{LETTERS_30 as A30, LETTERS_31 as A31};
@@ -87,7 +84,7 @@ fn reservations_stand_in_turn(rt: HostRuntime) {
 }
 
 /// "foo" and ten times ten digits.
-pub fn foo_and_tens(rt: &impl Abort, alloc: Global) -> String {
+fn foo_and_tens(rt: &impl Abort, alloc: Global) -> String {
     let tens = whole_of(rt, alloc, "0123456789", 10);
     let mut whole = whole_of(rt, alloc, "foo", 1);
     whole.push_str(tens.as_str()).expect(rt, "memory");
@@ -131,7 +128,6 @@ fn a_long_text_stays_on_the_heap_when_it_is_shrunk(rt: HostRuntime) {
 }
 
 const SHRUNK: &[List] = &[
-    ("", &[(ShrinkToFit, Done, "", Shrunk)]),
     ("foo", &[(ShrinkToFit, Done, "foo", Shrunk)]),
     (A30, &[(ShrinkToFit, Done, A30, Shrunk)]),
     (A31, &[(ShrinkToFit, Done, A31, OnHeap)]),
@@ -140,13 +136,6 @@ const SHRUNK: &[List] = &[
         &[
             (Reserve(100), Done, "foo", OnHeap),
             (ShrinkToFit, Done, "foo", Shrunk),
-        ],
-    ),
-    (
-        A31,
-        &[
-            (Pop, Char('a'), A30, OnHeap),
-            (ShrinkToFit, Done, A30, Shrunk),
         ],
     ),
     (
@@ -184,16 +173,4 @@ const SHRUNK: &[List] = &[
 #[test]
 fn a_text_moves_back_inline_when_it_is_shrunk_at_30_bytes(rt: HostRuntime) {
     assert_each(&rt, rt.alloc(), SHRUNK);
-}
-
-const WITH_ROOM: Kinds = (&[Inlinable, Boxable, OfString, Own], 30, &[Some(100_000)]);
-
-/// Each kind of text is made with the capacities of every table, and with many.
-#[test]
-fn a_text_is_made_inline_with_room_for_up_to_30_bytes(rt: HostRuntime) {
-    let alloc = rt.alloc();
-    assert_right(&rt, play_each(&rt, alloc, WITH_ROOM, &[("", &[])]));
-    let inlinable = <InlinableString as StringMake>::with_capacity(alloc, MAX);
-    let string = <String as StringMake>::with_capacity(alloc, MAX);
-    assert!(rt; inlinable.is_err() && string.is_err());
 }

@@ -77,11 +77,8 @@ pub fn reply_by_call<S: StringExt>(text: &mut S, command: Command) -> Reply {
             }
         }
         Command::Truncate(new_len) => {
-            let is_place = text.is_char_boundary(new_len);
-            if is_place {
+            if text.is_char_boundary(new_len) {
                 text.truncate(new_len);
-            }
-            if is_place {
                 Reply::Done
             } else {
                 Reply::BadPlace

@@ -11,8 +11,8 @@ use test_support::{ArrayText, EmptyText};
 /// A capacity that no text of a limit of 30 has inline: one that is made with it is on the heap.
 pub const HEAP_ROOM: Option<usize> = Some(31);
 
-/// The capacity that a text is made with, or `None` for a new one; what is before it at first and is
-/// removed; and what is behind it at first and is cut off.
+/// The capacity that a text is made with, or `None` for a new one; what is before it at first and
+/// is removed; and what is behind it at first and is cut off.
 type Way = (Option<usize>, &'static str, &'static str);
 
 /// Inline ones, which start at different bytes of the array and have other bytes behind them, and

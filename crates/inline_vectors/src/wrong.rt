@@ -1,135 +1,101 @@
 //! Tests of the tests: tables that are wrong in one value each, and what playing them has to find.
-//! The list before each is right, so that all lists are gone through.
+//! The row before each is right, so that all rows are gone through.
+use crate::compared::wrong_order;
 use crate::each::{BoxedRow, wrong_list};
-use crate::followed::{SIX, SIX_END, wrong_other};
 use crate::generated::{List as Generated, ends_of};
-use crate::held::Memory::Ample;
+use crate::held::Memory::{Ample, Held};
 use crate::inline::wrong_bytes;
+use crate::joined::Items::{Chars, Strs};
+use crate::joined::{JoinRow, wrong_join};
+use crate::json::wrong_read;
 use crate::kinds::Kind::{Inlinable, String as OfString};
+use crate::makers::Kind::Limit30;
+use crate::makers::Row::{self, Bytes, Capacity, Paired, Steps, Unpaired};
+use crate::makers::conversions::wrong_text;
+use crate::makers::wrong_row;
 use crate::memory::{Shortage, play_shortages};
-use crate::player::Wrong::{self, Reply, Room, Text};
+use crate::moves::{MoveRow, wrong_move};
+use crate::player::Wrong::{self, Reply, Text};
 use crate::player::{EVERYWHERE, Kinds, Tally, play_each, play_each_alone, within};
+use crate::printed::wrong_print;
 use crate::replacements::play_replaced;
 use crate::steps::Where::{AsMade, OnHeap};
 use crate::steps::{List, Step, has_room};
 use Storage::{Heap, Inline};
 use inlinable_string::Storage;
-use inlinable_string::run::Command::{self, Pop, Push, PushStr, Reserve, ShrinkToFit};
-use inlinable_string::run::Reply::{self as Answer, Char, Done, NoChar, NoMemory, NotUtf8};
+use inlinable_string::run::Command::{self, Pop, Push, Reserve, ShrinkToFit};
+use inlinable_string::run::Reply::{Char, Done, NoChar, NoMemory, NotUtf8};
 use inline_model::verdict::Seen;
-use inline_model::verdict::Verdict::Agrees;
+use std::cmp::Ordering::{Equal, Less};
 use std::process::Abort;
 use test_support::letters::{LETTERS_30 as A30, LETTERS_31 as A31};
 
-/// Steps on the text "ab", each of them right.
-const RIGHT: &[Step] = &[
-    (Push('c'), Done, "abc", AsMade),
-    (Pop, Char('c'), "ab", AsMade),
-];
+const NEW: Kinds = (&[Inlinable], 30, &[None]);
 
-/// The second step with one other value, and what is wrong there.
+const RIGHT: Step = (Push('c'), Done, "abc", AsMade);
+
+/// Steps after it that are wrong, and what is wrong there.
 const WRONG: &[(Step, Wrong)] = &[
     ((Pop, Char('b'), "ab", AsMade), Reply),
-    ((Pop, NoChar, "ab", AsMade), Reply),
     ((Pop, Char('c'), "abc", AsMade), Text),
     ((Pop, Char('c'), "ab", OnHeap), Wrong::Storage),
 ];
 
-const INLINABLE: Kinds = (&[Inlinable], 30, &[None]);
+/// One is wrong before a shortage, one during it, and one after it.
+const SHORTAGES: &[Shortage] = &[
+    (None, A30, [&[(Pop, NoChar, A30, AsMade)], &[], &[]]),
+    (None, A30, [&[], &[(Push('a'), Done, A31, OnHeap)], &[]]),
+    (None, A30, [&[], &[], &[(Pop, NoChar, A30, AsMade)]]),
+];
 
 fn assert_fault(rt: &impl Abort, tally: Tally, list: usize, step: usize, wrong: Wrong) {
-    match tally {
-        Ok(count) => assert!(rt; false, "{count} steps are right"),
-        Err(fault) => {
-            let is_found = fault.list == list && fault.step == step && fault.wrong == wrong;
-            assert!(rt; is_found, "{fault:?}");
-        }
-    }
+    let fault = tally.err().expect(rt, "a wrong step");
+    let is_found = fault.list == list && fault.step == step && fault.wrong == wrong;
+    assert!(rt; is_found, "{fault:?}");
 }
 
 #[test]
 fn a_wrong_step_is_found(rt: HostRuntime) {
     let alloc = rt.alloc();
     for &(step, wrong) in WRONG {
-        let steps = [RIGHT[0], step];
-        let tally = play_each(&rt, alloc, INLINABLE, &[("ab", RIGHT), ("ab", &steps)]);
-        assert_fault(&rt, tally, 1, 1, wrong);
+        let lists: [List; 2] = [("ab", &[RIGHT]), ("ab", &[RIGHT, step])];
+        assert_fault(&rt, play_each(&rt, alloc, NEW, &lists), 1, 1, wrong);
     }
-    // It is to be refused on an array, and has another capacity than its kind.
-    let on_heap = [(Push('c'), Done, "abc", OnHeap)];
-    assert_fault(
-        &rt,
-        play_each(&rt, alloc, within(8), &[("ab", &on_heap)]),
-        0,
-        0,
-        Reply,
-    );
-    let alone = [RIGHT[0], (Push('d'), Done, "abcd", AsMade)];
-    assert_fault(
-        &rt,
-        play_each_alone(&rt, alloc, within(8), &[("ab", &alone)]),
-        0,
-        1,
-        Text,
-    );
-}
-
-const ABC: &[List] = &[("ab", RIGHT), ("", &[(Pop, NoChar, "", AsMade)])];
-
-/// Five kinds of text are made new and with five capacities, of which an array has no room for two:
-/// 28 texts, to each of which each list is given in five ways. Behind a `dyn` there are the limits 0
-/// and 30 alone.
-#[test]
-fn each_step_is_played_on_each_kind_of_text_in_each_way(rt: HostRuntime) {
-    let alloc = rt.alloc();
-    for (tally, wanted) in [
-        (play_each(&rt, alloc, EVERYWHERE, ABC), 28 * 5 * 3),
-        (
-            play_each_alone(&rt, alloc, EVERYWHERE, &[("ab", &RIGHT[..1])]),
-            28 * 5,
-        ),
-        (play_each(&rt, alloc, within(8), ABC), 2 * 3 * 3),
-        (play_each(&rt, alloc, within(0), &ABC[1..]), 2 * 5),
-    ] {
-        match tally {
-            Ok(count) => assert!(rt; count == wanted, "{count} and not {wanted}"),
-            Err(fault) => assert!(rt; false, "{fault:?}"),
-        }
+    // An array refuses it, and each step alone begins with the start.
+    let on_heap: [List; 1] = [("ab", &[(Push('c'), Done, "abc", OnHeap)])];
+    assert_fault(&rt, play_each(&rt, alloc, within(8), &on_heap), 0, 0, Reply);
+    let alone: [List; 1] = [("ab", &[RIGHT, (Push('d'), Done, "abcd", AsMade)])];
+    assert_fault(&rt, play_each_alone(&rt, alloc, NEW, &alone), 0, 1, Text);
+    for shortage in SHORTAGES {
+        let tally = play_shortages(&rt, alloc, &[Inlinable], &[*shortage]);
+        assert_fault(&rt, tally, 0, 0, Reply);
     }
 }
 
-/// Before a shortage, during it, and after it.
-const SHORTAGES: &[(Shortage, Wrong)] = &[
-    (
-        (None, A30, [&[(Push('a'), NoMemory, A30, AsMade)], &[], &[]]),
-        Reply,
-    ),
-    (
-        (None, A30, [&[], &[(Push('a'), Done, A31, OnHeap)], &[]]),
-        Reply,
-    ),
-    (
-        (None, A30, [&[], &[(Push('a'), NoMemory, A31, AsMade)], &[]]),
-        Text,
-    ),
-    (
-        (None, A30, [&[], &[], &[(Push('a'), Done, A31, AsMade)]]),
-        Wrong::Storage,
-    ),
+const ABC: &[List] = &[
+    ("ab", &[RIGHT, (Pop, Char('c'), "ab", AsMade)]),
+    ("", &[(Pop, NoChar, "", AsMade)]),
 ];
 
+/// Five kinds of text are made new and with five capacities, of which an array has no room for two:
+/// 28 texts, each of which is given each list in five ways. There are a `dyn` of 0 and one of 30.
 #[test]
-fn a_wrong_step_is_found_before_a_shortage_during_it_and_after(rt: HostRuntime) {
-    for &(shortage, wrong) in SHORTAGES {
-        let tally = play_shortages(&rt, rt.alloc(), &[Inlinable], &[shortage]);
-        assert_fault(&rt, tally, 0, 0, wrong);
-    }
+fn each_step_is_played_on_each_kind_of_text_in_each_way(rt: HostRuntime) {
+    let (rt, alloc) = (&rt, rt.alloc());
+    let whole = play_each(rt, alloc, EVERYWHERE, ABC).unwrap_or(0);
+    let alone = play_each_alone(rt, alloc, EVERYWHERE, &ABC[1..]).unwrap_or(0);
+    let within_8 = play_each(rt, alloc, within(8), ABC).unwrap_or(0);
+    let within_0 = play_each(rt, alloc, within(0), &ABC[1..]).unwrap_or(0);
+    assert!(rt; whole == 28 * 5 * 3 && alone == 28 * 5, "{whole}, {alone}");
+    assert!(rt;
+        within_8 == 2 * 3 * 3 && within_0 == 2 * 5,
+        "{within_8}, {within_0}"
+    );
 }
 
 /// A capacity, a command that is `Done`, the storage, the length and the capacity then, and whether
 /// it has the room that it must have.
 const ROOMS: &[(usize, Command, Storage, usize, usize, bool)] = &[
-    (10, Push('a'), Heap, 6, 10, true),
     (10, Push('a'), Heap, 6, 9, false),
     (10, Reserve(5), Heap, 8, 13, true),
     (10, Reserve(5), Heap, 8, 12, false),
@@ -142,48 +108,56 @@ const ROOMS: &[(usize, Command, Storage, usize, usize, bool)] = &[
 
 #[test]
 fn room_that_is_lost_or_missing_is_found(rt: HostRuntime) {
-    let text = "aaaaaaaaaaaaaaaaaaaaaaaaaaaaaaa";
     for (i, &(old, command, storage, len, capacity, wanted)) in ROOMS.iter().enumerate() {
-        let string = text.get(..len).unwrap_or(text);
+        let string = A31.get(..len).unwrap_or(A31);
         let seen = Seen {
             string,
             storage,
             capacity,
         };
-        assert!(rt; has_room(old, command, Done, seen) == wanted, "row {i}");
-        assert!(rt;
-            has_room(old, command, NoMemory, seen) == (old == capacity),
-            "row {i}"
-        );
+        let is_right = has_room(old, command, Done, seen) == wanted;
+        let is_kept = has_room(old, command, NoMemory, seen) == (old == capacity);
+        assert!(rt; is_right && is_kept, "{i}");
     }
 }
 
-const BOXED: &[(BoxedRow, Wrong)] = &[
-    (
-        (OfString, None, "x", &[(&[Done, NoChar], "x", Heap)]),
-        Reply,
-    ),
-    (
-        (OfString, None, "x", &[(&[Done, Char('y')], "y", Heap)]),
-        Text,
-    ),
-    (
-        (OfString, None, "x", &[(&[Done, Char('y')], "x", Inline)]),
-        Wrong::Storage,
-    ),
+const MADE: &[Row] = &[
+    Bytes(b"he", "hi"),
+    Paired(&[0xD834], "\u{FFFD}"),
+    Unpaired(&[0xD834, 0xDD1E], "𝄞"),
+    Capacity(30, Heap),
+    Steps(&[(Pop, Char('a'), A31, Heap)]),
 ];
+
+const STAYS: MoveRow = (30, 8, "hi", None, Held, Ok(Inline));
+
+const NOTHING: JoinRow = (None, "", Strs(&[]), "", Inline);
+
+const BOXED: BoxedRow = (OfString, None, "x", &[(&[Char('x')], "x", Heap)]);
 
 #[test]
 fn a_wrong_row_of_another_player_is_found(rt: HostRuntime) {
     let alloc = rt.alloc();
-    for &(row, wrong) in BOXED {
-        let found = wrong_list(&rt, alloc, &[row], &[(Ample, &[Push('y'), Pop])]);
-        assert!(rt; found == Some((0, wrong)), "{found:?}");
+    for row in MADE {
+        let rows = [Bytes(b"he", "he"), *row];
+        assert!(rt; wrong_row(&rt, alloc, Limit30, Ample, &rows) == Some(1));
     }
+    let texts = [(4, "a", Inline), (30, A30, Heap)];
+    assert!(rt; wrong_text(&rt, alloc, Ample, &texts) == Some(1));
+    let moved: [MoveRow; 2] = [STAYS, (30, 8, A30, None, Held, Err(Heap))];
+    assert!(rt; wrong_move(&rt, alloc, &moved) == Some(1));
+    let json = [("5", None), ("\"he\"", Some(("he", Heap)))];
+    assert!(rt; wrong_read(&rt, alloc, Ample, &json) == Some(1));
+    let joined: [JoinRow; 2] = [NOTHING, (None, "a", Chars(&['b']), "a", Inline)];
+    assert!(rt; wrong_join(&rt, alloc, Ample, &joined) == Some(1));
+    assert!(rt; wrong_order(&rt, alloc, &[("", "", Equal), ("b", "a", Less)]) == Some(1));
+    let empty = ("", "|        |    |******|   |", "\"\"");
+    let printed = [empty, ("he", "he|     he|he  |**he**| he|", "\"he\"")];
+    assert!(rt; wrong_print(&rt, alloc, &printed) == Some(1));
+    let found = wrong_list(&rt, alloc, &[BOXED], &[(Ample, &[Pop])]);
+    assert!(rt; found == Some((0, Text)), "{found:?}");
     assert!(rt; play_replaced(&rt, alloc, 8, b"b", 1, NotUtf8).is_err());
     assert!(rt; wrong_bytes::<4>(&rt, &[("ab", 0, 2, "", b"ab\0\x01")]) == Some(0));
-    let others = [(2, Done, Heap, Agrees), (2, Done, Inline, Agrees)];
-    assert!(rt; wrong_other(&rt, alloc, "", SIX, SIX_END, &others).is_some());
     let list = Generated {
         commands: [Push('a'), Pop].to_vec(alloc).expect(&rt, "memory"),
         replies: [Done, Char('b')].to_vec(alloc).expect(&rt, "memory"),

@@ -1,5 +1,5 @@
-//! What tests share: all memory held, whether an allocation has failed, and user-defined texts under
-//! the trait `StringExt`.
+//! What tests share: all memory held, whether an allocation has failed, and user-defined texts
+//! under the trait `StringExt`.
 #![tactic(auto)]
 
 mod array_text;
