@@ -10,6 +10,8 @@ use test_support::letters::{
 
 const CUT: &[List] = &[
     ("", &[]),
+    ("", &[(Pop, NoChar, "", AsMade)]),
+    ("foo", &[(Truncate(1), Done, "f", AsMade)]),
     ("hello", &[(Truncate(2), Done, "he", AsMade)]),
     ("foo", &[(Clear, Done, "", AsMade)]),
     (
@@ -29,6 +31,15 @@ const CUT: &[List] = &[
             (Remove(0), Char('o'), "", AsMade),
         ],
     ),
+    (
+        "x",
+        &[
+            (PushStr("y"), Done, "xy", AsMade),
+            (Remove(0), Char('x'), "y", AsMade),
+            (Pop, Char('y'), "", AsMade),
+            (Pop, NoChar, "", AsMade),
+        ],
+    ),
 ];
 
 #[test]
@@ -43,6 +54,16 @@ const PLACES: &[List] = &[
         &[
             (Remove(1), Char('é'), "a", AsMade),
             (Remove(1), BadPlace, "a", AsMade),
+        ],
+    ),
+    // The middle of a character is no place.
+    (
+        "é",
+        &[
+            (Insert(1, 'x'), BadPlace, "é", AsMade),
+            (Truncate(1), BadPlace, "é", AsMade),
+            (Truncate(3), BadPlace, "é", AsMade),
+            (Truncate(2), Done, "é", AsMade),
         ],
     ),
     // What is put in is taken out whole.
@@ -66,14 +87,12 @@ const REPLACED: &[List] = &[
         "é",
         &[
             (ReplaceBytes(&[0xFF]), WrongLength, "é", AsMade),
-            (ReplaceBytes(b"a"), WrongLength, "é", AsMade),
-            (ReplaceBytes(b"\xC3"), WrongLength, "é", AsMade),
-            (ReplaceBytes(b"\xFF\xFF\xFF"), WrongLength, "é", AsMade),
             (ReplaceBytes(&[]), WrongLength, "é", AsMade),
             (ReplaceBytes(&[0xC3, 0x61]), NotUtf8, "é", AsMade),
             (ReplaceBytes(&[0x61, 0x62]), Done, "ab", AsMade),
         ],
     ),
+    ("hello", &[(ReplaceBytes(b"olleh"), Done, "olleh", AsMade)]),
     // The number of bytes is tested before they are.
     (
         "",
@@ -88,6 +107,14 @@ const REPLACED: &[List] = &[
         &[
             (ReplaceBytes(b""), WrongLength, "a", AsMade),
             (ReplaceBytes(b"\xC3\xA9"), WrongLength, "a", AsMade),
+        ],
+    ),
+    (
+        "é",
+        &[
+            (ReplaceBytes(b"a"), WrongLength, "é", AsMade),
+            (ReplaceBytes(b"\xC3"), WrongLength, "é", AsMade),
+            (ReplaceBytes(b"\xFF\xFF\xFF"), WrongLength, "é", AsMade),
         ],
     ),
     (

@@ -25,21 +25,23 @@ type Boxed = Box<dyn StringExt + Drop>;
 
 /// A boxed text: its kind, the capacity that it is made with or `None` where it is new, its start,
 /// and for each list its replies, its text and its storage then.
-pub type BoxedRow<'a> = (Kind, Option<usize>, &'a str, &'a [End<'a>]);
-
-/// The replies to a list, the text after it, and its storage then.
-type End<'a> = (&'a [Reply], &'a str, Storage);
+pub type BoxedRow<'a> = (
+    Kind,
+    Option<usize>,
+    &'a str,
+    &'a [(&'a [Reply], &'a str, Storage)],
+);
 
 /// What memory is left to a list, and its commands.
 pub type Given<'a> = (Memory, &'a [Command<'a>]);
 
 fn boxed(rt: &impl Abort, alloc: Global, kind: Kind, room: Option<usize>, start: &str) -> Boxed {
     match kind {
-        OfString => {
+        Kind::String => {
             let text: String = text_of(rt, alloc, room, start);
             Box::new(alloc, text).expect(rt, "memory")
         }
-        Array => {
+        Kind::Array => {
             let text: ArrayText<8> = text_of(rt, alloc, room, start);
             Box::new(alloc, text).expect(rt, "memory")
         }
@@ -55,7 +57,10 @@ fn boxed(rt: &impl Abort, alloc: Global, kind: Kind, room: Option<usize>, start:
 }
 
 fn made_of(row: &BoxedRow) -> Made {
-    let limit = if let Array = row.0 { 8 } else { 30 };
+    let limit = match row.0 {
+        Kind::Array => 8,
+        _ => 30,
+    };
     Made {
         kind: row.0,
         limit,
@@ -101,25 +106,25 @@ fn wrong_after(
         starts.push(start).expect(rt, "memory");
     }
     // No text here has this reply.
-    let mut room = [NotUtf8; 24];
+    let mut room = [NotUtf8; 16];
     let count = texts
         .len()
         .checked_mul(commands.len())
         .expect(rt, "a number of replies");
-    assert!(rt; count <= 24 && rows.len() == texts.len());
+    assert!(rt; count <= 16 && rows.len() == texts.len());
     let hoard = hold(rt, alloc, memory);
     run_each(texts, commands, &mut room[..count]);
     drop(hoard);
-    let mut next = 0usize;
+    let mut first = 0usize;
     for ((start, text), row) in starts.into_iter().zip(texts.iter()).zip(rows) {
-        let first = next;
-        next = first.saturating_add(commands.len());
+        let next = first.saturating_add(commands.len());
         let replies = room.get(first..next).expect(rt, "replies of its own");
         let end = row.3.get(list).expect(rt, "an end for each list");
         let wrong = wrong_end(rt, alloc, start, &**text, commands, replies, *end);
         if wrong.is_some() {
             return wrong;
         }
+        first = next;
     }
     None
 }
@@ -132,7 +137,7 @@ fn wrong_end(
     text: &dyn StringExt,
     commands: &[Command],
     replies: &[Reply],
-    (wanted, content, storage): End,
+    (wanted, content, storage): (&[Reply], &str, Storage),
 ) -> Option<Wrong> {
     if replies != wanted {
         Some(Wrong::Reply)
@@ -158,24 +163,29 @@ const COMMANDS: &[Command<'static>] = &[PushStr("y"), Remove(0), Pop, Pop];
 const REPLIES: &[Reply] = &[Done, Char('x'), Char('y'), NoChar];
 
 /// What "x" is after no commands, and after these.
+type End<'a> = (&'a [Reply], &'a str, Storage);
+
 const INLINE: &[End] = &[(&[], "x", Inline), (REPLIES, "", Inline)];
 
 const HEAP: &[End] = &[(&[], "x", Heap), (REPLIES, "", Heap)];
 
 const ALIKE: &[BoxedRow] = &[
-    (Array, None, "x", INLINE),
-    (Own, Some(9), "x", HEAP),
-    (Own, None, "x", HEAP),
     (OfString, None, "x", HEAP),
     (Boxable, None, "x", INLINE),
     (Boxable, Some(31), "x", HEAP),
 ];
 
+const OWN: &[BoxedRow] = &[
+    (Array, None, "x", INLINE),
+    (Own, Some(9), "x", HEAP),
+    (Own, None, "x", HEAP),
+];
+
 #[test]
 fn boxed_texts_of_each_storage_have_a_run_each(rt: HostRuntime) {
     assert_boxed(&rt, rt.alloc(), ALIKE, &[(Ample, &[]), (Ample, COMMANDS)]);
+    assert_boxed(&rt, rt.alloc(), OWN, &[(Ample, &[]), (Ample, COMMANDS)]);
     assert_boxed(&rt, rt.alloc(), &[], &[(Ample, COMMANDS), (Ample, &[])]);
-    assert_boxed(&rt, rt.alloc(), UNLIKE, UNLIKE_LISTS);
 }
 
 const PLACED: &[Reply] = &[Done, Done, Char('s'), Char('7')];
@@ -191,6 +201,11 @@ const UNLIKE: &[BoxedRow] = &[
 ];
 
 const UNLIKE_LISTS: &[Given] = &[(Ample, &[Truncate(1), PushStr("7 bytes"), Pop, Remove(1)])];
+
+#[test]
+fn unlike_texts_have_unlike_replies(rt: HostRuntime) {
+    assert_boxed(&rt, rt.alloc(), UNLIKE, UNLIKE_LISTS);
+}
 
 const A29_E: &str = "aaaaaaaaaaaaaaaaaaaaaaaaaaaaaé";
 
@@ -228,9 +243,14 @@ fn push_works(text: &mut dyn StringExt) -> bool {
 #[test]
 fn texts_grow_through_a_reference_to_the_trait(rt: HostRuntime) {
     let alloc = rt.alloc();
-    let mut string: String = text_of(&rt, alloc, None, "plain");
+    let mut string: String = text_of(&rt, alloc, None, "this is a plain std::string::String");
     let mut inline: InlinableString = text_of(&rt, alloc, None, "inline");
     assert!(rt; push_works(&mut string) && push_works(&mut inline));
-    assert_text(&rt, &string, "plainit works!", Heap);
+    assert_text(
+        &rt,
+        &string,
+        "this is a plain std::string::Stringit works!",
+        Heap,
+    );
     assert_text(&rt, &inline, "inlineit works!", Inline);
 }

@@ -13,7 +13,9 @@ use inlinable_string::run::Reply::{Char, Done, NotUtf8, WrongLength};
 use test_support::letters::{LETTERS_30 as A30, LETTERS_31 as A31};
 
 const GROWN: &[List] = &[
+    ("", &[(Push('a'), Done, "a", AsMade)]),
     ("foo", &[(PushStr("bar"), Done, "foobar", AsMade)]),
+    ("hello", &[(PushStr(" world"), Done, "hello world", AsMade)]),
     ("foo", &[(Insert(2, 'f'), Done, "fofo", AsMade)]),
     ("foo", &[(InsertStr(2, "bar"), Done, "fobaro", AsMade)]),
     (
@@ -124,9 +126,23 @@ const OUTGROWN: &[List] = &[
             (PushStr(LONG), Done, SMALL_AND_LONG, OnHeap),
         ],
     ),
+    ("small", &[(PushStr(LONG), Done, SMALL_AND_LONG, OnHeap)]),
     (
         "hi world",
         &[(PushStr(LONG), Done, HI_WORLD_AND_LONG, OnHeap)],
+    ),
+    (
+        "inline",
+        &[(PushStr("it works!"), Done, "inlineit works!", AsMade)],
+    ),
+    (
+        "this is a plain std::string::String",
+        &[(
+            PushStr("it works!"),
+            Done,
+            "this is a plain std::string::Stringit works!",
+            OnHeap,
+        )],
     ),
 ];
 
@@ -145,29 +161,43 @@ const CB_TEN: &str = "caaaaaaaaaaaaaaaaaaaaaaaaaaaaaaab0123456789";
 
 const TEN_CB_TEN: &str = "0123456789caaaaaaaaaaaaaaaaaaaaaaaaaaaaaaab0123456789";
 
-/// Growths past the capacity, after a shrink each.
-const GROWN_ON_HEAP: &[List] = &[(
-    A31,
-    &[
-        (ShrinkToFit, Done, A31, OnHeap),
-        (Insert(0, 'c'), Done, C, OnHeap),
-        (ShrinkToFit, Done, C, OnHeap),
-        (Push('b'), Done, CB, OnHeap),
-        (ShrinkToFit, Done, CB, OnHeap),
-        (PushStr(TEN), Done, CB_TEN, OnHeap),
-        (ShrinkToFit, Done, CB_TEN, OnHeap),
-        (InsertStr(0, TEN), Done, TEN_CB_TEN, OnHeap),
-        (ShrinkToFit, Done, TEN_CB_TEN, OnHeap),
-        (Reserve(50), Done, TEN_CB_TEN, OnHeap),
-        (ShrinkToFit, Done, TEN_CB_TEN, OnHeap),
-        (ReserveExact(50), Done, TEN_CB_TEN, OnHeap),
-    ],
-)];
+/// Growths past the capacity, one after the other, and after a shrink each.
+const GROWN_ON_THE_HEAP: &[List] = &[
+    (
+        A31,
+        &[
+            (Insert(0, 'c'), Done, C, OnHeap),
+            (Push('b'), Done, CB, OnHeap),
+            (PushStr(TEN), Done, CB_TEN, OnHeap),
+            (InsertStr(0, TEN), Done, TEN_CB_TEN, OnHeap),
+            (Reserve(100), Done, TEN_CB_TEN, OnHeap),
+            (ReserveExact(1000), Done, TEN_CB_TEN, OnHeap),
+            (ShrinkToFit, Done, TEN_CB_TEN, OnHeap),
+        ],
+    ),
+    (
+        A31,
+        &[
+            (ShrinkToFit, Done, A31, OnHeap),
+            (Insert(0, 'c'), Done, C, OnHeap),
+            (ShrinkToFit, Done, C, OnHeap),
+            (Push('b'), Done, CB, OnHeap),
+            (ShrinkToFit, Done, CB, OnHeap),
+            (PushStr(TEN), Done, CB_TEN, OnHeap),
+            (ShrinkToFit, Done, CB_TEN, OnHeap),
+            (InsertStr(0, TEN), Done, TEN_CB_TEN, OnHeap),
+            (ShrinkToFit, Done, TEN_CB_TEN, OnHeap),
+            (Reserve(50), Done, TEN_CB_TEN, OnHeap),
+            (ShrinkToFit, Done, TEN_CB_TEN, OnHeap),
+            (ReserveExact(50), Done, TEN_CB_TEN, OnHeap),
+        ],
+    ),
+];
 
 #[test]
 fn a_text_on_the_heap_goes_on_growing(rt: HostRuntime) {
     assert!(rt; TEN_CB_TEN.len() == 53);
-    assert_each(&rt, rt.alloc(), GROWN_ON_HEAP);
+    assert_each(&rt, rt.alloc(), GROWN_ON_THE_HEAP);
 }
 
 #[test]

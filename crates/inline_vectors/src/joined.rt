@@ -13,7 +13,7 @@ use Storage::{Heap, Inline};
 use inlinable_string::inline_string::NotEnoughSpaceError;
 use inlinable_string::{InlinableString, InlinableStringN, InlineString, Storage, StringMake};
 use std::alloc::{AllocError, Global};
-use std::fmt::{self, Write};
+use std::fmt::Write;
 use std::process::Abort;
 use test_support::letters::{LETTERS_28, LETTERS_29, LETTERS_30, LETTERS_31};
 
@@ -222,7 +222,9 @@ const JOINED: &[JoinRow] = &[
     (None, "", Strs(&["0123456789"; 4]), FORTY_DIGITS, Heap),
     (None, LETTERS_30, Strs(&["", ""]), LETTERS_30, Inline),
     (None, LETTERS_29, Strs(&["a", "", "a"]), LETTERS_31, Heap),
+    (None, "", Strs(&[""]), "", Inline),
     (None, "he", Strs(&["llo"]), "hello", Inline),
+    (None, "", Strs(&["small"]), "small", Inline),
     (None, "small", Strs(&[LONG]), SMALL_AND_LONG, Heap),
     (None, "é", Strs(&["€𝄞"]), "é€𝄞", Inline),
     (None, LETTERS_28, Strs(&["é"]), A_AND_E_ACUTE, Inline),
@@ -308,13 +310,6 @@ fn what_is_written_into_an_array_is_added_or_refused_whole(rt: HostRuntime) {
         assert!(&rt; text.write_char('a').is_ok());
     }
     assert!(&rt; text.write_char('a').is_err() && text.as_str() == LETTERS_30);
-    assert!(&rt; write!(text, "a") == Err(fmt::Error) && text.as_str() == LETTERS_30);
-    let (mut fits, mut lacks) = (
-        InlineString::from(LETTERS_28),
-        InlineString::from(LETTERS_29),
-    );
-    assert!(&rt; fits.write_char('é').is_ok() && fits.as_str() == A_AND_E_ACUTE);
-    assert!(&rt; lacks.write_char('é').is_err() && lacks.as_str() == LETTERS_29);
 }
 
 /// A hundred characters, of which 31 are the letter 'a'.
@@ -341,28 +336,38 @@ impl Iterator for SomeLetters {
     }
 }
 
-/// Whether the letters 'a' that a filter leaves of a hundred characters are added, or three that
-/// come with no hint, up to these.
-fn are_letters_added<const N: usize>(
+/// Whether the letters 'a' that a filter leaves of a hundred characters are added, up to these.
+fn are_filtered<const N: usize>(
     rt: &impl Abort,
     alloc: Global,
     memory: Memory,
-    by_filter: bool,
-    wanted: (&str, Storage),
+    letters: &str,
+    storage: Storage,
 ) -> bool
     requires { N ≤ 300 }
 {
-    let (letters, storage) = wanted;
     let mut text = InlinableStringN::<N>::new(alloc);
     let hoard = hold(rt, alloc, memory);
-    let answer = if by_filter {
-        text.extend_chars(MIXED.chars().filter(|ch| *ch == 'a'))
-    } else {
-        text.extend_chars(SomeLetters { left: 3 })
-    };
+    let answer = text.extend_chars(MIXED.chars().filter(|ch| *ch == 'a'));
     drop(hoard);
-    let whole = if by_filter { 31 } else { 3 };
-    answer.is_ok() == (letters.len() == whole) && is_lying(&text, letters, storage)
+    answer.is_ok() == (letters.len() == 31) && is_lying(&text, letters, storage)
+}
+
+/// Whether three letters that come with no hint are added, up to these.
+fn are_unannounced<const N: usize>(
+    rt: &impl Abort,
+    alloc: Global,
+    memory: Memory,
+    letters: &str,
+    storage: Storage,
+) -> bool
+    requires { N ≤ 300 }
+{
+    let mut text = InlinableStringN::<N>::new(alloc);
+    let hoard = hold(rt, alloc, memory);
+    let answer = text.extend_chars(SomeLetters { left: 3 });
+    drop(hoard);
+    answer.is_ok() == (letters.len() == 3) && is_lying(&text, letters, storage)
 }
 
 /// A limit and the memory that is left, the letters that a filter leaves of a hundred characters,
@@ -382,8 +387,8 @@ fn are_letters_right<const N: usize>(rt: &impl Abort, alloc: Global, row: &Lette
     requires { N ≤ 300 }
 {
     let &(_, memory, filtered, unannounced) = row;
-    are_letters_added::<N>(rt, alloc, memory, true, filtered)
-        && are_letters_added::<N>(rt, alloc, memory, false, unannounced)
+    are_filtered::<N>(rt, alloc, memory, filtered.0, filtered.1)
+        && are_unannounced::<N>(rt, alloc, memory, unannounced.0, unannounced.1)
 }
 
 #[test]

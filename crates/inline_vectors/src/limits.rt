@@ -1,13 +1,12 @@
 //! Limits other than 30 and 30 itself: none at all, some of few bytes, and one past a byte's range.
 //! Characters just fit at each, or need one byte more: with memory, and while none can be had.
-use crate::held::Memory::{self, Ample, Held};
-use crate::kinds::Kind::{Boxable, Inlinable, String as OfString};
+use crate::kinds::Kind::{self, Boxable, Inlinable, String as OfString};
 use crate::player::{
     EVERYWHERE, Kinds, Tally, ample, assert_repeated, assert_right, held, play, play_each,
     play_each_alone, repeated, within,
 };
 use crate::steps::Where::{AsMade, OnHeap, Shrunk};
-use crate::steps::{List, where_at};
+use crate::steps::{List, one_step, where_at};
 use crate::texts::{text_of, whole_of};
 use inlinable_string::run::Command::{
     Insert, InsertStr, Pop, Push, PushStr, ReplaceBytes, Reserve, ReserveExact, ShrinkToFit,
@@ -103,13 +102,20 @@ fn as_many_letters_as_the_limit_are_inline_and_no_more(rt: HostRuntime) {
 /// A character of each length.
 const CHARACTERS: &[char] = &['a', 'é', '€', '𝄞'];
 
+/// Whether memory can be had while a character is put in.
+#[derive(Clone, Copy)]
+enum Edge {
+    WithMemory,
+    WithoutMemory,
+}
+
 /// Puts a character in at both ends of this many letters, each time into a text of its own. After
 /// an allocation failure the text is one to go on with.
 fn play_edge(
     rt: &impl Abort,
     alloc: Global,
     kinds: Kinds,
-    memory: Memory,
+    edge: Edge,
     ch: char,
     count: usize,
 ) -> Tally {
@@ -133,10 +139,10 @@ fn play_edge(
     ] {
         let granted = [(command, Done, content, place)];
         let refused = [(command, NoMemory, letters, AsMade)];
-        let row = match memory {
-            Ample => ample(letters, &granted),
-            _ if back.len() <= kinds.1 => held(letters, &granted, &[]),
-            _ => held(letters, &refused, &after),
+        let row = match edge {
+            Edge::WithMemory => ample(letters, &granted),
+            Edge::WithoutMemory if back.len() <= kinds.1 => held(letters, &granted, &[]),
+            Edge::WithoutMemory => held(letters, &refused, &after),
         };
         right = right.saturating_add(play(rt, alloc, kinds, count, row)?);
     }
@@ -144,11 +150,11 @@ fn play_edge(
 }
 
 /// Characters that just fit, and those of which one byte finds no room.
-fn assert_edges(rt: &impl Abort, alloc: Global, kinds: Kinds, memory: Memory) {
+fn assert_edges(rt: &impl Abort, alloc: Global, kinds: Kinds, edge: Edge) {
     for &ch in CHARACTERS {
         for whole in kinds.1..=kinds.1.saturating_add(1) {
             if let Some(count) = whole.checked_sub(ch.len_utf8()) {
-                assert_right(rt, play_edge(rt, alloc, kinds, memory, ch, count));
+                assert_right(rt, play_edge(rt, alloc, kinds, edge, ch, count));
             }
         }
     }
@@ -157,21 +163,29 @@ fn assert_edges(rt: &impl Abort, alloc: Global, kinds: Kinds, memory: Memory) {
 #[test]
 fn a_character_is_inline_where_its_bytes_just_fit(rt: HostRuntime) {
     for &limit in LIMITS {
-        assert_edges(&rt, rt.alloc(), within(limit), Ample);
+        let kinds = if limit == 30 {
+            EVERYWHERE
+        } else {
+            within(limit)
+        };
+        assert_edges(&rt, rt.alloc(), kinds, Edge::WithMemory);
     }
-    assert_edges(&rt, rt.alloc(), EVERYWHERE, Ample);
 }
 
 #[test]
 fn a_character_takes_no_memory_where_its_bytes_just_fit(rt: HostRuntime) {
     for &limit in LIMITS {
         let kinds: Kinds = (&[Inlinable], limit, &[None]);
-        assert_edges(&rt, rt.alloc(), kinds, Held);
+        assert_edges(&rt, rt.alloc(), kinds, Edge::WithoutMemory);
     }
 }
 
 /// On the heap, at the capacity that a text made for 31 bytes has.
-fn assert_edges_on_heap(rt: &impl Abort, alloc: Global, kinds: Kinds, capacity: usize) {
+fn assert_edges_on_heap(rt: &impl Abort, alloc: Global, kind: Kind, capacity: usize) {
+    let kinds: Kinds = match kind {
+        OfString => (&[OfString], 30, &[HEAP_ROOM]),
+        _ => (&[Inlinable], 30, &[HEAP_ROOM]),
+    };
     for &ch in CHARACTERS {
         let count = capacity.saturating_sub(ch.len_utf8());
         let mut back = whole_of(rt, alloc, "a", count.saturating_add(1));
@@ -181,9 +195,11 @@ fn assert_edges_on_heap(rt: &impl Abort, alloc: Global, kinds: Kinds, capacity: 
         let full = fuller.get(..count.saturating_add(1)).unwrap_or("");
         let granted = [(Push(ch), Done, back, OnHeap)];
         let refused = [(Push(ch), NoMemory, full, OnHeap)];
-        for (start, steps) in [(letters, &granted), (full, &refused)] {
-            assert_right(rt, play(rt, alloc, kinds, count, held(start, steps, &[])));
-        }
+        assert_right(
+            rt,
+            play(rt, alloc, kinds, count, held(letters, &granted, &[])),
+        );
+        assert_right(rt, play(rt, alloc, kinds, count, held(full, &refused, &[])));
     }
 }
 
@@ -191,11 +207,9 @@ fn assert_edges_on_heap(rt: &impl Abort, alloc: Global, kinds: Kinds, capacity: 
 fn a_character_takes_no_memory_where_it_fills_the_room_on_the_heap(rt: HostRuntime) {
     let alloc = rt.alloc();
     let inlinable: InlinableString = text_of(&rt, alloc, HEAP_ROOM, "");
-    let kinds: Kinds = (&[Inlinable], 30, &[HEAP_ROOM]);
-    assert_edges_on_heap(&rt, alloc, kinds, inlinable.capacity());
+    assert_edges_on_heap(&rt, alloc, Inlinable, inlinable.capacity());
     let string: String = text_of(&rt, alloc, HEAP_ROOM, "");
-    let kinds: Kinds = (&[OfString], 30, &[HEAP_ROOM]);
-    assert_edges_on_heap(&rt, alloc, kinds, StringExt::capacity(&string));
+    assert_edges_on_heap(&rt, alloc, OfString, StringExt::capacity(&string));
 }
 
 /// Fills the empty text with letters up to its limit while no memory can be had.
@@ -203,11 +217,14 @@ fn assert_filled(rt: &impl Abort, alloc: Global, kinds: Kinds) {
     let longer = whole_of(rt, alloc, "a", kinds.1.saturating_add(1));
     let (longer, full) = (longer.as_str(), longer.get(1..).unwrap_or(""));
     let mut steps = repeated(rt, alloc, Push('a'), full.len(), full, kinds.1);
-    let refused = (Push('a'), NoMemory, full, AsMade);
-    steps.push(refused).expect(rt, "memory");
-    let after = [(Push('a'), Done, longer, OnHeap)];
-    let row = held("", &steps, &after);
-    assert_right(rt, play(rt, alloc, kinds, kinds.1, row));
+    steps
+        .push((Push('a'), NoMemory, full, AsMade))
+        .expect(rt, "memory");
+    let after = one_step(Push('a'), Done, longer, OnHeap);
+    assert_right(
+        rt,
+        play(rt, alloc, kinds, kinds.1, held("", &steps, &after)),
+    );
 }
 
 #[test]

@@ -6,7 +6,9 @@ use crate::ways::HEAP_ROOM;
 use Kind::{Limit0, Limit8, Limit30, Limit48};
 use Row::{Bytes, Capacity, IntoBytes, Paired, Steps, Unpaired};
 use Storage::{Heap, Inline};
-use inlinable_string::run::Command::{self, Insert, Pop, Reserve, ShrinkToFit};
+use inlinable_string::run::Command::{
+    self, Insert, InsertStr, Pop, Push, PushStr, Reserve, ReserveExact, ShrinkToFit,
+};
 use inlinable_string::run::Reply::{self, Char, Done, NoChar};
 use inlinable_string::run::run;
 use inlinable_string::{
@@ -275,28 +277,45 @@ fn assert_with_and_without(rt: &impl Abort, alloc: Global, kinds: &[Kind], rows:
     assert_makers(rt, alloc, kinds, Held, rows);
 }
 
-const CAPACITIES: &[usize] = &[0, 1, 8, 9, 10, 30, 31, 100, 100_000, usize::MAX];
+const CAPACITIES: &[Row] = &[
+    Capacity(0, Heap),
+    Capacity(10, Heap),
+    Capacity(30, Heap),
+    Capacity(100, Heap),
+    Capacity(usize::MAX, Heap),
+];
 
-/// The kinds with the most bytes that are inline, or `None` where none are.
-const LIMITS: &[(Kind, Option<usize>)] = &[
-    (Kind::OfString, None),
-    (Kind::Own, None),
-    (Limit0, Some(0)),
-    (Limit8, Some(8)),
-    (Limit30, Some(30)),
+const CAPACITIES_AT_0: &[Row] = &[
+    Capacity(0, Inline),
+    Capacity(1, Heap),
+    Capacity(100, Heap),
+    Capacity(usize::MAX, Heap),
+];
+
+const CAPACITIES_AT_8: &[Row] = &[
+    Capacity(0, Inline),
+    Capacity(8, Inline),
+    Capacity(9, Heap),
+    Capacity(100, Heap),
+    Capacity(usize::MAX, Heap),
+];
+
+const CAPACITIES_AT_30: &[Row] = &[
+    Capacity(0, Inline),
+    Capacity(10, Inline),
+    Capacity(30, Inline),
+    Capacity(31, Heap),
+    Capacity(100, Heap),
+    Capacity(usize::MAX, Heap),
 ];
 
 #[test]
-fn a_text_is_made_with_a_capacity_and_inline_up_to_its_limit(rt: HostRuntime) {
-    for &(kind, limit) in LIMITS {
-        for &capacity in CAPACITIES {
-            let storage = match limit {
-                Some(limit) if capacity <= limit => Inline,
-                _ => Heap,
-            };
-            assert_with_and_without(&rt, rt.alloc(), &[kind], &[Capacity(capacity, storage)]);
-        }
-    }
+fn a_text_is_made_with_a_capacity(rt: HostRuntime) {
+    let alloc = rt.alloc();
+    assert_with_and_without(&rt, alloc, HEAP_KINDS, CAPACITIES);
+    assert_with_and_without(&rt, alloc, &[Limit0], CAPACITIES_AT_0);
+    assert_with_and_without(&rt, alloc, &[Limit8], CAPACITIES_AT_8);
+    assert_with_and_without(&rt, alloc, &[Limit30], CAPACITIES_AT_30);
 }
 
 const SHRUNK: &[Row] = &[Steps(&[
@@ -313,9 +332,21 @@ const SHRUNK_ON_THE_HEAP: &[Row] = &[Steps(&[
 
 const C: &str = "caaaaaaaaaaaaaaaaaaaaaaaaaaaaaaa";
 
+const C_AND_B: &str = "caaaaaaaaaaaaaaaaaaaaaaaaaaaaaaab";
+
+const WITH_DIGITS: &str = "caaaaaaaaaaaaaaaaaaaaaaaaaaaaaaab0123456789";
+
+/// 53 bytes.
+const BETWEEN_DIGITS: &str = "0123456789caaaaaaaaaaaaaaaaaaaaaaaaaaaaaaab0123456789";
+
 const GROWN: &[Row] = &[Steps(&[
     (Insert(0, 'c'), Done, C, Heap),
-    (Reserve(100), Done, C, Heap),
+    (Push('b'), Done, C_AND_B, Heap),
+    (PushStr("0123456789"), Done, WITH_DIGITS, Heap),
+    (InsertStr(0, "0123456789"), Done, BETWEEN_DIGITS, Heap),
+    (Reserve(100), Done, BETWEEN_DIGITS, Heap),
+    (ReserveExact(1000), Done, BETWEEN_DIGITS, Heap),
+    (ShrinkToFit, Done, BETWEEN_DIGITS, Heap),
 ])];
 
 #[test]

@@ -4,16 +4,16 @@ use crate::held::Memory::{self, Held};
 use crate::held::all_memory;
 use crate::kinds::Kind::{self, Boxable, Inlinable, String as OfString};
 use crate::player::{Row, Tally, assert_right, held, play};
-use crate::room::assert_hundred;
+use crate::room::{assert_hundred, foo_and_tens};
 use crate::steps::Where::{AsMade, OnHeap, Shrunk};
 use crate::steps::{Step, Where};
-use crate::texts::{assert_text, text_of};
+use crate::texts::{assert_text, is_lying, text_of};
 use inlinable_string::run::Command::{
     self, Clear, Insert, InsertStr, Pop, Push, PushStr, Remove, ReplaceBytes, Reserve,
     ReserveExact, ShrinkToFit, Truncate,
 };
 use inlinable_string::run::Reply::{BadPlace, Char, Done, NoMemory, NotUtf8, WrongLength};
-use inlinable_string::{InlinableString, Storage, StringExt, StringMake};
+use inlinable_string::{InlinableString, InlinableStringN, Storage, StringExt, StringMake};
 use std::alloc::Global;
 use std::process::Abort;
 use test_support::letters::{
@@ -44,7 +44,8 @@ pub fn play_shortages(
             before,
             ..held(start, during, after)
         };
-        count = count.saturating_add(play(rt, alloc, (kinds, 30, &[room]), list, row)?);
+        let right = play(rt, alloc, (kinds, 30, &[room]), list, row)?;
+        count = count.saturating_add(right);
     }
     Ok(count)
 }
@@ -96,12 +97,16 @@ const A27_EURO: &str = "aaaaaaaaaaaaaaaaaaaaaaaaaaa€";
 
 const A29_EURO: &str = "aaaaaaaaaaaaaaaaaaaaaaaaaaaaa€";
 
+const MAX: usize = usize::MAX;
+
 const REFUSED: &[Short] = &[
     (None, A30, all_refused!(A30)),
     (None, A27, all_refused!(A27)),
+    (None, A27, &[(Reserve(28), NoMemory, A27, AsMade)]),
     (None, A29, &[(Push('€'), NoMemory, A29, AsMade)]),
     (None, A29, &[(Insert(0, '€'), NoMemory, A29, AsMade)]),
     (None, A29, &[(Insert(29, '€'), NoMemory, A29, AsMade)]),
+    (None, "a", &[(Reserve(MAX), NoMemory, "a", AsMade)]),
     (
         None,
         "",
@@ -142,8 +147,15 @@ fn what_outgrows_the_capacity_fails_and_changes_nothing(rt: HostRuntime) {
 }
 
 const EDITED_INLINE: &[Short] = &[
-    (None, A30, &[(PushStr(""), Done, A30, AsMade)]),
-    (None, A30, &[(InsertStr(30, ""), Done, A30, AsMade)]),
+    (
+        None,
+        "",
+        &[
+            (PushStr(A30), Done, A30, AsMade),
+            (PushStr(""), Done, A30, AsMade),
+            (InsertStr(30, ""), Done, A30, AsMade),
+        ],
+    ),
     (
         None,
         "foo",
@@ -220,6 +232,24 @@ fn cuts_and_replacements_take_no_memory_and_neither_does_a_bad_place(rt: HostRun
     assert_short(&rt, rt.alloc(), EACH, 30, Held, REPLACED);
 }
 
+const FOO_1: &str = "foo0123456789";
+
+const FOO_2: &str = "foo01234567890123456789";
+
+const FOO_3: &str = "foo012345678901234567890123456789";
+
+const FOO_4: &str = "foo0123456789012345678901234567890123456789";
+
+const FOO_5: &str = "foo01234567890123456789012345678901234567890123456789";
+
+const FIVE_TENS: &[Step] = &[
+    (PushStr(TEN), Done, FOO_1, OnHeap),
+    (PushStr(TEN), Done, FOO_2, OnHeap),
+    (PushStr(TEN), Done, FOO_3, OnHeap),
+    (PushStr(TEN), Done, FOO_4, OnHeap),
+    (PushStr(TEN), Done, FOO_5, OnHeap),
+];
+
 const TWO_PARTS: &[Step] = &[
     (PushStr("012345"), Done, "012345", OnHeap),
     (PushStr("6789"), Done, TEN, OnHeap),
@@ -239,6 +269,8 @@ const TEN_4: &str = "0123456789012345678901234567890123456789";
 /// Texts that fill the room that was reserved, or that they were made with: the capacity that a
 /// text is made with, its start, the reservation, its storage after it, and the steps then.
 const FILLED: &[(Option<usize>, &str, Command, Where, &[Step])] = &[
+    (None, "foo", Reserve(50), OnHeap, FIVE_TENS),
+    (None, "foo", ReserveExact(50), OnHeap, FIVE_TENS),
     (None, A28, Reserve(4), OnHeap, A28_CLEF),
     (None, A28, ReserveExact(4), OnHeap, A28_CLEF),
     (HEAP_ROOM, "", Reserve(10), AsMade, TWO_PARTS),
@@ -260,24 +292,44 @@ fn reserved_room_is_filled_without_memory(rt: HostRuntime) {
 
 #[test]
 fn a_hundred_bytes_that_were_reserved_are_filled_without_memory(rt: HostRuntime) {
-    assert_hundred(&rt, rt.alloc(), Reserve(100), Held);
-    assert_hundred(&rt, rt.alloc(), ReserveExact(100), Held);
+    assert_hundred(&rt, rt.alloc(), false, Held);
+    assert_hundred(&rt, rt.alloc(), true, Held);
 }
 
 /// Whatever it replies while no memory can be had.
 #[test]
 fn a_shrink_leaves_a_long_text_on_the_heap(rt: HostRuntime) {
     let alloc = rt.alloc();
-    let mut text: InlinableString = text_of(&rt, alloc, Some(100), A31);
+    let whole = foo_and_tens(&rt, alloc);
+    let mut text: InlinableString = text_of(&rt, alloc, None, whole.as_str());
     let hoard = all_memory(&rt, alloc);
     let _ = text.shrink_to_fit();
     drop(hoard);
-    assert_text(&rt, &text, A31, Storage::Heap);
+    assert_text(&rt, &text, whole.as_str(), Storage::Heap);
+}
+
+/// Whether a text is made inline with this capacity while no memory can be had.
+fn is_made<S: StringMake + Drop>(rt: &impl Abort, alloc: Global, capacity: usize) -> bool {
+    let hoard = all_memory(rt, alloc);
+    let made = S::with_capacity(alloc, capacity);
+    drop(hoard);
+    match made {
+        Ok(text) => is_lying(&text, "", Storage::Inline),
+        Err(_) => false,
+    }
 }
 
 #[test]
-fn a_new_string_takes_no_memory(rt: HostRuntime) {
+fn a_text_is_made_without_memory_where_its_room_is_inline(rt: HostRuntime) {
     let alloc = rt.alloc();
+    for (capacity, wanted) in [(0, true), (1, true), (30, true), (31, false), (40, false)] {
+        assert!(rt;
+            is_made::<InlinableString>(&rt, alloc, capacity) == wanted,
+            "{capacity}"
+        );
+    }
+    assert!(rt; !is_made::<InlinableStringN<0>>(&rt, alloc, 1));
+    assert!(rt; !is_made::<String>(&rt, alloc, 1));
     let hoard = all_memory(&rt, alloc);
     let new = <String as StringMake>::new(alloc);
     drop(hoard);

@@ -105,8 +105,8 @@ fn steps_on<'a>(
     let mut content = start;
     for &(command, reply, text, place) in steps {
         if is_refused(made, place) {
-            own.push((command, NoMemory, content, AsMade))
-                .expect(rt, "memory");
+            let refused = (command, NoMemory, content, AsMade);
+            own.push(refused).expect(rt, "memory");
             break;
         }
         own.push((command, reply, text, place)).expect(rt, "memory");
@@ -236,8 +236,13 @@ fn play_row<T: Played + Drop>(
         return Err((0, Wrong::Room));
     }
     let place = where_at(row.start.len(), made.limit);
-    let start = [(PushStr(row.start), Done, row.start, place)];
-    let first = steps_on(rt, alloc, made, "", &start);
+    let first = steps_on(
+        rt,
+        alloc,
+        made,
+        "",
+        &[(PushStr(row.start), Done, row.start, place)],
+    );
     play_singly(&mut text, made, way, &first)?;
     if is_refused(made, place) {
         return Ok(0);
@@ -347,9 +352,12 @@ fn play_in_each_way(rt: &impl Abort, alloc: Global, made: Made, list: usize, row
 /// The row of steps with ample memory.
 pub fn ample<'a>(start: &'a str, steps: &'a [Step<'a>]) -> Row<'a> {
     Row {
+        start,
         before: steps,
+        during: &[],
+        after: &[],
         memory: Ample,
-        ..held(start, &[], &[])
+        ways: EACH_WAY,
     }
 }
 
@@ -369,7 +377,8 @@ pub fn held<'a>(start: &'a str, during: &'a [Step<'a>], after: &'a [Step<'a>]) -
 pub fn play_each(rt: &impl Abort, alloc: Global, kinds: Kinds, lists: &[List]) -> Tally {
     let mut count = 0usize;
     for (i, &(start, steps)) in lists.iter().enumerate() {
-        count = count.saturating_add(play(rt, alloc, kinds, i, ample(start, steps))?);
+        let right = play(rt, alloc, kinds, i, ample(start, steps))?;
+        count = count.saturating_add(right);
     }
     Ok(count)
 }

@@ -22,19 +22,33 @@ pub fn play_replaced(
     for (i, &byte) in sequence.iter().enumerate() {
         *bytes.get_mut(at.saturating_add(i)).expect(rt, "a byte") = byte;
     }
-    let content = match str::from_utf8(&bytes) {
-        Ok(content) if reply == Done => content,
-        _ => letters.as_str(),
+    play_bytes(rt, alloc, letters.as_str(), &bytes, reply)
+}
+
+/// Replaces a text of this content by these bytes.
+fn play_bytes<'a>(
+    rt: &impl Abort,
+    alloc: Global,
+    content: &'a str,
+    bytes: &'a [u8],
+    reply: Reply,
+) -> Tally {
+    let after = match str::from_utf8(bytes) {
+        Ok(after) if reply == Done => after,
+        _ => content,
     };
-    let steps = [(ReplaceBytes(&bytes), reply, content, AsMade)];
-    let row = ample(letters.as_str(), &steps);
-    play(rt, alloc, within(limit), at, row)
+    let steps = [(ReplaceBytes(bytes), reply, after, AsMade)];
+    play(rt, alloc, within(content.len()), 0, ample(content, &steps))
 }
 
 /// At both ends of a text, and in its middle.
 fn assert_replaced(rt: &impl Abort, alloc: Global, sequence: &[u8], reply: Reply) {
-    let last = 30usize.saturating_sub(sequence.len());
-    for (limit, at) in [(8, 0), (8, 1), (30, 13), (30, last)] {
+    for (limit, at) in [
+        (8, 0),
+        (8, 1),
+        (30, 13),
+        (30, 30usize.saturating_sub(sequence.len())),
+    ] {
         assert_right(rt, play_replaced(rt, alloc, limit, sequence, at, reply));
     }
 }
@@ -111,14 +125,17 @@ fn bytes_just_outside_of_a_range_are_refused(rt: HostRuntime) {
     }
 }
 
+fn assert_first_bytes_refused(rt: &impl Abort, alloc: Global, first: u8, last: u8) {
+    for byte in first..=last {
+        assert_replaced(rt, alloc, &[byte, b'a', b'a', b'a'], NotUtf8);
+        assert_replaced(rt, alloc, &[byte, 0x80, 0x80, 0x80], NotUtf8);
+    }
+}
+
 #[test]
 fn a_byte_that_begins_no_character_is_refused(rt: HostRuntime) {
-    for (first, last) in [(0x80u8, 0xC1), (0xF5, 0xFF)] {
-        for byte in first..=last {
-            assert_replaced(&rt, rt.alloc(), &[byte, b'a', b'a', b'a'], NotUtf8);
-            assert_replaced(&rt, rt.alloc(), &[byte, 0x80, 0x80, 0x80], NotUtf8);
-        }
-    }
+    assert_first_bytes_refused(&rt, rt.alloc(), 0x80, 0xC1);
+    assert_first_bytes_refused(&rt, rt.alloc(), 0xF5, 0xFF);
 }
 
 const ILL_FORMED: &[&[u8]] = &[
@@ -138,7 +155,9 @@ const ILL_FORMED: &[&[u8]] = &[
 ];
 
 /// A limit, bytes, where they begin among the letters, and the reply.
-const REPLACED: &[(usize, &[u8], usize, Reply)] = &[
+type ReplacedRow<'a> = (usize, &'a [u8], usize, Reply);
+
+const REPLACED: &[ReplacedRow] = &[
     (1, b"\x80", 0, NotUtf8),
     (3, b"\xED\xA0\x80", 0, NotUtf8),
     (3, b"\xED\x9F\xBF", 0, Done),
@@ -154,7 +173,9 @@ fn ill_formed_bytes_of_every_kind_are_refused(rt: HostRuntime) {
         assert_replaced(&rt, rt.alloc(), sequence, NotUtf8);
     }
     for &(limit, sequence, at, reply) in REPLACED {
-        let tally = play_replaced(&rt, rt.alloc(), limit, sequence, at, reply);
-        assert_right(&rt, tally);
+        assert_right(
+            &rt,
+            play_replaced(&rt, rt.alloc(), limit, sequence, at, reply),
+        );
     }
 }

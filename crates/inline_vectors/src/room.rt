@@ -2,14 +2,17 @@
 //! back inline.
 use crate::held::Memory::{self, Ample};
 use crate::kinds::Kind::{Boxable, Inlinable, Own, String as OfString};
-use crate::player::{EACH_WAY, Kinds, Row, assert_each, assert_each_alone, assert_right, play};
-use crate::steps::List;
+use crate::player::{
+    EACH_WAY, Kinds, Row, assert_each, assert_each_alone, assert_right, play, play_each,
+};
 use crate::steps::Where::{AsMade, OnHeap, Shrunk};
+use crate::steps::{List, one_step};
 use crate::texts::whole_of;
 use inlinable_string::run::Command::{
-    self, Clear, Pop, Push, PushStr, Reserve, ReserveExact, ShrinkToFit,
+    Clear, Pop, Push, PushStr, Reserve, ReserveExact, ShrinkToFit,
 };
 use inlinable_string::run::Reply::{Char, Done, NoChar, NoMemory};
+use inlinable_string::{InlinableString, StringMake};
 use std::alloc::Global;
 use std::process::Abort;
 use test_support::letters::{LETTERS_30 as A30, LETTERS_31 as A31};
@@ -84,15 +87,16 @@ fn reservations_stand_in_turn(rt: HostRuntime) {
 }
 
 /// "foo" and ten times ten digits.
-fn foo_and_tens(rt: &impl Abort, alloc: Global) -> String {
+pub fn foo_and_tens(rt: &impl Abort, alloc: Global) -> String {
     let tens = whole_of(rt, alloc, "0123456789", 10);
     let mut whole = whole_of(rt, alloc, "foo", 1);
     whole.push_str(tens.as_str()).expect(rt, "memory");
     whole
 }
 
-/// Reserves room for 100 bytes more in "foo", fills it with this memory, and shrinks the text.
-pub fn assert_hundred(rt: &impl Abort, alloc: Global, reserve: Command, memory: Memory) {
+/// Reserves room for 100 bytes more in "foo", exactly or not, fills it with this memory, and shrinks
+/// the text.
+pub fn assert_hundred(rt: &impl Abort, alloc: Global, is_exact: bool, memory: Memory) {
     let whole = foo_and_tens(rt, alloc);
     let whole = whole.as_str();
     let foo = whole.get(..3).unwrap_or(whole);
@@ -106,8 +110,13 @@ pub fn assert_hundred(rt: &impl Abort, alloc: Global, reserve: Command, memory: 
             .push((PushStr(ten), Done, content, OnHeap))
             .expect(rt, "memory");
     }
-    let before = [(reserve, Done, foo, OnHeap)];
-    let after = [(ShrinkToFit, Done, whole, OnHeap)];
+    let reserve = if is_exact {
+        ReserveExact(100)
+    } else {
+        Reserve(100)
+    };
+    let before = one_step(reserve, Done, foo, OnHeap);
+    let after = one_step(ShrinkToFit, Done, whole, OnHeap);
     let row = Row {
         start: foo,
         before: &before,
@@ -123,11 +132,12 @@ const NOT_ARRAYS: Kinds = (&[Inlinable, Boxable, OfString, Own], 30, &[None]);
 
 #[test]
 fn a_long_text_stays_on_the_heap_when_it_is_shrunk(rt: HostRuntime) {
-    assert_hundred(&rt, rt.alloc(), Reserve(100), Ample);
-    assert_hundred(&rt, rt.alloc(), ReserveExact(100), Ample);
+    assert_hundred(&rt, rt.alloc(), false, Ample);
+    assert_hundred(&rt, rt.alloc(), true, Ample);
 }
 
 const SHRUNK: &[List] = &[
+    ("", &[(ShrinkToFit, Done, "", Shrunk)]),
     ("foo", &[(ShrinkToFit, Done, "foo", Shrunk)]),
     (A30, &[(ShrinkToFit, Done, A30, Shrunk)]),
     (A31, &[(ShrinkToFit, Done, A31, OnHeap)]),
@@ -136,6 +146,13 @@ const SHRUNK: &[List] = &[
         &[
             (Reserve(100), Done, "foo", OnHeap),
             (ShrinkToFit, Done, "foo", Shrunk),
+        ],
+    ),
+    (
+        A31,
+        &[
+            (Pop, Char('a'), A30, OnHeap),
+            (ShrinkToFit, Done, A30, Shrunk),
         ],
     ),
     (
@@ -173,4 +190,16 @@ const SHRUNK: &[List] = &[
 #[test]
 fn a_text_moves_back_inline_when_it_is_shrunk_at_30_bytes(rt: HostRuntime) {
     assert_each(&rt, rt.alloc(), SHRUNK);
+}
+
+const WITH_ROOM: Kinds = (&[Inlinable, Boxable, OfString, Own], 30, &[Some(100_000)]);
+
+/// Each kind of text is made with the capacities of every table, and with many.
+#[test]
+fn a_text_is_made_inline_with_room_for_up_to_30_bytes(rt: HostRuntime) {
+    let alloc = rt.alloc();
+    assert_right(&rt, play_each(&rt, alloc, WITH_ROOM, &[("", &[])]));
+    let inlinable = <InlinableString as StringMake>::with_capacity(alloc, MAX);
+    let string = <String as StringMake>::with_capacity(alloc, MAX);
+    assert!(rt; inlinable.is_err() && string.is_err());
 }

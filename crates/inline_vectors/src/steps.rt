@@ -24,6 +24,16 @@ pub enum Where {
     Shrunk,
 }
 
+/// A list of one step.
+pub fn one_step<'a>(
+    command: Command<'a>,
+    reply: Reply,
+    text: &'a str,
+    place: Where,
+) -> [Step<'a>; 1] {
+    [(command, reply, text, place)]
+}
+
 /// The storage of a text made so.
 pub fn storage_of(made: Made, place: Where) -> Storage {
     match (made.kind, place) {
@@ -77,8 +87,11 @@ pub fn reply_by_call<S: StringExt>(text: &mut S, command: Command) -> Reply {
             }
         }
         Command::Truncate(new_len) => {
-            if text.is_char_boundary(new_len) {
+            let is_place = text.is_char_boundary(new_len);
+            if is_place {
                 text.truncate(new_len);
+            }
+            if is_place {
                 Reply::Done
             } else {
                 Reply::BadPlace

@@ -23,6 +23,20 @@ pub fn text_of<S: EmptyText + Drop>(
     text
 }
 
+/// The text of so many letters 'a', made as by `text_of`.
+pub fn letters<S: EmptyText + Drop>(
+    rt: &impl Abort,
+    alloc: Global,
+    room: Option<usize>,
+    count: usize,
+) -> S {
+    let mut text: S = text_of(rt, alloc, room, "");
+    for _ in 0..count {
+        text.push('a').expect(rt, "memory");
+    }
+    text
+}
+
 /// This many times this part.
 pub fn whole_of(rt: &impl Abort, alloc: Global, part: &str, times: usize) -> String {
     let whole = part.repeat(alloc, times).expect(rt, "memory");
@@ -45,6 +59,15 @@ pub fn is_text<S: StringExt>(text: &S, content: &str) -> bool
 /// Whether the text is this and lies there.
 pub fn is_lying<S: StringExt>(text: &S, content: &str, storage: Storage) -> bool {
     is_text(text, content) && text.storage() == storage
+}
+
+/// Asserts that no row is wrong, each time that a table was gone through.
+pub fn assert_no_wrong_row(rt: &impl Abort, wrong: &[Option<usize>]) {
+    for (time, row) in wrong.iter().enumerate() {
+        if let Some(row) = row {
+            assert!(rt; false, "row {row}, time {time}");
+        }
+    }
 }
 
 /// Asserts what the text is and where it lies.

@@ -34,12 +34,16 @@ const NEW: Kinds = (&[Inlinable], 30, &[None]);
 
 const RIGHT: Step = (Push('c'), Done, "abc", AsMade);
 
-/// Steps after it that are wrong, and what is wrong there.
-const WRONG: &[(Step, Wrong)] = &[
-    ((Pop, Char('b'), "ab", AsMade), Reply),
-    ((Pop, Char('c'), "abc", AsMade), Text),
-    ((Pop, Char('c'), "ab", OnHeap), Wrong::Storage),
+/// Steps of which the second is wrong, and what is wrong there.
+const WRONG: &[(&[Step], Wrong)] = &[
+    (&[RIGHT, (Pop, Char('b'), "ab", AsMade)], Reply),
+    (&[RIGHT, (Pop, Char('c'), "abc", AsMade)], Text),
+    (&[RIGHT, (Pop, Char('c'), "ab", OnHeap)], Wrong::Storage),
 ];
+
+const ALONE: &[List] = &[("ab", &[RIGHT, (Push('d'), Done, "abcd", AsMade)])];
+
+const ON_HEAP: &[List] = &[("ab", &[(Push('c'), Done, "abc", OnHeap)])];
 
 /// One is wrong before a shortage, one during it, and one after it.
 const SHORTAGES: &[Shortage] = &[
@@ -57,15 +61,13 @@ fn assert_fault(rt: &impl Abort, tally: Tally, list: usize, step: usize, wrong: 
 #[test]
 fn a_wrong_step_is_found(rt: HostRuntime) {
     let alloc = rt.alloc();
-    for &(step, wrong) in WRONG {
-        let lists: [List; 2] = [("ab", &[RIGHT]), ("ab", &[RIGHT, step])];
-        assert_fault(&rt, play_each(&rt, alloc, NEW, &lists), 1, 1, wrong);
+    for &(steps, wrong) in WRONG {
+        let tally = play_each(&rt, alloc, NEW, &[("ab", &[]), ("ab", steps)]);
+        assert_fault(&rt, tally, 1, 1, wrong);
     }
     // An array refuses it, and each step alone begins with the start.
-    let on_heap: [List; 1] = [("ab", &[(Push('c'), Done, "abc", OnHeap)])];
-    assert_fault(&rt, play_each(&rt, alloc, within(8), &on_heap), 0, 0, Reply);
-    let alone: [List; 1] = [("ab", &[RIGHT, (Push('d'), Done, "abcd", AsMade)])];
-    assert_fault(&rt, play_each_alone(&rt, alloc, NEW, &alone), 0, 1, Text);
+    assert_fault(&rt, play_each(&rt, alloc, within(8), ON_HEAP), 0, 0, Reply);
+    assert_fault(&rt, play_each_alone(&rt, alloc, NEW, ALONE), 0, 1, Text);
     for shortage in SHORTAGES {
         let tally = play_shortages(&rt, alloc, &[Inlinable], &[*shortage]);
         assert_fault(&rt, tally, 0, 0, Reply);

@@ -25,8 +25,10 @@ const TEN_CLEFS: &str = "𝄞𝄞𝄞𝄞𝄞𝄞𝄞𝄞𝄞𝄞";
 const TEXTS: &[TextRow] = &[
     (0, "", Inline),
     (0, "a", Heap),
+    (0, "𝄞", Heap),
     (0, LETTERS_31, Heap),
     (4, "", Inline),
+    (4, "a", Inline),
     (4, "abcd", Inline),
     (4, "abcde", Heap),
     (4, "𝄞", Inline),
@@ -34,16 +36,16 @@ const TEXTS: &[TextRow] = &[
     (4, "ab€", Heap),
     (4, "a𝄞", Heap),
     (8, "", Inline),
+    (8, "hello", Inline),
     (8, "12345678", Inline),
     (8, "123456789", Heap),
     (8, "aaaaa€", Inline),
     (8, "aaaaaa€", Heap),
     (30, "", Inline),
+    (30, "foo", Inline),
     (30, "hello", Inline),
+    (30, "small", Inline),
     (30, "𝄞", Inline),
-    (0, TEN_CLEFS, Heap),
-    (8, TEN_CLEFS, Heap),
-    (30, TEN_CLEFS, Heap),
     (30, LETTERS_30, Inline),
     (30, LETTERS_31, Heap),
     (30, "aaaaaaaaaaaaaaaaaaaaaaaaaa𝄞", Inline),
@@ -91,9 +93,28 @@ fn is_settled<const N: usize>(text: InlinableStringN<N>, content: &str, fits: bo
     }
 }
 
-/// Whether `from` and `from_str` answer so, and `from_json` of the text between quotes. A text that
-/// is not inline requests memory once.
+/// Whether `from` and `from_str` answer so. A text that is not inline requests memory once.
 fn is_made_of<const N: usize>(
+    rt: &impl Abort,
+    alloc: Global,
+    memory: Memory,
+    content: &str,
+    storage: Storage,
+) -> bool
+    requires { N ≤ 300 }
+{
+    let is_granted = storage == Inline || grants(memory, content.len());
+    let hoard = hold(rt, alloc, memory);
+    let first = InlinableStringN::<N>::from(alloc, content);
+    let is_first = is_made(first, content, storage, is_granted);
+    let second = InlinableStringN::<N>::from_str(alloc, content);
+    let is_second = is_made(second, content, storage, is_granted);
+    drop(hoard);
+    is_first && is_second
+}
+
+/// The same of `from_json`, of the text between quotes.
+fn is_made_of_json<const N: usize>(
     rt: &impl Abort,
     alloc: Global,
     memory: Memory,
@@ -106,17 +127,14 @@ fn is_made_of<const N: usize>(
     let value = Value::from_str(alloc, &json).expect(rt, "JSON");
     let is_granted = storage == Inline || grants(memory, content.len());
     let hoard = hold(rt, alloc, memory);
-    let first = InlinableStringN::<N>::from(alloc, content);
-    let is_first = is_made(first, content, storage, is_granted);
-    let second = InlinableStringN::<N>::from_str(alloc, content);
-    let is_second = is_made(second, content, storage, is_granted);
-    let is_third = match InlinableStringN::<N>::from_json(alloc, &value) {
+    let made = InlinableStringN::<N>::from_json(alloc, &value);
+    let is_right = match made {
         Ok(text) => is_granted && is_lying(&text, content, storage),
         Err(JsonError::NotString) => false,
         Err(JsonError::NoMemory) => !is_granted,
     };
     drop(hoard);
-    is_first && is_second && is_third
+    is_right
 }
 
 /// Whether `from_string` takes a `String` over, and each text then goes into an array where it
@@ -155,6 +173,7 @@ fn is_row_right<const N: usize>(
     is_lying(&InlinableStringN::<N>::default(alloc), "", Inline)
         && is_made_in_an_array::<N>(content, storage == Inline)
         && is_made_of::<N>(rt, alloc, memory, content, storage)
+        && is_made_of_json::<N>(rt, alloc, memory, content, storage)
         && is_taken_over::<N>(rt, alloc, memory, content, storage)
 }
 
@@ -197,11 +216,13 @@ fn assert_texts(rt: &impl Abort, alloc: Global, memory: Memory, rows: &[TextRow]
 #[test]
 fn a_text_is_made_of_another_inline_where_it_fits(rt: HostRuntime) {
     assert_texts(&rt, rt.alloc(), Ample, TEXTS);
+    assert_texts(&rt, rt.alloc(), Ample, OF_40_BYTES);
 }
 
 #[test]
 fn a_text_that_fits_inline_is_made_without_memory_and_a_longer_one_is_refused(rt: HostRuntime) {
     assert_texts(&rt, rt.alloc(), Held, TEXTS);
+    assert_texts(&rt, rt.alloc(), Held, OF_40_BYTES);
 }
 
 /// The C library keeps the block for requests of 25 to 40 bytes, and refuses 41.
