@@ -94,8 +94,8 @@ pub fn foo_and_tens(rt: &impl Abort, alloc: Global) -> String {
     whole
 }
 
-/// Reserves room for 100 bytes more in "foo", exactly or not, fills it with this memory, and shrinks
-/// the text.
+/// Reserves room for 100 bytes more in "foo", exactly or not, fills it with this memory, and
+/// shrinks the text.
 pub fn assert_hundred(rt: &impl Abort, alloc: Global, is_exact: bool, memory: Memory) {
     let whole = foo_and_tens(rt, alloc);
     let whole = whole.as_str();
