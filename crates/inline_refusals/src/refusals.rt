@@ -1,7 +1,6 @@
 //! Each request for memory refused in turn, by `rt try --test --fail-alloc N`, which refuses the
 //! Nth of each test. These tests pass whichever of theirs is refused, and say `refused` where one
 //! was. `.ci/gate refusals` builds them anew for each N, so no test makes more than seven requests.
-use std::process::Abort;
 use std::test::Fail;
 use test_support::Refusals;
 
@@ -19,11 +18,4 @@ fn tell(rt: &impl Print, refusals: &Refusals) -> Result<(), Fail> {
         println!(rt; "refused")?;
     }
     Ok(())
-}
-
-fn assert_first(rt: &impl Abort, refusals: &mut Refusals) {
-    assert!(rt;
-        refusals.meet(),
-        "allocation failure with no request refused"
-    );
 }

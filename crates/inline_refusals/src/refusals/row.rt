@@ -1,5 +1,4 @@
 //! A row: a text, a call that may fail for memory, and what it leaves.
-use super::assert_first;
 use super::kind::Kind;
 use inlinable_string::{Storage, StringExt, StringMake, Utf16Error};
 use std::alloc::{AllocError, Global};
@@ -83,7 +82,10 @@ pub fn started<S: StringMake + Drop>(
 ) -> S {
     let mut made = S::with_capacity(alloc, room);
     if made.is_err() {
-        assert_first(rt, refusals);
+        assert!(rt;
+            refusals.meet(),
+            "allocation failure with no request refused"
+        );
         made = S::with_capacity(alloc, room);
     }
     let mut text = made.expect(rt, "one request is refused at most");

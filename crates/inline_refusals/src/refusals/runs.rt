@@ -99,21 +99,28 @@ pub fn refused_in(replies: &[Reply], ample: &[Reply]) -> Option<bool> {
     if has_one_more { Some(true) } else { None }
 }
 
-/// What the plain program says of the commands with these replies on a new text.
+/// What the plain program says of commands with their replies on a new text.
 fn verdict_from_new(
     alloc: Global,
     policy: Policy,
+    commands: &[Command],
     replies: &[Reply],
     end: Seen<'_>,
 ) -> Result<Verdict, AllocError> {
-    let Policy { limit, demotes, .. } = policy;
-    let storage = if demotes {
+    let storage = if policy.demotes {
         Storage::Inline
     } else {
         Storage::Heap
     };
-    let plain = plain_from(alloc, "", storage, limit, demotes, limit)?;
-    verdict_of(alloc, plain, COMMANDS, replies, end)
+    let plain = plain_from(
+        alloc,
+        "",
+        storage,
+        policy.limit,
+        policy.demotes,
+        policy.limit,
+    )?;
+    verdict_of(alloc, plain, commands, replies, end)
 }
 
 /// Asserts that at most one request was refused, and that the plain program agrees. Says so where
@@ -122,17 +129,17 @@ fn assert_agrees(
     rt: &(impl Abort + Print),
     alloc: Global,
     policy: Policy,
-    replies: &[Reply],
+    (commands, replies, ample): (&[Command], &[Reply], &[Reply]),
     end: Seen<'_>,
 ) -> Result<(), Fail> {
-    let refused = refused_in(replies, REPLIES);
+    let refused = refused_in(replies, ample);
     assert!(rt; refused.is_some(), "{replies:?}");
     let has_met = refused == Some(true);
-    let verdict = match verdict_from_new(alloc, policy, replies, end) {
+    let verdict = match verdict_from_new(alloc, policy, commands, replies, end) {
         Ok(verdict) => verdict,
         Err(AllocError) => {
             assert!(rt; !has_met, "allocation failure with no request refused");
-            let again = verdict_from_new(alloc, policy, replies, end);
+            let again = verdict_from_new(alloc, policy, commands, replies, end);
             again.expect(rt, "one request is refused at most")
         }
     };
@@ -149,7 +156,13 @@ fn assert_run<S: StringMake + Drop>(
     let mut text = S::new(alloc);
     let mut replies = [BadPlace; 20];
     run(&mut text, COMMANDS, &mut replies);
-    assert_agrees(rt, alloc, policy, &replies, seen_of(&text))
+    assert_agrees(
+        rt,
+        alloc,
+        policy,
+        (COMMANDS, &replies, REPLIES),
+        seen_of(&text),
+    )
 }
 
 #[test]
@@ -167,7 +180,13 @@ fn a_run_on_a_string_behind_a_dyn(rt: HostRuntime) -> Result<(), Fail> {
     let mut text = <String as StringMake>::new(rt.alloc());
     let mut replies = [BadPlace; 20];
     run_dyn(&mut text, COMMANDS, &mut replies);
-    assert_agrees(&rt, rt.alloc(), HEAP, &replies, seen_of_dyn(&text))
+    assert_agrees(
+        &rt,
+        rt.alloc(),
+        HEAP,
+        (COMMANDS, &replies, REPLIES),
+        seen_of_dyn(&text),
+    )
 }
 
 /// Whether a request was refused: first that of the promotion, then that of the growth after it.
@@ -209,8 +228,11 @@ fn a_promotion_in_a_run_on_boxed_texts(rt: HostRuntime) -> Result<(), Fail> {
     let mut texts = made.expect(&rt, "one request is refused at most");
     let mut replies = [BadPlace; 4];
     assert!(rt; texts.len() == 1);
-    let commands = [PushStr(A30), Push('b'), Pop, Push('€')];
-    run_each(&mut texts, &commands, &mut replies);
+    run_each(
+        &mut texts,
+        &[PushStr(A30), Push('b'), Pop, Push('€')],
+        &mut replies,
+    );
     let text = texts.first().expect(&rt, "the one text");
     if is_refused(&rt, replies, seen_of_dyn(&**text)) {
         assert!(rt; refusals.meet(), "{replies:?}");

@@ -1,5 +1,4 @@
 //! Scripts, and the arguments of the program that runs them.
-use super::assert_first;
 use script_language::ScriptFault;
 use script_language::arguments::words_of;
 use script_language::script::script;
@@ -8,6 +7,13 @@ use std::env::{Env, FillError};
 use std::process::Abort;
 use std::test::Fail;
 use test_support::Refusals;
+
+fn assert_first(rt: &impl Abort, refusals: &mut Refusals) {
+    assert!(rt;
+        refusals.meet(),
+        "allocation failure with no request refused"
+    );
+}
 
 /// The argument word.
 fn word_of(rt: &impl Abort, alloc: Global, word: &str, refusals: &mut Refusals) -> String {
@@ -89,12 +95,16 @@ fn the_stored_run_goes_on_after_a_refused_promotion(rt: HostRuntime) -> Result<(
 
 #[test]
 fn a_refused_push_leaves_a_text_without_inline_room_empty(rt: HostRuntime) -> Result<(), Fail> {
-    let lines = b"push a\npop\nshrink_to_fit\n";
     let outputs = [
         "done\nchar a\ndone\ntext \nlength 0\nstorage inline\n",
         "no memory\nnone\ndone\ntext \nlength 0\nstorage inline\n",
     ];
-    assert_prints(&rt, rt.alloc(), ("inline0", lines), &outputs)
+    assert_prints(
+        &rt,
+        rt.alloc(),
+        ("inline0", b"push a\npop\nshrink_to_fit\n"),
+        &outputs,
+    )
 }
 
 #[test]
@@ -119,13 +129,17 @@ fn a_refused_reservation_lets_a_heap_text_shrink_inline(rt: HostRuntime) -> Resu
 
 #[test]
 fn a_refused_growth_leaves_a_string_as_it_was(rt: HostRuntime) -> Result<(), Fail> {
-    let lines = b"push_str abc\nreserve_exact 100\npop\n";
     let outputs = [
         "done\ndone\nchar c\ntext ab\nlength 2\nstorage heap\n",
         "no memory\ndone\nnone\ntext \nlength 0\nstorage heap\n",
         "done\nno memory\nchar c\ntext ab\nlength 2\nstorage heap\n",
     ];
-    assert_prints(&rt, rt.alloc(), ("string", lines), &outputs)
+    assert_prints(
+        &rt,
+        rt.alloc(),
+        ("string", b"push_str abc\nreserve_exact 100\npop\n"),
+        &outputs,
+    )
 }
 
 #[test]
