@@ -4,8 +4,3 @@ mod store;
 mod symbols;
 mod tokens;
 mod tree;
-
-/// More than a new map, or a node of it, has room for.
-const NEW: &[&str] = &[
-    "a", "b", "c", "d", "e", "f", "g", "h", "i", "j", "k", "l", "m", "n", "o", "p", "q", "r", "s",
-];

@@ -3,59 +3,103 @@ ghost use Rattle.std.specs.Prelude.{◌≤◌};
 
 use crate::editor::Line;
 
-/// Presses a key: the arrows, the erasers and the scissors move and take out, the others type.
-fn press<const N: usize>(line: &mut Line<N>, key: char) -> Option<char> {
-    match key {
-        '⌦' => return line.delete(),
-        '⌫' => return line.backspace(),
-        '←' => return line.left(),
-        '→' => return line.right(),
-        '✂' => line.kill_to_end(),
-        '⇤' => line.home(),
-        '⇥' => line.end(),
-        typed => {
-            if line.type_char(typed) {
-                return Some(typed);
-            }
-        }
-    }
-    None
+/// What a key does on a line.
+#[derive(Clone, Copy)]
+enum Key {
+    Type(char),
+    Delete,
+    Backspace,
+    Left,
+    Right,
+    KillToEnd,
+    Home,
+    End,
 }
 
-/// Keys, the character that each types, takes out or passes (`-` for none), and the line's text
-/// after them.
-const PRESSED_8: &[(&str, &str, &str)] = &[
-    ("aü𝄞", "aü𝄞", "aü𝄞"),
-    ("ü→", "--", "aü𝄞"),
-    ("←←→⌫", "𝄞üüü", "a𝄞"),
-    ("€x", "€-", "a€𝄞"),
-    ("←←←⌫", "€a--", "a€𝄞"),
-    ("⌦", "a", "€𝄞"),
-    ("⇥⌦", "--", "€𝄞"),
-    ("⇤→✂⌦", "-€--", "€"),
-    ("⇤c⇥d", "-c-d", "c€d"),
-];
+use Key::{Backspace, Delete, End, Home, KillToEnd, Left, Right, Type};
 
-/// The number of the first row, from an empty line on, whose keys do not do what it says.
-fn first_wrong<const N: usize>() -> Option<usize>
+/// A key, the character that it types, takes out or passes, if any, and what stands in the line
+/// after it.
+type Press<'a> = (Key, Option<char>, &'a str);
+
+/// Presses a key.
+fn press<const N: usize>(line: &mut Line<N>, key: Key) -> Option<char> {
+    match key {
+        Type(ch) => { if line.type_char(ch) { Some(ch) } else { None } }
+        Delete => line.delete(),
+        Backspace => line.backspace(),
+        Left => line.left(),
+        Right => line.right(),
+        KillToEnd => {
+            line.kill_to_end();
+            None
+        }
+        Home => {
+            line.home();
+            None
+        }
+        End => {
+            line.end();
+            None
+        }
+    }
+}
+
+/// The number of the first key, from an empty line on, that does not do what its row says.
+fn first_wrong<const N: usize>(presses: &[Press]) -> Option<usize>
     requires { N ≤ 300 }
 {
     let mut line: Line<N> = Line::new();
-    for (i, (keys, answers, text)) in PRESSED_8.iter().enumerate() {
-        for (key, answer) in keys.chars().zip(answers.chars()) {
-            if press(&mut line, key).unwrap_or('-') != answer {
-                return Some(i);
-            }
-        }
-        if line.text() != *text {
+    for (i, &(key, ch, text)) in presses.iter().enumerate() {
+        if press(&mut line, key) != ch || line.text() != text {
             return Some(i);
         }
     }
     None
 }
 
+const MENDED_8: &[Press] = &[
+    (Type('g'), Some('g'), "g"),
+    (Type('n'), Some('n'), "gn"),
+    (Type('ü'), Some('ü'), "gnü"),
+    (Type('n'), Some('n'), "gnün"),
+    (Home, None, "gnün"),
+    (Delete, Some('g'), "nün"),
+    (Type('𝄞'), Some('𝄞'), "𝄞nün"),
+    (Type('x'), None, "𝄞nün"),
+    (KillToEnd, None, "𝄞"),
+    (Delete, None, "𝄞"),
+    (Home, None, "𝄞"),
+    (Type('a'), Some('a'), "a𝄞"),
+    (End, None, "a𝄞"),
+    (Type('b'), Some('b'), "a𝄞b"),
+];
+
 #[test]
-fn a_line_is_typed_and_mended_by_whole_characters(rt: HostRuntime) {
-    let wrong = first_wrong::<8>();
+fn a_line_is_typed_and_mended(rt: HostRuntime) {
+    let wrong = first_wrong::<8>(MENDED_8);
+    assert!(rt; wrong.is_none(), "{wrong:?}");
+}
+
+const MOVED_9: &[Press] = &[
+    (Type('a'), Some('a'), "a"),
+    (Type('ü'), Some('ü'), "aü"),
+    (Type('𝄞'), Some('𝄞'), "aü𝄞"),
+    (Right, None, "aü𝄞"),
+    (Left, Some('𝄞'), "aü𝄞"),
+    (Left, Some('ü'), "aü𝄞"),
+    (Right, Some('ü'), "aü𝄞"),
+    (Backspace, Some('ü'), "a𝄞"),
+    (Type('€'), Some('€'), "a€𝄞"),
+    (Left, Some('€'), "a€𝄞"),
+    (Left, Some('a'), "a€𝄞"),
+    (Left, None, "a€𝄞"),
+    (Backspace, None, "a€𝄞"),
+    (Delete, Some('a'), "€𝄞"),
+];
+
+#[test]
+fn a_cursor_moves_by_whole_characters(rt: HostRuntime) {
+    let wrong = first_wrong::<9>(MOVED_9);
     assert!(rt; wrong.is_none(), "{wrong:?}");
 }

@@ -1,23 +1,39 @@
 //! Texts and their ids.
-use super::NEW;
 use crate::symbols::{Symbols, have_same_id};
 use std::alloc::AllocError;
 use std::test::Fail;
 use test_support::letters::LETTERS_31;
 use test_support::{Hoard, NEEDS_THE_PROVED_BUILD};
 
-/// Texts, in the order of their ids.
-const TEXTS: &[&str] = &["let", "total", "", LETTERS_31, "totals", "é"];
+/// Texts as a program meets them, and the ids that they get.
+const MET: &[(&str, usize)] = &[
+    ("let", 0),
+    ("total", 1),
+    ("let", 0),
+    ("", 2),
+    (LETTERS_31, 3),
+    ("totals", 4),
+    (LETTERS_31, 3),
+    ("total", 1),
+    ("é", 5),
+    ("", 2),
+];
 
-/// The first text that gets another id, at once or when met again, or is not found by its id, or
-/// whose id is not found.
-fn first_wrong(symbols: &mut Symbols) -> Result<Option<usize>, AllocError> {
-    for (id, text) in TEXTS.iter().enumerate() {
-        if symbols.intern(text)? != id || symbols.intern(text)? != id {
-            return Ok(Some(id));
+/// The first text that gets another id.
+fn first_with_other_id(symbols: &mut Symbols) -> Result<Option<usize>, AllocError> {
+    for (i, (text, id)) in MET.iter().enumerate() {
+        if symbols.intern(text)? != *id {
+            return Ok(Some(i));
         }
-        if symbols.find(text)? != Some(id) || symbols.text(id) != Some(*text) {
-            return Ok(Some(id));
+    }
+    Ok(None)
+}
+
+/// The first text that is not found by its id, or whose id is not found.
+fn first_not_found(symbols: &Symbols) -> Result<Option<usize>, AllocError> {
+    for (i, (text, id)) in MET.iter().enumerate() {
+        if symbols.find(text)? != Some(*id) || symbols.text(*id) != Some(*text) {
+            return Ok(Some(i));
         }
     }
     Ok(None)
@@ -26,10 +42,11 @@ fn first_wrong(symbols: &mut Symbols) -> Result<Option<usize>, AllocError> {
 #[test]
 fn ids_are_given_in_order_and_stay(rt: HostRuntime) -> Result<(), Fail> {
     let mut symbols = Symbols::new(rt.alloc());
-    for _ in 0..2 {
-        let wrong = first_wrong(&mut symbols)?;
-        assert!(rt; wrong.is_none(), "{wrong:?}");
-    }
+    let wrong = [
+        first_with_other_id(&mut symbols)?,
+        first_not_found(&symbols)?,
+    ];
+    assert!(rt; wrong == [None; 2], "{wrong:?}");
     assert!(rt; symbols.len() == 6);
     let is_absent = symbols.find("lets")?.is_none() && symbols.text(6).is_none();
     assert!(rt; is_absent);
@@ -39,6 +56,11 @@ fn ids_are_given_in_order_and_stay(rt: HostRuntime) -> Result<(), Fail> {
     Ok(())
 }
 
+/// More than a table of two has room for.
+const NEW: &[&str] = &[
+    "a", "b", "c", "d", "e", "f", "g", "h", "i", "j", "k", "l", "m", "n", "o", "p", "q", "r", "s",
+];
+
 /// The first of these texts that is refused an id.
 fn first_refused<'a>(symbols: &mut Symbols, texts: &[&'a str]) -> Option<&'a str> {
     for text in texts {
@@ -47,6 +69,12 @@ fn first_refused<'a>(symbols: &mut Symbols, texts: &[&'a str]) -> Option<&'a str
         }
     }
     None
+}
+
+/// Whether the text is not there, and gets the next id.
+fn gets_the_next_id(symbols: &mut Symbols, text: &str) -> Result<bool, AllocError> {
+    let next = symbols.len();
+    Ok(symbols.find(text)?.is_none() && symbols.intern(text)? == next)
 }
 
 #[test]
@@ -65,8 +93,7 @@ fn a_known_short_text_takes_no_memory(rt: HostRuntime) -> Result<(), Fail> {
     assert!(rt; long.is_err());
     // The one that was refused is not there; once there is memory again it gets the next id.
     let refused = refused.ok_or("none was refused")?;
-    let next = symbols.len();
-    let is_next = symbols.find(refused)?.is_none() && symbols.intern(refused)? == next;
+    let is_next = gets_the_next_id(&mut symbols, refused)?;
     assert!(rt; is_next);
     Ok(())
 }

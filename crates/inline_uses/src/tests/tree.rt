@@ -10,21 +10,49 @@ use test_support::{Hoard, NEEDS_THE_PROVED_BUILD};
 const BOOK: &[(Option<usize>, &str, &str)] = &[
     (None, "book", "/book"),
     (Some(0), "title", "/book/title"),
-    (Some(0), "text", "/book/text"),
-    (Some(2), "title", "/book/text/title"),
+    (Some(0), "chapters", "/book/chapters"),
+    (Some(2), "title", "/book/chapters/title"),
     (Some(0), "", "/book/"),
     (None, "title", "/title"),
-    (Some(3), "größe", "/book/text/title/größe"),
-    (Some(5), "sixteen bytes ab", "/title/sixteen bytes ab"),
+    (Some(3), "größe", "/book/chapters/title/größe"),
+    (
+        Some(6),
+        "sixteen bytes ab",
+        "/book/chapters/title/größe/sixteen bytes ab",
+    ),
 ];
 
 /// What is not put into that tree, and why.
 const REFUSED: &[(Option<usize>, &str, Fault)] = &[
+    (None, "book", Fault::Taken),
+    (Some(0), "title", Fault::Taken),
+    (Some(0), "", Fault::Taken),
+    (Some(3), "größe", Fault::Taken),
     (Some(8), "title", Fault::NoNode),
     (Some(usize::MAX), "title", Fault::NoNode),
     (None, "seventeen bytes a", Fault::LongKey),
     (None, "sechzehn Größen", Fault::LongKey),
 ];
+
+/// The first node that is there already, or is not added with its number.
+fn first_not_added(tree: &mut Tree) -> Option<usize> {
+    for (id, (place, key, _)) in BOOK.iter().enumerate() {
+        if tree.child(*place, key).is_some() || tree.add(*place, key) != Ok(id) {
+            return Some(id);
+        }
+    }
+    None
+}
+
+/// The first row that is not refused as it says.
+fn first_not_refused(tree: &mut Tree) -> Option<usize> {
+    for (i, (place, key, fault)) in REFUSED.iter().enumerate() {
+        if tree.add(*place, key) != Err(*fault) {
+            return Some(i);
+        }
+    }
+    None
+}
 
 /// Whether the node has this path.
 fn has_path(tree: &Tree, alloc: Global, id: usize, path: &str) -> bool {
@@ -34,19 +62,19 @@ fn has_path(tree: &Tree, alloc: Global, id: usize, path: &str) -> bool {
     }
 }
 
-/// The first node that is not added with its number, or later is not taken, or is not found by its
-/// key, or has another place or path.
-fn first_wrong(tree: &mut Tree, alloc: Global, is_new: bool) -> Option<usize> {
+/// Whether the node is under this one, by this key.
+fn is_node(tree: &Tree, id: usize, place: Option<usize>, key: &str) -> bool {
+    let Some(node) = tree.node(id) else {
+        return false;
+    };
+    node.parent == place && node.key.as_str() == key
+}
+
+/// The first node that is not found by its key, or has another path or place.
+fn first_not_found(tree: &Tree, alloc: Global) -> Option<usize> {
     for (id, (place, key, path)) in BOOK.iter().enumerate() {
-        let answer = if is_new { Ok(id) } else { Err(Fault::Taken) };
-        if tree.add(*place, key) != answer || tree.child(*place, key) != Some(id) {
-            return Some(id);
-        }
-        let is_found = match tree.node(id) {
-            Some(node) => node.parent == *place && node.key.as_str() == *key,
-            None => false,
-        };
-        if !is_found || !has_path(tree, alloc, id, path) {
+        let is_found = tree.child(*place, key) == Some(id);
+        if !is_found || !has_path(tree, alloc, id, path) || !is_node(tree, id, *place, key) {
             return Some(id);
         }
     }
@@ -56,49 +84,57 @@ fn first_wrong(tree: &mut Tree, alloc: Global, is_new: bool) -> Option<usize> {
 #[test]
 fn nodes_have_paths_and_are_found_by_their_keys(rt: HostRuntime) {
     let mut tree = Tree::new(rt.alloc());
-    for is_new in [true, false] {
-        assert!(rt; tree.child(Some(1), "title").is_none());
-        let wrong = first_wrong(&mut tree, rt.alloc(), is_new);
-        assert!(rt; wrong.is_none(), "{wrong:?}");
-        for (place, key, fault) in REFUSED {
-            assert!(rt; tree.add(*place, key) == Err(*fault));
-        }
-    }
+    let wrong = [
+        first_not_added(&mut tree),
+        first_not_refused(&mut tree),
+        first_not_found(&tree, rt.alloc()),
+    ];
+    assert!(rt; wrong == [None; 3], "{wrong:?}");
     assert!(rt; tree.len() == BOOK.len());
-    assert!(rt; tree.child(Some(8), "title").is_none());
-    assert!(rt; tree.node(8).is_none());
-    let path = tree.path(rt.alloc(), 8);
-    assert!(rt; path.is_err_and(|fault| fault == Fault::NoNode));
+    assert!(rt; tree.child(Some(1), "title").is_none());
+    assert!(rt; tree.child(Some(BOOK.len()), "title").is_none());
+    assert!(rt; tree.node(BOOK.len()).is_none());
+    let is_no_node = matches!(tree.path(rt.alloc(), BOOK.len()), Err(Fault::NoNode));
+    assert!(rt; is_no_node);
 }
 
-/// Adds nodes, each under the one before it, up to the first that is refused: its place, and why.
-fn first_refused(tree: &mut Tree, node: usize) -> Option<(usize, Fault)> {
+/// Keys of nodes, one under the other: the path of the second has 14 bytes, that of the third 31.
+const DEEP: &[&str] = &["book", "chapters", "a deeper chapter"];
+
+/// Adds nodes, each under the one before it; the numbers of the last two.
+fn add_deep(tree: &mut Tree) -> Result<(usize, usize), Fault> {
+    let book = tree.add(None, DEEP[0])?;
+    let chapters = tree.add(Some(book), DEEP[1])?;
+    Ok((chapters, tree.add(Some(chapters), DEEP[2])?))
+}
+
+/// Adds nodes under this one, each under the one before it, up to the first that is refused: the
+/// last that was added, and why the next was not.
+fn add_until_refused(tree: &mut Tree, node: usize) -> (usize, Option<Fault>) {
     let mut last = node;
     for _ in 0..64 {
         match tree.add(Some(last), "next") {
             Ok(id) => last = id,
-            Err(fault) => return Some((last, fault)),
+            Err(fault) => return (last, Some(fault)),
         }
     }
-    None
+    (last, None)
 }
 
 #[test]
 fn without_memory_a_tree_stays_as_it_is(rt: HostRuntime) -> Result<(), Fail> {
-    let alloc = rt.alloc();
-    let value = Value::from_str(alloc, r#"{"book":{"chapters":{"a deeper chapter":{}}}}"#)?;
-    let mut tree = Tree::from_json(alloc, &value).map_err(|_| "refused")?;
-    let hoard = Hoard::take(alloc).expect(&rt, NEEDS_THE_PROVED_BUILD);
-    let refused = first_refused(&mut tree, 2);
-    let short = tree.path(alloc, 1);
-    let long = tree.path(alloc, 2);
+    let mut tree = Tree::new(rt.alloc());
+    let (chapters, deep) = add_deep(&mut tree).map_err(|_| "refused")?;
+    let hoard = Hoard::take(rt.alloc()).expect(&rt, NEEDS_THE_PROVED_BUILD);
+    let (last, refused) = add_until_refused(&mut tree, deep);
+    let short = tree.path(rt.alloc(), chapters);
+    let long = tree.path(rt.alloc(), deep);
     drop(hoard);
-    let (last, fault) = refused.ok_or("none was refused")?;
-    assert!(rt; fault == Fault::NoMemory);
+    assert!(rt; refused == Some(Fault::NoMemory));
     assert!(rt; tree.child(Some(last), "next").is_none());
     let next = tree.len();
     assert!(rt; tree.add(Some(last), "next") == Ok(next));
-    // A path of at most 30 bytes takes no memory; that of 31 does.
+    // A path of at most 30 bytes takes no memory.
     assert!(rt; short.is_ok_and(|path| path.as_str() == "/book/chapters"));
     assert!(rt; long.is_err_and(|fault| fault == Fault::NoMemory));
     Ok(())
@@ -107,21 +143,20 @@ fn without_memory_a_tree_stays_as_it_is(rt: HostRuntime) -> Result<(), Fail> {
 /// JSON texts, and the paths of the nodes of their trees, in the order of their numbers.
 const DOCUMENTS: &[(&str, &[&str])] = &[
     ("{}", &[]),
-    (r#"{"sixteen bytes ab":{}}"#, &["/sixteen bytes ab"]),
+    (r#"{"a":{}}"#, &["/a"]),
     (
-        r#"{"":{"":{}},"b":{"c":{"t":{}},"t":{}},"ö":{"ß":{}}}"#,
-        &["/", "//", "/b", "/b/c", "/b/c/t", "/b/t", "/ö", "/ö/ß"],
+        r#"{"":{"":{}},"book":{"chapters":{"title":{}},"title":{}},"größe":{"two bytes: ß":{}}}"#,
+        &[
+            "/",
+            "//",
+            "/book",
+            "/book/chapters",
+            "/book/chapters/title",
+            "/book/title",
+            "/größe",
+            "/größe/two bytes: ß",
+        ],
     ),
-];
-
-/// JSON texts of no tree, and why.
-const NO_TREES: &[(&str, Fault)] = &[
-    ("null", Fault::NotObject),
-    ("[]", Fault::NotObject),
-    ("\"text\"", Fault::NotObject),
-    (r#"{"a":{"b":{},"c":1}}"#, Fault::NotObject),
-    (r#"{"seventeen bytes a":{}}"#, Fault::LongKey),
-    (r#"{"a":{"sechzehn Größen":{}}}"#, Fault::LongKey),
 ];
 
 #[test]
@@ -137,9 +172,24 @@ fn trees_go_through_json_and_come_back(rt: HostRuntime) -> Result<(), Fail> {
         assert!(rt; tree.to_json(alloc)? == value);
         assert!(rt; tree.to_json(alloc)?.to_string(alloc)?.as_str() == *text);
     }
+    Ok(())
+}
+
+/// JSON texts of no tree, and why.
+const NO_TREES: &[(&str, Fault)] = &[
+    ("null", Fault::NotObject),
+    ("[]", Fault::NotObject),
+    ("\"text\"", Fault::NotObject),
+    (r#"{"a":{"b":{},"c":1}}"#, Fault::NotObject),
+    (r#"{"seventeen bytes a":{}}"#, Fault::LongKey),
+    (r#"{"a":{"sechzehn Größen":{}}}"#, Fault::LongKey),
+];
+
+#[test]
+fn only_objects_in_objects_are_trees(rt: HostRuntime) -> Result<(), Fail> {
     for (text, fault) in NO_TREES {
-        let value = Value::from_str(alloc, text)?;
-        assert!(rt; Tree::from_json(alloc, &value).is_err_and(|found| found == *fault));
+        let value = Value::from_str(rt.alloc(), text)?;
+        assert!(rt; Tree::from_json(rt.alloc(), &value).is_err_and(|found| found == *fault));
     }
     Ok(())
 }
