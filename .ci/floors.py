@@ -83,7 +83,7 @@ QUICK_PROVED = 37
 # that they need the proved build.
 # The longest come first.
 TRIED = {'inline_vectors': (50, 29), 'inline_refusals': (31, 0), 'inline_script': (10, 2),
-         'inline_uses': (13, 4), 'inlinable_string': (6, 0)}
+         'inline_uses': (13, 4)}
 
 # Workloads of the bench, and on how many of them each type of text is run.
 BENCH_WORKLOADS = 74

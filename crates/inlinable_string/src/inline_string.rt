@@ -17,8 +17,6 @@ use std::{fmt, str};
 mod borrowed;
 mod compared;
 mod printed;
-#[cfg(test)]
-mod tests;
 
 /// The capacity of an [`InlineString`] in bytes, as in the crate `inlinable_string`.
 pub const INLINE_STRING_CAPACITY: usize = 30;
