@@ -19,7 +19,7 @@ KNOWN = {
     '--lines': {'type': int, 'default': 0, 'metavar': 'N'},
     '--count': {'type': int, 'default': HOSTILE_INPUTS},
     '--store': {'action': 'store_true'},
-    '--draw': {'action': 'store_true'},
+    '--all': {'action': 'store_true'},
 }
 
 
