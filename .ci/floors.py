@@ -77,7 +77,7 @@ PROOFS = 1_300
 CITED = 400
 
 # Functions of the library that `gate quick` proves.
-QUICK_PROVED = 37
+QUICK_PROVED = 14
 
 # By crate, for `gate quick`: tests that must pass without being proved, and how many at most may say
 # that they need the proved build.

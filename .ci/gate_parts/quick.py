@@ -19,8 +19,8 @@ from gate_parts.refusals import ENDED, TEST
 from gate_parts.tree import PROCESSORS, crate_folder, run_rt, text_of
 
 LIBRARY, PART, PROGRAM = 'inlinable_string', 'run', 'inline_script'
-# The crates whose tests run without --all.
-MAIN_TESTS = ('inline_vectors', 'inline_script')
+# The crates whose tests run without --all: the calls and the runs of the library.
+MAIN_TESTS = ('inline_vectors',)
 PROVED = re.compile(r'^only=(\d+) proved=\1$', re.MULTILINE)
 LEFT_OUT = 'the proofs of the other crates and of all tests, and whatever must be refused or answered'
 HELD = 'this test needs the proved build'
