@@ -68,7 +68,9 @@ pub fn spelled(alloc: Global, word: &str) -> Result<InlinableString, AllocError>
 
 /// The same by `collect`.
 pub fn collected(alloc: Global, word: &str) -> Result<InlinableString, AllocError>
-    ensures { IfOk result (λ made. bytes_of (inlinable_state 30 made).text ≡ word.now) }
+    ensures text { IfOk result (λ made. bytes_of (inlinable_state 30 made).text ≡ word.now) }
+    ensures storage { IfOk result (λ made. (inlinable_state 30 made).storage
+        ≡ storage_when_made (inlinable_policy 30) (size (inlinable_state 30 made).text)) }
 {
     word.chars().collect(alloc)
 }

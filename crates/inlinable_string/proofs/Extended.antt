@@ -1,7 +1,8 @@
 -- Texts to which the items of an iterator are added one by one.
-use Rattle.inlinable_string.proofs.Common.{common_steps, ◌≡◌, ℕ, ◌+◌, ◌≤◌, ◌<◌, true, false, List, [], ◌∷◌, ◌++◌, sym, ap, ◌∙◌, arith, subst, append_assoc, Option, Some, None, Result, Ok, Err, OnErr, rules, flat_map_more, map-append, chars, Inline, size, TextState, IsSameText, HasRoom, storage_with_room, storage_when_made, inlinable_policy, inlinable_state, text_of_strs, text_of_char_refs, IsExtended, IsRefusedLast}
+use Rattle.inlinable_string.proofs.Common.{common_steps, ◌≡◌, ℕ, ◌+◌, ◌≤◌, ◌<◌, true, false, List, [], ◌∷◌, ◌++◌, sym, ap, ◌∙◌, arith, subst, append_assoc, Option, Some, None, Result, Ok, Err, OnErr, MatchResult, rules, flat_map_more, map-append, chars, Inline, size, TextState, IsSameText, HasRoom, storage_with_room, storage_when_made, inlinable_policy, inlinable_state, text_of_strs, text_of_char_refs, IsExtended, IsRefusedLast}
 use Rattle.std.proofs.iter.runs.Made.{run_of_turn, run_of_exit}
 use Rattle.std.specs.Borrow.{Bor}
+use Rattle.std.specs.Result.{IsErr}
 use Rattle.std.specs.Iterator.{Yields}
 use Rattle.std.specs.Iterator.Runs.{SomeRun, WholeRun, EachRunFrom}
 use Rattle.inlinable_string.specs.declared.inlinable_string.InlinableStringN.{InlinableStringN}
@@ -57,6 +58,14 @@ grown_more old mid new u v w k g whole counted text storage room policy = record
     sized : size u + k ≡ size w
     sized = omega (arith, size-append u v, ap size whole, counted)
 
+-- a refusal leaves what had been added
+pub left_extended : (old mid new : TextState) (u : List ℕ) → Grown old u mid → IsSameText mid new
+    → IsExtended old u new
+left_extended old mid new u g same = record {
+  text = same.text ∙ g.extended.text;
+  storage = same.storage ∙ g.extended.storage;
+}
+
 -- what was refused had no room
 above_room : (old mid : TextState) (u v w : List ℕ) (k : ℕ) → Grown old u mid → w ≡ u ++ v
     → k ≡ size v → (HasRoom mid k → false ≡ true) → old.capacity < size old.text + size w
@@ -85,18 +94,14 @@ module _ {A S : Type 0} (text_of : List A → List ℕ) (gives : S → Option A 
   stopped old mid new items x v k g whole counted none same led step =
       let run = run_of_turn gives it items here led x rest step in
       let more : old.capacity < size old.text + size (text_of (items ++ x ∷ [])) =
-      above_room old mid (text_of items) v _ k g whole counted none in
-      let left : IsExtended old (text_of items) new = record {
-        text = same.text ∙ g.extended.text;
-        storage = same.storage ∙ g.extended.storage;
-      } in (
+      above_room old mid (text_of items) v _ k g whole counted none in (
         run.0,
         run.1,
         record {
           taken = items;
           refused = x;
           whole = run.2.0;
-          extended = left;
+          extended = left_extended old mid new (text_of items) g same;
           above = rw run.2.0 more;
         },
       )
@@ -105,6 +110,12 @@ module _ {A S : Type 0} (text_of : List A → List ℕ) (gives : S → Option A 
 pub refused : {T E P : Type 0} (r : Result T E) → P → OnErr r P
 refused (Ok x) p = tt
 refused (Err x) p = p
+
+-- what std's `extend` says of its refusal
+pub at_refusal : {T E P : Type 0} (r : Result T E) (Q : T → Type 0) → IsErr r → P
+    → MatchResult r Q (λ _. P)
+at_refusal (Ok x) Q e p = absurd (clash e)
+at_refusal (Err x) Q e p = p
 
 -- where all fits, nothing is refused
 pub all_fit : {A S : Type 0} (text_of : List A → List ℕ) (gives : S → Option A → S → Type 0)
@@ -145,3 +156,13 @@ module _ {A S : Type 0} (text_of : List A → List ℕ) (N : ℕ)
       subst (λ old. old.capacity < size old.text + size (text_of run.0.items))
       (new_is_empty N made text storage) run.2.above in
       (run.0, run.1, omega (arith, above))
+
+-- what is collected into a text that was new
+pub collected : (N : ℕ) (made : InlinableStringN N) → (inlinable_state N made).text ≡ []
+    → (inlinable_state N made).storage ≡ storage_when_made (inlinable_policy N) 0
+    → (u : List ℕ) (new : TextState) → IsExtended (inlinable_state N made) u new
+    → (new.text ≡ u) × (new.storage ≡ storage_when_made (inlinable_policy N) (size u))
+collected N made text storage u new e =
+    let from : IsExtended (empty_state N) u new =
+    subst (λ old. IsExtended old u new) (new_is_empty N made text storage) e in
+    (from.text, from.storage ∙ grind (arith, common_steps))

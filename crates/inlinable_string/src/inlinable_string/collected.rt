@@ -1,18 +1,34 @@
-//! std's `extend` and `collect`, over characters and strings. Where a refusal comes and where the
-//! text lies then, [`InlinableStringN::extend_chars`] and the calls beside it tell.
-ghost use Rattle.std.specs.Prelude.{◌≡◌, ◌++◌};
-ghost use Rattle.inlinable_string.specs.Joins.{text_of_strs};
-ghost use Rattle.inlinable_string.specs.Values.{inlinable_state};
+//! std's `extend` and `collect`, over characters and strings. After a failure the text has the items
+//! before the one that was refused.
+ghost use Rattle.std.specs.Prelude.{◌≡◌, IsOk};
+ghost use Rattle.std.specs.Iterator.{IsFinite, ExtendsWithItems};
+ghost use Rattle.std.specs.Iterator.Runs.{EachRunFrom};
+ghost use Rattle.inlinable_string.specs.Text.{size};
+ghost use Rattle.inlinable_string.specs.State.{HasRoom, storage_when_made};
+ghost use Rattle.inlinable_string.specs.Joins.{text_of_strs, IsExtended};
+ghost use Rattle.inlinable_string.specs.Values.{inlinable_policy, inlinable_state};
 
 use crate::inlinable_string::InlinableStringN;
+use crate::inlinable_string::joins::assume_utf8_param;
 use crate::string_ext::{StringExt, StringMake};
 use std::alloc::{AllocError, Global};
 
 impl<const N: usize> Extend<char> for InlinableStringN<N> {
     ghost extend_gives = { λ s items t.
-        (inlinable_state N t).text ≡ (inlinable_state N s).text ++ items };
+        IsExtended (inlinable_state N s) items (inlinable_state N t) };
 
-    fn extend<U: IntoIterator<Item = char>>(&mut self, iter: U) -> Result<(), AllocError> {
+    fn extend<U: IntoIterator<Item = char>>(&mut self, iter: U) -> Result<(), AllocError>
+        requires { (it : U.IntoIter) → U.into_iter_gives iter it
+            → U.IntoIter.can_next it × IsFinite (U.IntoIter.remaining it) }
+        ensures ran { ExtendsWithItems U.into_iter_gives U.IntoIter.next_gives
+            ⟦<InlinableStringN<N> as Extend<char>>⟧.extend_gives iter self.old self.new result }
+        // What fits is not refused.
+        ensures granted { ((it : U.IntoIter) → U.into_iter_gives iter it
+            → EachRunFrom U.IntoIter.next_gives it
+            (λ run. HasRoom (inlinable_state N self.old) (size run.items))) → IsOk result }
+    {
+        // `len` tells the laws of the value.
+        let _ = self.len();
         for ch in iter {
             self.push(ch)?;
         }
@@ -22,11 +38,23 @@ impl<const N: usize> Extend<char> for InlinableStringN<N> {
 
 impl<'a, const N: usize> Extend<&'a str> for InlinableStringN<N> {
     ghost extend_gives = { λ s items t.
-        (inlinable_state N t).text ≡ (inlinable_state N s).text ++ text_of_strs items };
+        IsExtended (inlinable_state N s) (text_of_strs items) (inlinable_state N t) };
 
-    fn extend<U: IntoIterator<Item = &'a str>>(&mut self, iter: U) -> Result<(), AllocError> {
+    fn extend<U: IntoIterator<Item = &'a str>>(&mut self, iter: U) -> Result<(), AllocError>
+        requires { (it : U.IntoIter) → U.into_iter_gives iter it
+            → U.IntoIter.can_next it × IsFinite (U.IntoIter.remaining it) }
+        ensures ran { ExtendsWithItems U.into_iter_gives U.IntoIter.next_gives
+            ⟦<InlinableStringN<N> as Extend<&'a str>>⟧.extend_gives iter self.old self.new result }
+        // What fits is not refused.
+        ensures granted { ((it : U.IntoIter) → U.into_iter_gives iter it
+            → EachRunFrom U.IntoIter.next_gives it (λ run.
+            HasRoom (inlinable_state N self.old) (size (text_of_strs run.items))))
+            → IsOk result }
+    {
+        // `len` tells the laws of the value.
+        let _ = self.len();
         for string in iter {
-            self.push_str(string)?;
+            self.push_str(assume_utf8_param(string))?;
         }
         Ok(())
     }
@@ -35,7 +63,8 @@ impl<'a, const N: usize> Extend<&'a str> for InlinableStringN<N> {
 impl<const N: usize> FromIterator<char> for InlinableStringN<N> {
     type Alloc = Global;
 
-    ghost from_iter_gives = { λ items t. (inlinable_state N t).text ≡ items };
+    ghost from_iter_gives = { λ items t. ((inlinable_state N t).text ≡ items)
+        × ((inlinable_state N t).storage ≡ storage_when_made (inlinable_policy N) (size items)) };
 
     fn from_iter<U: IntoIterator<Item = char>>(alloc: Global, iter: U) -> Result<Self, AllocError> {
         let mut made = Self::new(alloc);
@@ -47,7 +76,9 @@ impl<const N: usize> FromIterator<char> for InlinableStringN<N> {
 impl<'a, const N: usize> FromIterator<&'a str> for InlinableStringN<N> {
     type Alloc = Global;
 
-    ghost from_iter_gives = { λ items t. (inlinable_state N t).text ≡ text_of_strs items };
+    ghost from_iter_gives = { λ items t. ((inlinable_state N t).text ≡ text_of_strs items)
+        × ((inlinable_state N t).storage
+        ≡ storage_when_made (inlinable_policy N) (size (text_of_strs items))) };
 
     fn from_iter<U: IntoIterator<Item = &'a str>>(
         alloc: Global,

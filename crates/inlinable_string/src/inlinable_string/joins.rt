@@ -168,7 +168,7 @@ impl<const N: usize> InlinableStringN<N> {
 }
 
 /// The same string: a `&str` out of an iterator has no fact that it is UTF-8, a parameter has.
-fn assume_utf8_param(string: &str) -> &str
+pub(crate) fn assume_utf8_param(string: &str) -> &str
     ensures value { result.now ≡ string.now }
     ensures utf8 { IsUtf8 string.now }
 {

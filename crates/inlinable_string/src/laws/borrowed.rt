@@ -4,8 +4,9 @@ ghost use Rattle.std.specs.Borrow.{Bor};
 ghost use Rattle.std.specs.Str.{chars};
 ghost use Rattle.std.specs.Str.Iter.{chars_rest};
 ghost use Rattle.inlinable_string.specs.Text.{bytes_of, size};
-ghost use Rattle.inlinable_string.specs.Joins.{text_of_strs};
-ghost use Rattle.inlinable_string.specs.Values.{inlinable_state};
+ghost use Rattle.inlinable_string.specs.State.{storage_when_made};
+ghost use Rattle.inlinable_string.specs.Joins.{text_of_strs, IsExtended};
+ghost use Rattle.inlinable_string.specs.Values.{inlinable_policy, inlinable_state};
 ghost use Rattle.inlinable_string.specs.declared.inlinable_string.InlinableStringN.{InlinableStringN};
 
 use crate::inlinable_string::InlinableStringN;
@@ -43,19 +44,21 @@ pub fn strings_that_fit_are_added<'a, const N: usize>()
         → t ≡ s ++ chars added.now }
 {}
 
-/// What `extend` and `collect` have taken stands in the text, in its order.
+/// What `extend` and `collect` have taken is in the text, in its order, and where that is stored.
 pub fn items_are_joined<'a, const N: usize>()
     ensures chars_added { (s : InlinableStringN N) (items : List ℕ) (t : InlinableStringN N)
         → ⟦<InlinableStringN<N> as Extend<char>>⟧.extend_gives s items t
-        → (inlinable_state N t).text ≡ (inlinable_state N s).text ++ items }
+        → IsExtended (inlinable_state N s) items (inlinable_state N t) }
     ensures chars_collected { (items : List ℕ) (t : InlinableStringN N)
         → ⟦<InlinableStringN<N> as FromIterator<char>>⟧.from_iter_gives items t
-        → (inlinable_state N t).text ≡ items }
+        → ((inlinable_state N t).text ≡ items) × ((inlinable_state N t).storage
+        ≡ storage_when_made (inlinable_policy N) (size items)) }
     ensures strs_added { (s : InlinableStringN N) (items : List (Bor (List ℕ)))
         (t : InlinableStringN N)
         → ⟦<InlinableStringN<N> as Extend<&'a str>>⟧.extend_gives s items t
-        → (inlinable_state N t).text ≡ (inlinable_state N s).text ++ text_of_strs items }
+        → IsExtended (inlinable_state N s) (text_of_strs items) (inlinable_state N t) }
     ensures strs_collected { (items : List (Bor (List ℕ))) (t : InlinableStringN N)
         → ⟦<InlinableStringN<N> as FromIterator<&'a str>>⟧.from_iter_gives items t
-        → (inlinable_state N t).text ≡ text_of_strs items }
+        → ((inlinable_state N t).text ≡ text_of_strs items) × ((inlinable_state N t).storage
+        ≡ storage_when_made (inlinable_policy N) (size (text_of_strs items))) }
 {}
