@@ -31,18 +31,24 @@ returns-in_err-print_line-2-clause-part g c =
     let more = front_of_longer _ (text ++ length) storage front in
     of_any_error _ _ (subst (WritesFront _ _) (ap (λ l. c.args.buffer.now ++ l) same) more)
 
-pub returns : goal.returns
-returns g c =
+pub returns-clause-gathered : goal.returns-clause-gathered
+returns-clause-gathered g c =
+    let s = g.S.StringExt.state c.args.text.now in
+    let same = state_by_lines s c.as_bytes.result.now c.decimal_digits-digits.result.now
+    c.storage_name.result.now (search rules) (search rules) (search rules) in
+    on_ok_weaker c.print_line-3.result
+    (λ h. gathered_is (gathered_more (gathered_more c.in_ok-print_line.ensures.gathered
+    c.in_ok-print_line-2.ensures.gathered) h) same)
+    c.print_line-3.ensures.gathered
+
+pub returns-clause-part : goal.returns-clause-part
+returns-clause-part g c =
     let s = g.S.StringExt.state c.args.text.now in
     let same = state_by_lines s c.as_bytes.result.now c.decimal_digits-digits.result.now
     c.storage_name.result.now (search rules) (search rules) (search rules) in
     let both = gathered_more c.in_ok-print_line.ensures.gathered
     c.in_ok-print_line-2.ensures.gathered in
-    record {
-      gathered = on_ok_weaker c.print_line-3.result
-          (λ h. gathered_is (gathered_more both h) same) c.print_line-3.ensures.gathered;
-      part = of_error _ _ _
-          (λ front. subst (WritesFront _ _) (ap (λ l. c.args.buffer.now ++ l) same)
-          (front_after_gathered _ both front)) c.print_line-3.ensures.part;
-      fault = c.print_line-3.ensures.fault;
-    }
+    of_error _ _ _
+    (λ front. subst (WritesFront _ _) (ap (λ l. c.args.buffer.now ++ l) same)
+    (front_after_gathered _ both front))
+    c.print_line-3.ensures.part
