@@ -202,10 +202,12 @@ abbrev pub Left : List ℕ → ℕ → ℕ → Type 0
 Left bs n k = Reached bs n (replicate k (0x80, 0xBF))
 
 -- the second byte has a range of its own
-pub no_second : (bs : List ℕ) (r : ℕ × ℕ) (k : ℕ) → 0 < length bs
-    → row bs ≡ r ∷ replicate k (0x80, 0xBF) → count_in (r ∷ []) (drop 1 bs) ≡ 0
+pub no_second : (bs : List ℕ) (r : ℕ × ℕ) → 0 < length bs → 194 ≤ slice_index bs 0
+    → slice_index bs 0 ≤ 244 → take 1 (row bs) ≡ r ∷ [] → count_in (r ∷ []) (drop 1 bs) ≡ 0
     → (char_len bs ≡ 0) × (subpart_len bs ≡ 1)
-no_second bs r k some is outside = ended bs 0 r _ (at_first bs _ some is) outside
+no_second bs r some from to first outside =
+    let has = row_is (slice_index bs 0) r from to first in
+    ended bs 0 r _ (at_first bs _ some has.is) outside
 
 pub second : (bs : List ℕ) (r : ℕ × ℕ) (k : ℕ) → 0 < length bs
     → row bs ≡ r ∷ replicate k (0x80, 0xBF) → count_in (r ∷ []) (drop 1 bs) ≡ 1 → Left bs 1 k
@@ -223,6 +225,26 @@ later bs n zero so more inside = absurd (omega arith)
 later bs n (suc k) so more inside =
     let less : k ≡ suc k - 1 = omega arith in
     subst (Left bs (1 + n)) less (further bs n _ _ so inside)
+
+-- two bytes behind the first are in the row, and one more is left where it is one of four
+pub record HasThree (bs : List ℕ) : Type 0 where
+  pub k : ℕ
+  pub left : Left bs 2 k
+  pub three : slice_index bs 0 < 240 → k ≡ 0
+  pub four : 240 ≤ slice_index bs 0 → k ≡ 1
+
+pub third : (bs : List ℕ) (r : ℕ × ℕ) → 0 < length bs → 224 ≤ slice_index bs 0
+    → slice_index bs 0 ≤ 244 → take 1 (row bs) ≡ r ∷ [] → count_in (r ∷ []) (drop 1 bs) ≡ 1
+    → count_in ((0x80, 0xBF) ∷ []) (drop 2 bs) ≡ 1 → HasThree bs
+third bs r some from to first inside next =
+    let has = row_is (slice_index bs 0) r (omega (arith, from)) to first in
+    let more = has.more from in
+    record {
+      k = has.k - 1;
+      left = later bs 1 has.k (second bs r has.k some has.is inside) more next;
+      three = λ below. let k = has.three below in omega (arith, k, more);
+      four = λ above. let k = has.four above in omega (arith, k);
+    }
 
 -- none is left: it is a character
 pub complete : (bs : List ℕ) (n k : ℕ) → Left bs n k → 0 < n → k ≡ 0 → char_len bs ≡ 1 + n

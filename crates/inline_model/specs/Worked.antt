@@ -16,15 +16,6 @@ inline_text t n = record {
   policy = record { demotes = true; limit = n };
 }
 
--- a text on the heap, in room for so many bytes, where 30 may lie inline
-abbrev pub heap_text : List ℕ → ℕ → TextState
-heap_text t n = record {
-  text = t;
-  storage = Heap;
-  capacity = n;
-  policy = record { demotes = true; limit = 30 };
-}
-
 -- a text on the heap, in room for so many bytes, that is never brought back from it
 abbrev pub heap_only_text : List ℕ → ℕ → TextState
 heap_only_text t n = record {
@@ -33,6 +24,10 @@ heap_only_text t n = record {
   capacity = n;
   policy = record { demotes = false; limit = 30 };
 }
+
+-- a text on the heap, in room for so many bytes, where 30 may lie inline
+abbrev pub heap_text : List ℕ → ℕ → TextState
+heap_text t n = record (heap_only_text t n) { policy = record { demotes = true; limit = 30 } }
 
 -- room asked for, € put in at 1 and taken out from two places, and room asked for again
 abbrev pub room_commands : List Command

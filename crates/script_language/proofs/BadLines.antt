@@ -1,12 +1,12 @@
 -- How many commands lines ask for, and what stands before a bad one.
-use Rattle.std.proofs.Common.{◌≡◌, Bool, true, refl, sym, ap, subst, ◌∙◌, ℕ, suc, ◌≤◌, List, [], ◌∷◌, ◌++◌, length, nat_lt, arith}
+use Rattle.std.proofs.Common.{◌≡◌, Bool, true, refl, sym, ap, subst, ◌∙◌, ℕ, suc, ◌+◌, ◌≤◌, List, [], ◌∷◌, ◌++◌, length, nat_lt, arith}
 use Rattle.std.specs.List.{count_by, filter}
 use Rattle.std.proofs.lemmas.Bool.{lt-ltb}
 use Rattle.std.proofs.lemmas.List.Sums.{length-filter}
 use mathlib.Core.Bool.{cond}
 use Rattle.inlinable_string.specs.declared.run.Command.{Command}
 use Rattle.script_language.specs.Line.{IsLine}
-use Rattle.script_language.specs.Script.{LinesAskFor}
+use Rattle.script_language.specs.Script.{LinesAskFor, IsFirstBad}
 
 -- whether a line has a byte
 abbrev has_byte : List ℕ → Bool
@@ -44,6 +44,23 @@ bad_among ([] ∷ before) behind line commands bytes rejected asked =
 bad_among ((b ∷ first) ∷ before) behind line [] bytes rejected asked = asked
 bad_among ((b ∷ first) ∷ before) behind line (command ∷ commands) bytes rejected asked =
     bad_among before behind line commands bytes rejected asked.1
+
+-- a bad line behind lines that ask for commands is the first, by its number
+pub first_bad : (before : List (List ℕ)) (commands : List Command) (behind : List (List ℕ))
+    (line : List ℕ) → LinesAskFor before commands → ¬ (line ≡ [])
+    → ((command : Command) → ¬ (IsLine line command))
+    → IsFirstBad (before ++ line ∷ behind) (length before + 1)
+first_bad before commands behind line asked bytes rejected = record {
+  before = before;
+  line = line;
+  behind = behind;
+  split = refl;
+  counted = refl;
+  commands = commands;
+  accepted = asked;
+  has_bytes = bytes;
+  rejected = rejected;
+}
 
 -- no bad line stands before a first bad one
 pub not_before : (before other : List (List ℕ)) (line last : List ℕ) (behind rest : List (List ℕ))

@@ -138,42 +138,32 @@ plain_state s (c ∷ commands) (r ∷ replies) =
     ∙ ap (λ u. state_after u (map plain commands) replies)
     (same_step s c (plain c) r (plain_does c))
 
--- lines ask for one list of plain commands
+-- lines ask for one list of whatever is read from a command's word and its arguments
+asked : {A : Type 0} (read : Command → A)
+    → ((one other : Command) → word_of one ≡ word_of other
+    → arguments_of one ≡ arguments_of other → read one ≡ read other)
+    → (lines : List (List ℕ)) (one other : List Command) → LinesAskFor lines one
+    → LinesAskFor lines other → map read one ≡ map read other
+asked read same [] [] [] a b = refl
+asked read same [] [] (d ∷ other) a b = absurd b
+asked read same [] (c ∷ one) other a b = absurd a
+asked read same ([] ∷ lines) one other a b = asked read same lines one other a b
+asked read same ((x ∷ line) ∷ lines) [] other a b = absurd a
+asked read same ((x ∷ line) ∷ lines) (c ∷ one) [] a b = absurd b
+asked read same ((x ∷ line) ∷ lines) (c ∷ one) (d ∷ other) a b =
+    let alike = one_command (x ∷ line) c d a.0 b.0 in
+    ap (λ y. y ∷ map read one) (same c d alike.0 alike.1)
+    ∙ ap (λ ys. read d ∷ ys) (asked read same lines one other a.1 b.1)
+
 pub asked_words : (lines : List (List ℕ)) (one other : List Command) → LinesAskFor lines one
     → LinesAskFor lines other → map word_of one ≡ map word_of other
-asked_words [] [] [] a b = refl
-asked_words [] [] (d ∷ other) a b = absurd b
-asked_words [] (c ∷ one) other a b = absurd a
-asked_words ([] ∷ lines) one other a b = asked_words lines one other a b
-asked_words ((x ∷ line) ∷ lines) [] other a b = absurd a
-asked_words ((x ∷ line) ∷ lines) (c ∷ one) [] a b = absurd b
-asked_words ((x ∷ line) ∷ lines) (c ∷ one) (d ∷ other) a b =
-    let same = one_command (x ∷ line) c d a.0 b.0 in
-    ap (λ w. w ∷ map word_of one) same.0
-    ∙ ap (λ ws. word_of d ∷ ws) (asked_words lines one other a.1 b.1)
+asked_words = asked word_of (λ c d words args. words)
 
 pub asked_arguments : (lines : List (List ℕ)) (one other : List Command) → LinesAskFor lines one
     → LinesAskFor lines other → map arguments_of one ≡ map arguments_of other
-asked_arguments [] [] [] a b = refl
-asked_arguments [] [] (d ∷ other) a b = absurd b
-asked_arguments [] (c ∷ one) other a b = absurd a
-asked_arguments ([] ∷ lines) one other a b = asked_arguments lines one other a b
-asked_arguments ((x ∷ line) ∷ lines) [] other a b = absurd a
-asked_arguments ((x ∷ line) ∷ lines) (c ∷ one) [] a b = absurd b
-asked_arguments ((x ∷ line) ∷ lines) (c ∷ one) (d ∷ other) a b =
-    let same = one_command (x ∷ line) c d a.0 b.0 in
-    ap (λ w. w ∷ map arguments_of one) same.1
-    ∙ ap (λ ws. arguments_of d ∷ ws) (asked_arguments lines one other a.1 b.1)
+asked_arguments = asked arguments_of (λ c d words args. args)
 
+-- and so of plain commands
 pub plain_asked : (lines : List (List ℕ)) (one other : List Command) → LinesAskFor lines one
     → LinesAskFor lines other → map plain one ≡ map plain other
-plain_asked [] [] [] a b = refl
-plain_asked [] [] (d ∷ other) a b = absurd b
-plain_asked [] (c ∷ one) other a b = absurd a
-plain_asked ([] ∷ lines) one other a b = plain_asked lines one other a b
-plain_asked ((x ∷ line) ∷ lines) [] other a b = absurd a
-plain_asked ((x ∷ line) ∷ lines) (c ∷ one) [] a b = absurd b
-plain_asked ((x ∷ line) ∷ lines) (c ∷ one) (d ∷ other) a b =
-    let same = one_command (x ∷ line) c d a.0 b.0 in
-    ap (λ p. p ∷ map plain one) (one_plain c d same.0 same.1)
-    ∙ ap (λ ps. plain d ∷ ps) (plain_asked lines one other a.1 b.1)
+plain_asked = asked plain one_plain

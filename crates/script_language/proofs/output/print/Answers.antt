@@ -36,24 +36,17 @@ returns-in_err-print_state-clause-part g c =
     of_any_error _ _
     (subst (WritesFront _ _) (ap (λ some. flat_map reply_line some ++ last) all) front)
 
-pub returns-clause-written : goal.returns-clause-written
-returns-clause-written g c =
+pub returns : goal.returns
+returns g c =
     let rs = c.args.replies.now in
     let last = state_lines (g.S.StringExt.state c.args.text.now) in
     let all = gathered_more c.loop-reply.invariant c.in_ok-print_state.ensures.gathered in
     let same = take_all c.loop-reply.reply-index rs (search rules) in
-    on_ok_weaker c.flush.result
-    (λ h. subst (Appends _ _) (ap (λ some. flat_map reply_line some ++ last) same)
-    (gathered_and_flushed _ all h))
-    c.flush.ensures.written
-
-pub returns-clause-part : goal.returns-clause-part
-returns-clause-part g c =
-    let rs = c.args.replies.now in
-    let last = state_lines (g.S.StringExt.state c.args.text.now) in
-    let all = gathered_more c.loop-reply.invariant c.in_ok-print_state.ensures.gathered in
-    let same = take_all c.loop-reply.reply-index rs (search rules) in
-    of_error _ _ _
-    (λ front. subst (WritesFront _ _) (ap (λ some. flat_map reply_line some ++ last) same)
-    (front_of_flushed all front))
-    c.flush.ensures.part
+    let whole = ap (λ some. flat_map reply_line some ++ last) same in
+    record {
+      written = on_ok_weaker c.flush.result
+          (λ h. subst (Appends _ _) whole (gathered_and_flushed _ all h)) c.flush.ensures.written;
+      part = of_error _ _ _
+          (λ front. subst (WritesFront _ _) whole (front_of_flushed all front)) c.flush.ensures.part;
+      fault = c.flush.ensures.fault;
+    }

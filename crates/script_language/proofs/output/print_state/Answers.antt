@@ -36,9 +36,9 @@ returns-clause-gathered g c =
     let s = g.S.StringExt.state c.args.text.now in
     let same = state_by_lines s c.as_bytes.result.now c.decimal_digits-digits.result.now
     c.storage_name.result.now (search rules) (search rules) (search rules) in
-    let both = gathered_more c.in_ok-print_line.ensures.gathered
-    c.in_ok-print_line-2.ensures.gathered in
-    on_ok_weaker c.print_line-3.result (λ h. gathered_is (gathered_more both h) same)
+    on_ok_weaker c.print_line-3.result
+    (λ h. gathered_is (gathered_more (gathered_more c.in_ok-print_line.ensures.gathered
+    c.in_ok-print_line-2.ensures.gathered) h) same)
     c.print_line-3.ensures.gathered
 
 pub returns-clause-part : goal.returns-clause-part

@@ -2,9 +2,4 @@ use Rattle.inlinable_string.proofs.Edits.{push_grows, push_str_grows, insert_gro
 use Rattle.inlinable_string.proofs.laws.runs.growths_add_their_bytes.Goals as goal
 
 pub returns : goal.returns
-returns c = record {
-  push = push_grows;
-  push_str = push_str_grows;
-  insert = insert_grows;
-  insert_str = insert_str_grows;
-}
+returns c = search (push_grows, push_str_grows, insert_grows, insert_str_grows)

@@ -19,33 +19,15 @@ returns-in_default c = search (rules, read_whole, size-chars)
 pub returns-in_err-len-2 : goal.returns-in_err-len-2
 returns-in_err-len-2 c =
     let split = c.split_invalid.ensures in
-    let text = c.split_invalid.result.0.now in
-    let on = size_on c.split_invalid.result.1 (λ l. l.now) c.loop-len.rest.now (chars text)
-    c.in-Some.left c.in-Some.is split.text in
-    let past : 2 ^ 64 ≤ size (lossy_utf8 c.args.bytes.now) =
-    omega (
-      arith,
-      c.in_err-len-2.ensures,
-      c.in_ok-len.ensures,
-      c.len_utf8.ensures.len,
-      c.loop-len.invariant,
-      size-chars text split.utf8,
-      on,
-    ) in
-    rw c.from_residual-in_err-len-2.ensures past
+    let on = size_on c.split_invalid.result.1 (λ l. l.now) c.loop-len.rest.now _ c.in-Some.left
+    c.in-Some.is split.text in
+    let text = size-chars c.split_invalid.result.0.now split.utf8 in
+    grind (arith, on, text)
 
 pub loop-len-preserved : goal.loop-len-preserved
 loop-len-preserved c =
     let split = c.split_invalid.ensures in
-    let text = c.split_invalid.result.0.now in
-    let on = size_on c.split_invalid.result.1 (λ l. l.now) c.loop-len.rest.now (chars text)
-    c.in-Some.left c.in-Some.is split.text in
-    omega (
-      arith,
-      c.in_ok-len-2.ensures,
-      c.in_ok-len.ensures,
-      c.len_utf8.ensures.len,
-      c.loop-len.invariant,
-      size-chars text split.utf8,
-      on,
-    )
+    let on = size_on c.split_invalid.result.1 (λ l. l.now) c.loop-len.rest.now _ c.in-Some.left
+    c.in-Some.is split.text in
+    let text = size-chars c.split_invalid.result.0.now split.utf8 in
+    grind (arith, on, text)

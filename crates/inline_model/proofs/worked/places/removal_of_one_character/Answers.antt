@@ -1,24 +1,14 @@
-use Rattle.std.proofs.Common.{[], ◌∷◌, refl, arith}
+use Rattle.std.proofs.Common.{[], ◌∷◌, refl, arith, rules}
 use Rattle.inline_model.proofs.Parts.{taken_second, none_at_end}
 use lib.Utf8.{encode}
 use Rattle.inline_model.proofs.worked.places.removal_of_one_character.Goals as goal
 
 pub returns-clause-met : goal.returns-clause-met
 unfolding encode
-returns-clause-met c = record {
-  front = 233 ∷ [];
-  back = [];
-  cut = record { joined = refl; before = refl };
-  joined = refl;
-}
+returns-clause-met c = record { front = 233 ∷ []; back = []; cut = search rules; joined = refl }
 
 pub returns-clause-first : goal.returns-clause-first
-returns-clause-first c = record {
-  front = [];
-  back = 98 ∷ [];
-  cut = record { joined = refl; before = refl };
-  joined = refl;
-}
+returns-clause-first c = record { front = []; back = 98 ∷ []; cut = search rules; joined = refl }
 
 pub returns-clause-other : goal.returns-clause-other
 returns-clause-other c = λ h. omega (arith, (taken_second 97 (233 ∷ []) h).0)

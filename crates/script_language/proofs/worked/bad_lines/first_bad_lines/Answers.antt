@@ -1,48 +1,23 @@
 use Rattle.std.proofs.Common.{refl, subst, arith, codes, [], ◌∷◌}
 use Rattle.inlinable_string.specs.declared.run.Command.TheVariants.{Pop, Clear}
 use Rattle.script_language.specs.Script.{LinesAskFor}
-use Rattle.script_language.proofs.BadLines.{bad_among, not_before}
+use Rattle.script_language.proofs.BadLines.{bad_among, first_bad, not_before}
 use Rattle.script_language.proofs.RefusedLines.{pop_with_a_capital, pop_with_a_space}
 use Rattle.script_language.proofs.worked.bad_lines.first_bad_lines.Goals as goal
 
 pub returns-clause-first : goal.returns-clause-first
-returns-clause-first c = record {
-  before = [];
-  line = codes "pop ";
-  behind = codes "pop" ∷ [];
-  split = refl;
-  counted = refl;
-  commands = [];
-  accepted = tt;
-  has_bytes = λ is. cc;
-  rejected = pop_with_a_space;
-}
+returns-clause-first c =
+    first_bad [] [] (codes "pop" ∷ []) (codes "pop ") tt (λ is. cc) pop_with_a_space
 
 pub returns-clause-third : goal.returns-clause-third
-returns-clause-third c = record {
-  before = codes "pop" ∷ [] ∷ [];
-  line = codes "pop ";
-  behind = codes "Pop" ∷ [];
-  split = refl;
-  counted = refl;
-  commands = Pop ∷ [];
-  accepted = ((_, refl, refl), tt);
-  has_bytes = λ is. cc;
-  rejected = pop_with_a_space;
-}
+returns-clause-third c =
+    first_bad (codes "pop" ∷ [] ∷ []) (Pop ∷ []) (codes "Pop" ∷ []) (codes "pop ")
+    ((_, refl, refl), tt) (λ is. cc) pop_with_a_space
 
 pub returns-clause-last : goal.returns-clause-last
-returns-clause-last c = record {
-  before = codes "clear" ∷ [];
-  line = codes "Pop";
-  behind = [];
-  split = refl;
-  counted = refl;
-  commands = Clear ∷ [];
-  accepted = ((_, refl, refl), tt);
-  has_bytes = λ is. cc;
-  rejected = pop_with_a_capital;
-}
+returns-clause-last c =
+    first_bad (codes "clear" ∷ []) (Clear ∷ []) [] (codes "Pop")
+    ((_, refl, refl), tt) (λ is. cc) pop_with_a_capital
 
 pub returns-clause-none : goal.returns-clause-none
 returns-clause-none c number bad =

@@ -6,19 +6,15 @@ use Rattle.script_language.proofs.worked.bad_lines.texts_of_no_character.Goals a
 
 pub returns-clause-none : goal.returns-clause-none
 unfolding chars
-returns-clause-none c x char = absurd (omega (
-  arith,
-  ap length
-      (one_character _ x char.scalar char.encoded),
-))
+returns-clause-none c x char =
+    let one = one_character _ x char.scalar char.encoded in
+    absurd (omega (arith, ap length one))
 
 pub returns-clause-two : goal.returns-clause-two
 unfolding chars
-returns-clause-two c x char = absurd (omega (
-  arith,
-  ap length
-      (one_character _ x char.scalar char.encoded),
-))
+returns-clause-two c x char =
+    let one = one_character _ x char.scalar char.encoded in
+    absurd (omega (arith, ap length one))
 
 pub returns-clause-other : goal.returns-clause-other
 unfolding encode
