@@ -1,9 +1,21 @@
 -- Texts and their bytes.
-use Rattle.inlinable_string.proofs.Common.{common_steps, ◌≡◌, ℕ, ◌+◌, ◌≤◌, true, List, [], ◌∷◌, ◌++◌, length, take, drop, refl, sym, ap, ◌∙◌, arith, subst, length-append, take-append-drop, length-take-le, append-nil, Result, Ok, Err, is_ok, if◌then◌else◌, OnOk, OnErr, IsOk, Option, Some, None, MatchOption, IfSome, IfNone, IsTrue, ◌↔◌, nat_eq, rules, nil_from_length, and_parts, eqb-true, String, string_bytes, string_len, IsUtf8-string_bytes, length-le-encodes, length-encode, len_utf8_bounds, encode_utf8, chars, all_scalars, IsUtf8, IsCharBoundary, chars-nil, encodes-chars, scalars-chars, chars-append, chars_from_encodes, encodes-append, encodes_same, IsUtf8-take, IsCharBoundary-at_seam, bytes_of, size, IsCut, IsPlace, IsSplice, IsRemoval}
+use Rattle.inlinable_string.proofs.Common.{common_steps, ◌≡◌, ℕ, ◌+◌, ◌≤◌, true, List, [], ◌∷◌, ◌++◌, length, take, drop, take_at, drop_at, insert_slice, refl, sym, ap, ◌∙◌, arith, subst, length-append, take-append-drop, length-take-le, append-nil, Result, Ok, Err, is_ok, if◌then◌else◌, OnOk, OnErr, IsOk, Option, Some, None, MatchOption, IfSome, IfNone, IsTrue, ◌↔◌, nat_eq, rules, nil_from_length, and_parts, eqb-true, ltb-true, String, string_bytes, string_len, IsUtf8-string_bytes, length-le-encodes, length-encode, len_utf8_bounds, encode_utf8, chars, chars-IsAscii, all_scalars, IsAscii, IsUtf8, IsCharBoundary, chars-nil, encodes-chars, scalars-chars, chars-append, chars_from_encodes, encodes-append, encodes_same, IsUtf8-take, IsCharBoundary-at_seam, bytes_of, size, IsCut, IsPlace, IsSplice, IsRemoval}
+use Rattle.std.proofs.lemmas.Str.Ascii.{IsAscii-nil, IsAscii-cons}
+use Rattle.std.specs.Char.{is_ascii}
+use Rattle.std.specs.List.{list_all}
 use Rattle.std.specs.String.Boundary.{IsSplitPoint}
 
 pub size-chars : (bs : List ℕ) → IsUtf8 bs → size (chars bs) ≡ length bs
 size-chars bs u = ap length (encodes-chars bs u)
+
+all_ascii : (bs : List ℕ) → list_all is_ascii bs ≡ true → IsAscii bs
+all_ascii [] h = IsAscii-nil
+all_ascii (b ∷ bs) h =
+    IsAscii-cons b bs (ltb-true _ _ (and_parts _ _ h).0) (all_ascii bs (and_parts _ _ h).1)
+
+-- bytes that are ASCII are characters
+pub ascii_chars : (bs : List ℕ) → list_all is_ascii bs ≡ true → chars bs ≡ bs
+ascii_chars bs h = chars-IsAscii bs (all_ascii bs h)
 
 pub size-append : (a b : List ℕ) → size (a ++ b) ≡ size a + size b
 size-append a b = ap length (encodes-append a b) ∙ length-append (bytes_of a) (bytes_of b)
@@ -133,10 +145,37 @@ place_behind {u = u} s = search (rules, size-append)
 pub place_left : {t v : List ℕ} {p c : ℕ} → IsRemoval t p c v → IsPlace v p
 place_left r = (r.front, r.back, record { joined = r.joined; before = r.cut.before })
 
+-- a string of ASCII is put in as it is
+pub ascii-pushed_str : (bs t v : List ℕ) → list_all is_ascii bs ≡ true → v ≡ t ++ chars bs
+    → v ≡ t ++ bs
+ascii-pushed_str bs t v a e = e ∙ ap (λ s. t ++ s) (ascii_chars bs a)
+
+pub ascii-spliced_str : {t v : List ℕ} {p : ℕ} (bs : List ℕ) → list_all is_ascii bs ≡ true
+    → IsSplice t p (chars bs) v → IsSplice t p bs v
+ascii-spliced_str {t} {v} {p} bs a s = subst (λ u. IsSplice t p u v) (ascii_chars bs a) s
+
 -- the same of a string with the bytes bs
 module _ {bs : List ℕ} (u : IsUtf8 bs) where
   pub size-pushed_str : (t v : List ℕ) → v ≡ t ++ chars bs → size v ≡ size t + length bs
   size-pushed_str t v e = rw (size-chars bs u) at (size-pushed t (chars bs) v e)
+
+  pub bytes-pushed_str : (t v : List ℕ) → v ≡ t ++ chars bs → bytes_of v ≡ bytes_of t ++ bs
+  bytes-pushed_str t v e = rw e (rw (encodes-chars bs u) at (encodes-append t (chars bs)))
+
+  pub bytes-spliced_str : {t v : List ℕ} {p : ℕ} → IsSplice t p (chars bs) v
+      → bytes_of v ≡ insert_slice (bytes_of t) p bs
+  bytes-spliced_str s =
+      let f = s.front in
+      let b = s.back in
+      let parts = ap bytes_of s.cut.joined ∙ encodes-append f b in
+      ap bytes_of s.joined ∙ encodes-append (f ++ chars bs) b
+      ∙ rw (
+        encodes-append f (chars bs),
+        encodes-chars bs u,
+        parts,
+        take_at (bytes_of f) (bytes_of b) _ s.cut.before,
+        drop_at (bytes_of f) (bytes_of b) _ s.cut.before,
+      ) refl
 
   pub size-spliced_str : {t v : List ℕ} {p : ℕ} → IsSplice t p (chars bs) v
       → size v ≡ size t + length bs

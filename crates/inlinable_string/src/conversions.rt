@@ -1,5 +1,7 @@
 //! Conversions that need no allocator, under the names that std's traits give them.
-ghost use Rattle.std.specs.Prelude.{◌≡◌, ◌≤◌, ◌<◌, [], ◌∷◌, length, MatchResult};
+ghost use Rattle.std.specs.Prelude.{◌≡◌, ◌≤◌, ◌<◌, [], ◌∷◌, length, true, MatchResult};
+ghost use Rattle.std.specs.Char.{is_ascii};
+ghost use Rattle.std.specs.List.{list_all};
 ghost use Rattle.std.specs.Str.{chars};
 ghost use Rattle.inlinable_string.specs.Text.{size};
 ghost use Rattle.inlinable_string.specs.Values.{inlinable_state};
@@ -15,7 +17,9 @@ impl<const N: usize> FromStr for InlineStringN<N> {
     type Err = NotEnoughSpaceError;
 
     ghost from_str_gives = { λ bytes result. MatchResult result
-        (λ made. (made ≡ chars bytes) × (length bytes ≤ N)) (λ _. N < length bytes) };
+        (λ made. (made ≡ chars bytes)
+        × (list_all is_ascii bytes ≡ true → made ≡ bytes) × (length bytes ≤ N))
+        (λ _. N < length bytes) };
 
     fn from_str(s: &str) -> Result<Self, NotEnoughSpaceError> {
         Self::try_from(s)
@@ -27,7 +31,8 @@ impl<const N: usize> TryFrom<&str> for InlineStringN<N> {
     type Error = NotEnoughSpaceError;
 
     ghost try_from_gives = { λ string result. MatchResult result
-        (λ made. (made ≡ chars string.now) × (length string.now ≤ N))
+        (λ made. (made ≡ chars string.now)
+        × (list_all is_ascii string.now ≡ true → made ≡ string.now) × (length string.now ≤ N))
         (λ _. N < length string.now) };
 
     fn try_from(string: &str) -> Result<Self, NotEnoughSpaceError> {

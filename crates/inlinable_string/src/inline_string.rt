@@ -4,6 +4,8 @@
 //! refused; where a longer one is to be kept, use [`crate::InlinableStringN`].
 ghost use Rattle.std.specs.Prelude.{◌≡◌, ⊤, ℕ, ◌+◌, ◌-◌, ◌≤◌, ◌<◌, ◌↔◌, List, ◌++◌, [], ◌∷◌, length, drop, replicate, encode_utf8, IsTrue, true, OnOk, OnErr, Err, Some, MatchOption, MatchResult, IsUtf8, if◌then◌else◌, codes};
 ghost use Rattle.std.specs.Bool.{OnTrue, OnFalse};
+ghost use Rattle.std.specs.Char.{is_ascii};
+ghost use Rattle.std.specs.List.{insert_slice, list_all};
 ghost use Rattle.std.specs.Str.{all_scalars, chars, IsCharBoundary};
 ghost use Rattle.inlinable_string.specs.Text.{bytes_of, size, IsCut, IsPlace, IsSplice, IsRemoval};
 
@@ -105,6 +107,8 @@ impl<const N: usize> InlineStringN<N> {
     pub fn from(string: &str) -> Self
         requires { length string.now ≤ N }
         ensures text { result ≡ chars string.now }
+        ensures bytes { bytes_of result ≡ string.now }
+        ensures ascii { list_all is_ascii string.now ≡ true → result ≡ string.now }
         ensures len { size result ≡ length string.now }
     {
         let mut text = Self::new();
@@ -177,6 +181,9 @@ impl<const N: usize> InlineStringN<N> {
             (λ _. size self.old + length string.now ≤ N)
             (λ _. N < size self.old + length string.now) }
         ensures ok { OnOk result (self.new ≡ self.old ++ chars string.now) }
+        ensures bytes { OnOk result (bytes_of self.new ≡ bytes_of self.old ++ string.now) }
+        ensures ascii { list_all is_ascii string.now ≡ true
+            → OnOk result (self.new ≡ self.old ++ string.now) }
         ensures len { OnOk result (size self.new ≡ size self.old + length string.now) }
         ensures err { OnErr result (self.new ≡ self.old) }
     {
@@ -238,6 +245,10 @@ impl<const N: usize> InlineStringN<N> {
             (λ _. size self.old + length string.now ≤ N)
             (λ _. N < size self.old + length string.now) }
         ensures ok { OnOk result (IsSplice self.old idx (chars string.now) self.new) }
+        ensures bytes { OnOk result
+            (bytes_of self.new ≡ insert_slice (bytes_of self.old) idx string.now) }
+        ensures ascii { list_all is_ascii string.now ≡ true
+            → OnOk result (IsSplice self.old idx string.now self.new) }
         ensures len { OnOk result (size self.new ≡ size self.old + length string.now) }
         ensures err { OnErr result (self.new ≡ self.old) }
 

@@ -1,8 +1,11 @@
 //! Texts that lie inline where they fit, and texts that take over what lies on the heap.
-ghost use Rattle.std.specs.Prelude.{◌≡◌, ◌≤◌, [], length, IfOk, IsOk};
+ghost use Rattle.std.specs.Prelude.{◌≡◌, ◌≤◌, [], length, true, IfOk, IsOk};
+ghost use Rattle.std.specs.Char.{is_ascii};
+ghost use Rattle.std.specs.List.{list_all};
 ghost use Rattle.std.specs.Str.{chars};
 ghost use Rattle.std.specs.String.{string_bytes, string_capacity};
 ghost use Rattle.inlinable_string.specs.State.{storage_when_made};
+ghost use Rattle.inlinable_string.specs.Text.{bytes_of};
 ghost use Rattle.inlinable_string.specs.Values.{inlinable_policy, inlinable_state};
 
 use super::InlinableStringN;
@@ -18,6 +21,9 @@ impl<const N: usize> InlinableStringN<N> {
     #[inline]
     pub fn from(alloc: Global, string: &str) -> Result<Self, AllocError>
         ensures text { IfOk result (λ made. (inlinable_state N made).text ≡ chars string.now) }
+        ensures bytes { IfOk result (λ made. bytes_of (inlinable_state N made).text ≡ string.now) }
+        ensures ascii { list_all is_ascii string.now ≡ true
+            → IfOk result (λ made. (inlinable_state N made).text ≡ string.now) }
         ensures storage { IfOk result (λ made. (inlinable_state N made).storage
             ≡ storage_when_made (inlinable_policy N) (length string.now)) }
         ensures policy { IfOk result
@@ -38,6 +44,9 @@ impl<const N: usize> InlinableStringN<N> {
     #[inline]
     pub fn from_str(alloc: Global, s: &str) -> Result<Self, AllocError>
         ensures text { IfOk result (λ made. (inlinable_state N made).text ≡ chars s.now) }
+        ensures bytes { IfOk result (λ made. bytes_of (inlinable_state N made).text ≡ s.now) }
+        ensures ascii { list_all is_ascii s.now ≡ true
+            → IfOk result (λ made. (inlinable_state N made).text ≡ s.now) }
         ensures storage { IfOk result (λ made. (inlinable_state N made).storage
             ≡ storage_when_made (inlinable_policy N) (length s.now)) }
         ensures policy { IfOk result

@@ -1,7 +1,9 @@
 //! A text in an array in the place of a `str`: `DerefStr` lends it to each call of `str`, `AsStr`
 //! and `AsSlice` to generic code; a `for` goes over its characters.
-ghost use Rattle.std.specs.Prelude.{◌≡◌, ◌+◌, ◌≤◌, ◌++◌, length};
+ghost use Rattle.std.specs.Prelude.{◌≡◌, ◌+◌, ◌≤◌, ◌++◌, length, true};
+ghost use Rattle.std.specs.Char.{is_ascii};
 ghost use Rattle.std.specs.Iterator.Runs.{EveryRun, ItemsAreChars};
+ghost use Rattle.std.specs.List.{list_all};
 ghost use Rattle.std.specs.Str.{chars};
 ghost use Rattle.std.specs.Str.Iter.{chars_rest, chars_steps};
 ghost use Rattle.inlinable_string.specs.Text.{bytes_of, size};
@@ -52,7 +54,8 @@ impl<'a, const N: usize> IntoIterator for &'a InlineStringN<N> {
 impl<const N: usize> AddAssign<&str> for InlineStringN<N> {
     ghost can_add_assign = { λ s added. size s + length added.now ≤ N };
 
-    ghost add_assign_gives = { λ s added t. t ≡ s ++ chars added.now };
+    ghost add_assign_gives = { λ s added t. (t ≡ s ++ chars added.now)
+        × (list_all is_ascii added.now ≡ true → t ≡ s ++ added.now) };
 
     fn add_assign(&mut self, rhs: &str) {
         let _ = self.push_str(rhs);

@@ -1,5 +1,5 @@
 use Rattle.std.proofs.Common.{◌∙◌, arith}
-use Rattle.inlinable_string.proofs.Text.{holds_chars, size_of, size-pushed_str}
+use Rattle.inlinable_string.proofs.Text.{holds_chars, size_of, size-pushed_str, bytes-pushed_str, ascii-pushed_str}
 use Rattle.inlinable_string.proofs.Window.{held, pushed, inserted_last, window_extended}
 use Rattle.inlinable_string.proofs.inline_string.InlineStringN.push_str.Goals as goal
 
@@ -23,6 +23,8 @@ returns-then-string-end g c =
     record {
       fits = omega (arith, size_of h);
       ok = ok;
+      bytes = bytes-pushed_str c.utf8.string _ _ ok;
+      ascii = λ a. ascii-pushed_str _ _ _ a ok;
       len = size-pushed_str c.utf8.string _ _ ok;
       err = tt;
     }
@@ -45,6 +47,8 @@ returns g c =
     record {
       fits = omega (arith, size_of h);
       ok = ok;
+      bytes = bytes-pushed_str c.utf8.string _ _ ok;
+      ascii = λ a. ascii-pushed_str _ _ _ a ok;
       len = size-pushed_str c.utf8.string _ _ ok;
       err = tt;
     }
