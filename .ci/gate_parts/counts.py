@@ -1,32 +1,39 @@
 """gate counts: prints how long the tree is, and finds what is too long or is cited and not there.
 
-It prints the lines by kind, and the `unsafe` blocks. A line, a file or a proof that is too long fails, and
-so does a path, a function or another name that a document has in backticks and the tree does not have.
-The first program of the README has to be that of the crate `tour`, which `rt ci` proves and runs.
+It prints the lines by kind, and the `unsafe` blocks. A line of a crate has at most 100 columns, unless it
+imports; a file at most 500 lines; a proof, which is a lemma with its type or an answer to a goal, at most 30
+lines, comments aside. Each path, function or other name that a document has in backticks is in the tree. The
+first program of the README has to be that of the crate `tour`, which `rt ci` proves and runs.
 """
 import os
 import re
 from collections import Counter
 
 from floors import CITED, PROOFS
-from gate_parts import shapes
 from gate_parts.options import options
 from gate_parts.tree import TOP, Failure, text_of
 
 LIBRARY = 'inlinable_string'
+COLUMNS, FILE_LINES, PROOF_LINES = 100, 500, 30
 # Folders that no commit has.
 MADE = ('.git', 'out', '__pycache__')
 EDIT_FOLDERS = ('must-fail', 'must-fail-together', 'wrong-definitions', 'wrong-clauses')
+# Files that `rt` checks, and files that a reader reads: stored answers and inputs are none.
+CHECKED, SOURCES = ('.rt', '.antt'), ('.rt', '.antt', '.py', '.rs', '.cpp')
+READ = (*SOURCES, '.edits', '.md')
 TEST_MODULE = re.compile(r'^#\[cfg\(test\)\]\n *mod (\w+);', re.MULTILINE)
 UNSAFE = re.compile(r'^(?! *//).*\bunsafe \{', re.MULTILINE)
+IMPORT = re.compile(r' *(pub )?(ghost )?use ')
+# The name of a declaration, after what may stand before one.
+DECLARED = re.compile(r' *(?:(?:pub|abbrev|record) )*([^\s:({]+)')
 # What stands between backticks, outside of a fence of code.
 FENCE = re.compile(r'^```.*?^```', re.MULTILINE | re.DOTALL)
 SPAN = re.compile(r'`([^`\n]+)`')
 PATH = re.compile(r'[\w.+-]*/[\w./+-]*|[\w+-]+\.(?:rt|antt|py|rs|cpp|md|edits|cases|svg|txt)')
 NAME = re.compile(r'[a-z]\w*_\w*|\w+(?:::\w+)+')
 # What begins so is std's or the kit's, or is made by a run.
-FOREIGN = re.compile(r'(std|str|String|char|usize|mem|fmt|arrayvec|smallvec)::|rattle|out/|crates/NAME|/|.*/out$')
-SOURCES = ('.rt', '.antt', '.py', '.rs', '.cpp')
+FOREIGN = re.compile(
+    r'(std|str|String|char|usize|mem|fmt|arrayvec|smallvec)::|rattle|out/|crates/NAME|/|.*/out$')
 
 
 def texts_by_path():
@@ -43,12 +50,11 @@ def texts_by_path():
 
 def test_paths(texts):
     """The paths, without their endings, of the modules that are there for tests alone."""
-    found = set()
-    for path in (path for path in texts if path.endswith('.rt')):
-        stem = os.path.splitext(path)[0]
+    for path, text in texts.items():
+        stem, ending = os.path.splitext(path)
         inside = os.path.dirname(path) if os.path.basename(stem) in ('lib', 'main') else stem
-        found |= {f'{inside}/{module}' for module in TEST_MODULE.findall(texts[path])}
-    return found
+        for module in TEST_MODULE.findall(text) if ending == '.rt' else ():
+            yield f'{inside}/{module}'
 
 
 def kind_of(path, tests):
@@ -60,7 +66,7 @@ def kind_of(path, tests):
         return parts[0] if parts[0] in ('.ci', 'replay', 'bench') else 'the rest'
     if parts[2] in EDIT_FOLDERS:
         return 'edits'
-    if parts[1] == 'test_support' or any(stem == test or stem.startswith(test + '/') for test in tests):
+    if parts[1] == 'test_support' or any(f'{stem}/'.startswith(f'{test}/') for test in tests):
         return 'tests'
     if parts[2] in ('src', 'specs', 'proofs'):
         return f'{"library" if parts[1] == LIBRARY else "other crates"}: {parts[2]}'
@@ -69,15 +75,53 @@ def kind_of(path, tests):
 
 def print_lines(texts):
     """Prints the lines of the tree by kind, and how many `unsafe` blocks there are."""
-    tests, lines = test_paths(texts), Counter()
+    tests, lines, unsafe = set(test_paths(texts)), Counter(), Counter()
     for path, text in texts.items():
         lines[kind_of(path, tests)] += text.count('\n')
+        if path.endswith('.rt'):
+            unsafe[path.split('/')[1] == LIBRARY] += len(UNSAFE.findall(text))
     for kind in sorted(lines):
         print(f'{lines[kind]:>8,}  {kind}')
     print(f'{sum(lines.values()):>8,}  the whole tree')
-    unsafe = Counter(path.split('/')[1] == LIBRARY for path, text in texts.items()
-                     if path.endswith('.rt') for _ in UNSAFE.finditer(text))
     print(f'{unsafe[True]:>8,}  unsafe blocks of the library, and {unsafe[False]} of other crates')
+
+
+def indent_of(line):
+    return len(line) - len(line.lstrip())
+
+
+def proofs_in(text):
+    """The name of each declaration of a file of proofs, those in its modules too, and its number of lines."""
+    level, name, count = 0, None, 0
+    for line in text.splitlines():
+        if not line.strip() or line.lstrip().startswith('--') or IMPORT.match(line):
+            continue
+        level = min(level, indent_of(line))
+        begins = indent_of(line) == level and line[level] not in ')]}'
+        if begins and DECLARED.match(line)[1] != name:
+            if name:
+                yield name, count
+            name, count = DECLARED.match(line)[1], 0
+        count += 1
+        if name == 'module' and line.endswith(' where'):
+            level, name = level + 2, None
+    if name:
+        yield name, count
+
+
+def too_long(texts):
+    """How many proofs there are, and in words what is too long in these files of the tree."""
+    proofs = [(path, *proof) for path, text in texts.items() if path.endswith('.antt')
+              for proof in proofs_in(text)]
+    wrong = [f'{path}: {name} has {count} lines, and may have {PROOF_LINES}'
+             for path, name, count in proofs if count > PROOF_LINES]
+    wrong += [f'{path}: the file has more than {FILE_LINES} lines' for path, text in texts.items()
+              if path.endswith(READ) and text.count('\n') > FILE_LINES]
+    wrong += [f'{path}:{number}: the line has more than {COLUMNS} columns'
+              for path, text in texts.items() if path.endswith(CHECKED)
+              for number, line in enumerate(text.splitlines(), 1)
+              if len(line) > COLUMNS and not IMPORT.match(line)]
+    return len(proofs), wrong
 
 
 # What the documents cite.
@@ -96,11 +140,11 @@ def is_path(word, document, texts):
     return any(f'/{word}/' in f'/{path}/' or f'/{word}.' in f'/{path}' or path == near for path in texts)
 
 
-def is_item(word, texts, words):
+def is_item(word, sources, words):
     """Whether a source has the name, and if modules are named with it, a file of the last that has files."""
     *modules, name = word.split('::')
     for module in reversed([each for each in modules if each.islower()]):
-        homes = [text for path, text in texts.items() if module in re.split('[/.]', path)]
+        homes = [text for path, text in sources.items() if module in re.split('[/.]', path)]
         if homes:
             return any(re.search(rf'\b{name}\b', text) for text in homes)
     return name in words and (not modules or modules[-1] in words)
@@ -109,28 +153,25 @@ def is_item(word, texts, words):
 def missing(texts):
     """How many names and paths the documents cite, and in words each that the tree does not have."""
     sources = {path: text for path, text in texts.items() if path.endswith(SOURCES)}
-    edits = [text for path, text in texts.items() if path.endswith('.edits')]
-    words = set(re.findall(r'\w+', ' '.join([*sources.values(), *edits, *map(os.path.dirname, texts)])))
+    told = [text for path, text in texts.items() if path.endswith((*SOURCES, '.edits'))]
+    words = set(re.findall(r'\w+', ' '.join([*told, *map(os.path.dirname, texts)])))
     words |= {os.path.splitext(os.path.basename(path))[0] for path in texts}
     # (`gate edits` reads those of must-fail/: functions and goals)
-    documents = [path for path in texts if path.endswith('.md') and '/must-fail/' not in path]
-    cited = [(document, word) for document in documents for word in cited_in(texts[document])]
-    wrong = [f'{document}: there is no {word}' for document, word in cited
-             if not (is_path(word, document, texts) if '::' not in word and PATH.fullmatch(word)
-                     else is_item(word, sources, words))]
-    return len(cited), wrong
+    cited = [(path, word) for path, text in texts.items()
+             if path.endswith('.md') and '/must-fail/' not in path for word in cited_in(text)]
+    return len(cited), [f'{document}: there is no {word}' for document, word in cited if not (
+        is_path(word, document, texts) if PATH.fullmatch(word) else is_item(word, sources, words))]
 
 
 def main(words):
     options('counts', __doc__, words)
     texts = texts_by_path()
     print_lines(texts)
-    proofs = sum(bool(name) for path, text in texts.items() if path.endswith('.antt')
-                 for name, _ in shapes.proofs_in(text))
-    cited, wrong = missing(texts)
+    (proofs, wrong), (cited, absent) = too_long(texts), missing(texts)
     if proofs < PROOFS or cited < CITED:
-        raise Failure(f'{proofs} proofs were looked at, and must be {PROOFS}; {cited} names, and must be {CITED}')
-    wrong += shapes.too_long(texts)
+        raise Failure(f'{proofs} proofs were looked at, and must be {PROOFS}; '
+                      f'{cited} names, and must be {CITED}')
+    wrong += absent
     if f'```rust\n{texts["crates/tour/src/main.rt"]}```\n' not in texts['README.md']:
         wrong.append('README.md: it does not have the program of crates/tour')
     print(*wrong, f'{proofs} proofs and {cited} names were looked at, {len(wrong)} faults', sep='\n')

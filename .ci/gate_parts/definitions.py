@@ -5,7 +5,7 @@ They stand in `wrong-definitions`. With --named only those are tried whose name 
 A wrong definition changes a file of `specs/`, and a law or a worked row must refuse it: a function that
 does nothing, of the same crate or of one above, named with a goal that must stay open. Each is tried
 over copies: the changed file and what stands on it, with a copy of the row that cites them
-(`row_copies.py`). So one check tries many, and none reaches what another changes. First each row must
+(`row_copies.py`). So one check tries many, and none reaches what another changes. Each row must also
 be proved in that form over copies of all definitions as they are.
 
 Where the row reaches no changed file by its own words (it names an `impl`, or is no row), the change is
@@ -16,9 +16,6 @@ formed, nor where a name has gone: either would refuse whatever stands on it, tr
 """
 import os
 import re
-from concurrent.futures import ThreadPoolExecutor
-from functools import partial
-from queue import SimpleQueue
 from time import monotonic
 from typing import NamedTuple, Optional, Set
 
@@ -26,7 +23,7 @@ from floors import WRONG_DEFINITIONS
 from gate_parts.edit_files import Edit, edits_of, texts_with
 from gate_parts.edits import listed
 from gate_parts.options import options
-from gate_parts.rooms import changed, copies, require_proof
+from gate_parts.rooms import Room, require_proof, said_of, tried_in_copies
 from gate_parts.row_copies import File, Files, Row, add_files, add_row, row_of
 from gate_parts.said import ill_formed, is_proved, open_goals
 from gate_parts.tree import TOP, Failure, crate_folder, crates_with, with_those_below
@@ -39,7 +36,7 @@ COPY = re.compile(r'/(?:E(\d+)[A-Z]|r(\d+)\b)')
 
 
 class Trial(NamedTuple):
-    """A wrong definition, and a function that must refuse it: with the row and the files to copy, or in place."""
+    """A wrong definition, and a function that must refuse it: with a row and files to copy, or in place."""
     edit: Edit
     function: str
     row: Optional[Row]
@@ -47,26 +44,22 @@ class Trial(NamedTuple):
 
 
 def wrong_definitions(crate):
-    """The edits of the crate, as many as are said; each changes a definition."""
+    """The edits of the crate, as many as are said; each changes definitions alone."""
     edits = edits_of(os.path.join(crate_folder(crate), FOLDER), crate)
-    if len(edits) != WRONG_DEFINITIONS.get(crate, 0):
-        raise Failure(f'{crate} has {len(edits)} wrong definitions, and floors.py says '
-                      f'{WRONG_DEFINITIONS.get(crate, 0)}')
+    said = WRONG_DEFINITIONS.get(crate, 0)
+    if len(edits) != said:
+        raise Failure(f'{crate} has {len(edits)} wrong definitions, and floors.py says {said}')
     for edit in edits:
-        require_definition(crate, edit)
+        if any(not change.path.startswith('specs/') for change in edit.changes):
+            raise Failure(f'{crate}: {edit.name} must change files of specs/, and no others')
         texts_with(crate_folder(crate), [edit])
     return edits
 
 
-def require_definition(crate, edit):
-    """The edit changes files of specs/, and no others."""
-    if any(not change.path.startswith('specs/') for change in edit.changes):
-        raise Failure(f'{crate}: {edit.name} must change files of specs/, and no others')
-
-
 def trials_of(library, files, edit):
     """How the edit is tried at each function that it names of the crate of these files."""
-    changed = {File(library, 'specs', os.path.basename(change.path)[:-len('.antt')]) for change in edit.changes}
+    changed = {File(library, 'specs', os.path.basename(change.path)[:-len('.antt')])
+               for change in edit.changes}
     for crate, function in sorted(edit.functions()):
         if crate == files.crate:
             row = row_of(crate, function)
@@ -76,18 +69,20 @@ def trials_of(library, files, edit):
             yield Trial(edit, function, *((row, copied) if changed <= copied else (None, set())))
 
 
-def require_rows(place, files, trials, jobs):
+def require_rows(top, files, trials):
     """Each named function is proved as things are, in the form in which it will be tried."""
     rows = {trial.function: trial.row for trial in trials}
     copied = [row for row in rows.values() if row]
-    with changed(place, files.crate) as room:
+    with Room(top, files.crate) as room:
         add_files(room, files, 0, set(files.texts), {})
-        named = {add_row(room, files, row, at, 0, set(files.texts)): row.function for at, row in enumerate(copied)}
+        named = {add_row(room, files, row, at, 0, set(files.texts)): row.function
+                 for at, row in enumerate(copied)}
         named.update({function: function for function, row in rows.items() if not row})
-        said = room.said(jobs, named)
+        said, _ = said_of(top, files.crate, 1, named)
     for copy, function in named.items():
         if not is_proved(files.crate, copy, said):
             raise Failure(f'{files.crate}/{function} is not proved as it is:\n{said}')
+    return set()
 
 
 def added(room, files, number, trial):
@@ -100,10 +95,10 @@ def added(room, files, number, trial):
     return add_row(room, files, trial.row, number, number, trial.copied)
 
 
-def breach(crate, trial, name, said, number=None):
-    """In words, what is not as the edit says; None where the function, or its copy of this name, is refused
+def breach(crate, trial, name, said, number):
+    """In words, what is not as the edit says; None where the function, or its copy of this number, is refused
     by each goal."""
-    bad = [line for line in ill_formed(said) if number is None or number_in(line) in (None, number)]
+    bad = [line for line in ill_formed(said) if not trial.row or number_in(line) in (None, number)]
     if bad:
         return f'the definition is not well formed, or a name has gone: {bad[0]}'
     left = open_goals(crate, name, said)
@@ -119,22 +114,19 @@ def number_in(error):
     return int(found[1] or found[2]) if found else None
 
 
-def tried(rooms, library, files, trials):
+def tried(top, files, trials):
     """The names of the edits that are not refused as they say; prints how they went."""
-    place, start = rooms.get(), monotonic()
-    try:
-        with changed(place, files.crate) as room:
-            names = [added(room, files, number, trial) for number, trial in enumerate(trials)]
-            said = room.said(1, names)
-    finally:
-        rooms.put(place)
-    found = [breach(files.crate, trial, name, said, number if trial.row else None)
+    start = monotonic()
+    with Room(top, files.crate) as room:
+        names = [added(room, files, number, trial) for number, trial in enumerate(trials)]
+        said, _ = said_of(top, files.crate, 1, names)
+    found = [(trial.edit.name, breach(files.crate, trial, name, said, number))
              for number, (trial, name) in enumerate(zip(trials, names))]
-    refused = [trial.edit.name for trial, wrong in zip(trials, found) if not wrong]
-    print(f'{library}: refused by {files.crate}, {len(refused)} after {monotonic() - start:.0f} s: {listed(refused)}',
-          *(f'{library}: NOT AS IT MUST BE: {trial.edit.name}: {wrong}'
-            for trial, wrong in zip(trials, found) if wrong), *([said] if any(found) else []), sep='\n', flush=True)
-    return {trial.edit.name for trial, wrong in zip(trials, found) if wrong}
+    refused = [name for name, wrong in found if not wrong]
+    wrong = [f'{files.library}: NOT AS IT MUST BE: {name}: {wrong}' for name, wrong in found if wrong]
+    print(f'{files.library}: refused by {files.crate}, {len(refused)} after {monotonic() - start:.0f} s: '
+          f'{listed(refused)}', *wrong, *[said] * bool(wrong), sep='\n', flush=True)
+    return {name for name, wrong in found if wrong}
 
 
 def batches(trials):
@@ -149,18 +141,13 @@ def tried_all(library, edits, jobs):
     crates = sorted({crate for edit in edits for crate, _ in edit.functions()})
     trials = {files: [trial for edit in edits for trial in trials_of(library, files, edit)]
               for files in (Files(library, crate) for crate in crates)}
-    tasks = [(files, batch) for files, own in trials.items() for batch in batches(own)]
-    print(f'{library}: {len(edits)} wrong definitions in {len(tasks)} checks', flush=True)
+    tasks = [(require_rows, files, own) for files, own in trials.items()]
+    tasks += [(tried, files, batch) for files, own in trials.items() for batch in batches(own)]
+    print(f'{library}: {len(edits)} wrong definitions in {len(tasks) - len(trials)} checks', flush=True)
     for below in sorted(set().union(*(with_those_below([crate]) - {crate} for crate in crates))):
         require_proof(TOP, below, jobs)
-    rooms = SimpleQueue()
-    with copies([library, *crates], min(jobs, len(tasks))) as places:
-        for files, own in trials.items():
-            require_rows(places[0], files, own, jobs)
-        for place in places:
-            rooms.put(place)
-        with ThreadPoolExecutor(len(places)) as pool:
-            return set().union(*pool.map(lambda task: tried(rooms, library, *task), tasks))
+    wrong = tried_in_copies([library, *crates], jobs, lambda top, task: task[0](top, *task[1:]), tasks)
+    return set().union(*wrong)
 
 
 def main(words):

@@ -1,30 +1,19 @@
 """Edits: wrong code, wrong definitions or weaker clauses, and the goals that refuse them.
 
-A file of the ending `.edits` has many, parted by empty lines:
-
-    edit as_bytes_ignores_the_start
-    refused: inline_string::InlineStringN::as_bytes returns-clause-value
-    file: src/inline_string.rt
-    old: TEXT
-    new: TEXT
-
-`refused:` names a function, as its path below its crate, and a goal of it that must stay open. A
-function of another crate stands behind that crate's name: `callers/room_left returns`. Each `old:`
-stands just once in the file named before it, and `new:` comes in its place. Where a text stands there
-more often, a line `after: TEXT` before `old:` has a text that stands once, and the first behind it is
-meant. There may be several of each of these lines. A line that begins with `#` says nothing.
-
-A line `touches: NAME ..` names what else a change breaks, where that is no function's body: those
-whose text has one of these names.
+docs/TESTING.md has the form of a file of edits. A line `touches: NAME ..` names what else a change breaks,
+where that is no function's body: those functions whose text has one of these names.
 """
 import os
 import re
-from collections import Counter
+from collections import Counter, defaultdict
 from typing import List, NamedTuple, Tuple
 
 from gate_parts.tree import Failure, text_of
 
 ENDING = '.edits'
+CHANGE = r'(?:file: (.+)\n)?(?:after: (.+)\n)?old: (.+)\nnew:(?: (.*))?\n'
+EDIT = re.compile(
+    rf'edit (\S+)\n((?:refused: \S+ \S+\n)+)((?:touches: .+\n)*)((?=file: )(?:{CHANGE})+)')
 
 
 class Goal(NamedTuple):
@@ -56,76 +45,45 @@ class Edit(NamedTuple):
 
 
 def edits_of(folder, crate, named=None):
-    """The edits in all files of a folder of the crate, by file; with `named`, all name functions of that one."""
-    edits = [edit for path in edit_files(folder) for edit in read_edits(path, crate)]
-    refuse_repetitions(folder, edits)
-    for edit in edits:
-        for goal in edit.goals:
-            if named not in (None, goal.crate):
-                raise Failure(f'{crate}: {edit.name} names {goal}, which is not of {named}')
-    return edits
-
-
-def edit_files(folder):
-    """The files of edits in a folder and in those below it, in order; other files are refused."""
-    paths = sorted(os.path.join(place, name)
-                   for place, _, names in os.walk(folder) for name in names)
+    """The edits in all files of a folder of the crate; with `named`, they name functions of that one."""
+    paths = sorted(os.path.join(place, name) for place, _, names in os.walk(folder) for name in names)
     for path in paths:
         if not path.endswith(ENDING):
             raise Failure(f'{path}: a file of edits ends in {ENDING}')
-    return paths
+    edits = [edit for path in paths for edit in read_edits(path, crate)]
+    refuse_repetitions(folder, edits)
+    for goal in (goal for edit in edits for goal in edit.goals):
+        if named not in (None, goal.crate):
+            raise Failure(f'{folder}: {goal} is named, which is not of {named}')
+    return edits
 
 
 def refuse_repetitions(folder, edits):
     """No name stands twice, and no change under two names: it would be counted twice."""
-    for name, count in Counter(edit.name for edit in edits).items():
-        if count > 1:
-            raise Failure(f'{folder}: {count} edits have the name {name}')
-    named = {}
-    for edit in edits:
-        other = named.setdefault(tuple(edit.changes), edit.name)
-        if other != edit.name:
-            raise Failure(f'{folder}: {edit.name} changes just what {other} changes')
+    for told in ([edit.name for edit in edits], [tuple(edit.changes) for edit in edits]):
+        for what, count in Counter(told).items():
+            if count > 1:
+                raise Failure(f'{folder}: {count} edits have the name, or change, {what}')
 
 
 def read_edits(path, crate):
     """The edits of a file, whose functions are of this crate where they don't name another."""
-    lines = '\n'.join(line for line in text_of(path).split('\n') if not line.startswith('#'))
-    return [read_edit(path, crate, block.strip('\n').split('\n'))
-            for block in re.split(r'\n{2,}', lines) if block.strip('\n')]
+    text = re.sub('^#.*\n', '', text_of(path), flags=re.MULTILINE)
+    return [read_edit(path, crate, block + '\n') for block in re.split('\n{2,}', text.strip('\n'))]
 
 
-def read_edit(path, crate, lines):
-    """The edit that is told by these lines."""
-    name = re.fullmatch(r'edit (\S+)', lines[0])
-    if not name:
-        raise Failure(f'{path}: an edit begins with a line `edit NAME`, not with this: {lines[0]}')
-    goals, changes, touches, file, after, old = [], [], (), None, '', None
-    for line in lines[1:]:
-        word, _, rest = line.partition(':')
-        rest = rest[1:] if rest.startswith(' ') else rest
-        if word == 'new' and old is not None:
-            changes.append(Change(file, old, rest, after))
-            after, old = '', None
-        elif not rest or old is not None:
-            raise Failure(f'{path}: {name[1]}: this line cannot be read: {line}')
-        elif word == 'refused' and len(rest.split()) == 2:
-            goals.append(goal_of(crate, *rest.split()))
-        elif word == 'touches':
-            touches += tuple(rest.split())
-        elif word == 'file':
-            file = rest
-        elif word == 'after' and file and not after:
-            after = rest
-        elif word == 'old' and file:
-            old = rest
-        else:
-            raise Failure(f'{path}: {name[1]}: this line cannot be read: {line}')
-    if not goals or len(set(goals)) < len(goals):
-        raise Failure(f'{path}: {name[1]} has no line `refused:`, or one twice')
-    if not changes or after or old is not None:
-        raise Failure(f'{path}: {name[1]} lacks a pair of `old:` and `new:`')
-    return Edit(name[1], goals, changes, touches)
+def read_edit(path, crate, text):
+    found = EDIT.fullmatch(text)
+    if not found:
+        raise Failure(f'{path}: this is no edit: {text}')
+    goals = [goal_of(crate, *line.split()[1:]) for line in found[2].splitlines()]
+    if len(set(goals)) < len(goals):
+        raise Failure(f'{path}: {found[1]} names a goal twice')
+    changes, file = [], ''
+    for own, after, old, new in re.findall(CHANGE, found[4]):
+        file = own or file
+        changes.append(Change(file, old, new, after))
+    return Edit(found[1], goals, changes, tuple(found[3].replace('touches:', '').split()))
 
 
 def goal_of(crate, function, name):
@@ -135,28 +93,30 @@ def goal_of(crate, function, name):
 
 def texts_with(folder, edits):
     """The text of each file below the folder that the edits change, as they make it."""
-    texts, places = {}, {}
-    for edit in edits:
-        for change in edit.changes:
-            if change.path not in texts:
-                texts[change.path] = source_text(folder, edit, change.path)
-            start = only_place(edit, change, texts[change.path])
-            places.setdefault(change.path, []).append((start, start + len(change.old), change.new))
-    return {path: changed(path, text, sorted(places[path])) for path, text in texts.items()}
-
-
-def source_text(folder, edit, path):
-    try:
-        return text_of(os.path.join(folder, path))
-    except OSError as error:
-        raise Failure(f'{edit.name}: {path} cannot be read: {error.strerror}')
+    texts, changes = {}, defaultdict(list)
+    for edit, change in ((edit, change) for edit in edits for change in edit.changes):
+        try:
+            text = texts.setdefault(change.path, text_of(os.path.join(folder, change.path)))
+        except OSError as error:
+            raise Failure(f'{edit.name}: {change.path} cannot be read: {error.strerror}')
+        changes[change.path].append((only_place(edit, change, text), change))
+    for path, own in changes.items():
+        before = len(texts[path])
+        # from the end on, so that each place stays where it was
+        for place, change in sorted(own, reverse=True):
+            end = place + len(change.old)
+            if end > before:
+                raise Failure(f'{path}: two edits that go together change this: {change.old}')
+            texts[path] = texts[path][:place] + change.new + texts[path][end:]
+            before = place
+    return texts
 
 
 def only_place(edit, change, text):
     """Where the old text stands, of which there must be no doubt."""
     known = change.after or change.old
     if text.count(known) != 1:
-        raise Failure(f'{edit.name}: this is {text.count(known)} times in {change.path}, and not once: {known}')
+        raise Failure(f'{edit.name}: this is {text.count(known)} times in {change.path}, not once: {known}')
     place = place_of(change, text)
     if place < 0:
         raise Failure(f'{edit.name}: in {change.path} this is not after {change.after}: {change.old}')
@@ -166,14 +126,3 @@ def only_place(edit, change, text):
 def place_of(change, text):
     """Where the old text stands in the text of its file."""
     return text.find(change.old, text.index(change.after) + len(change.after))
-
-
-def changed(path, text, places):
-    """The text with other texts at these places, which are in order and must not overlap."""
-    parts, end = [], 0
-    for start, stop, new in places:
-        if start < end:
-            raise Failure(f'{path}: two edits that go together change this: {text[start:end]}')
-        parts += [text[end:start], new]
-        end = stop
-    return ''.join([*parts, text[end:]])

@@ -24,16 +24,13 @@ def must_fail_edits(crate):
         return []
     rows = ROW.findall(text_of(os.path.join(folder, 'README.md')))
     names = sorted(name[:-len(ENDING)] for name in os.listdir(folder) if name.endswith(ENDING))
-    listed = sorted(name for name, _ in rows)
-    if listed != names:
-        odd = sorted(set(listed) ^ set(names)) or [name for name in names if listed.count(name) > 1]
-        raise Failure(f'{crate}: must-fail/ and the table of its README differ: {", ".join(odd)}')
-    return [edit_of(crate, folder, *row) for row in rows]
+    if sorted(name for name, _ in rows) != names:
+        odd = sorted({name for name, _ in rows} ^ set(names)) or 'a row stands twice'
+        raise Failure(f'{crate}: must-fail/ and the table of its README differ: {odd}')
+    return [edit_of(crate, os.path.join(folder, name + ENDING), name, refused) for name, refused in rows]
 
 
-def edit_of(crate, folder, name, refused):
-    path = os.path.join(folder, name + ENDING)
-    lines = [f'edit {name}']
-    lines += [f'refused: {function} {goal}' for function, goal in REFUSAL.findall(refused)]
-    lines += [f'touches: {word}' for word in TOUCHED.findall(refused)]
-    return read_edit(path, crate, lines + [line for line in text_of(path).split('\n') if line])
+def edit_of(crate, path, name, refused):
+    lines = [f'edit {name}', *(f'refused: {function} {goal}' for function, goal in REFUSAL.findall(refused)),
+             *(f'touches: {word}' for word in TOUCHED.findall(refused))]
+    return read_edit(path, crate, '\n'.join([*lines, *filter(None, text_of(path).split('\n'))]) + '\n')

@@ -8,9 +8,9 @@ a library below stay as they are.
 """
 import os
 import re
-from typing import Dict, NamedTuple, Set
+from typing import NamedTuple
 
-from gate_parts.tree import Failure, crate_folder, text_of
+from gate_parts.tree import crate_folder, text_of
 
 # A file of definitions or of lemmas, as they and the sources name it.
 NAMED = re.compile(r'\b(?:Rattle\.(\w+)\.(specs|proofs)\.|crate::(proofs)::)(\w+)\b')
@@ -41,35 +41,26 @@ class Files:
     """The definitions of a library and of the crate that has the rows, and the lemmas of that crate."""
 
     def __init__(self, library, crate):
-        self.library, self.crate = library, crate
-        self.texts: Dict[File, str] = {}
+        self.library, self.crate, self.texts = library, crate, {}
         for name, folder in {(library, 'specs'), (crate, 'specs'), (crate, 'proofs')}:
             place = os.path.join(crate_folder(name), folder)
-            for file in os.listdir(place) if os.path.isdir(place) else ():
-                if file.endswith('.antt') and file != 'Lib.antt':
-                    text = text_of(os.path.join(place, file))
-                    self.texts[File(name, folder, file[:-len('.antt')])] = text
-        names = [(file.folder, file.name) for file in self.texts]
-        if len(set(names)) < len(names):
-            raise Failure(f'{crate} and {library} have files of the same name in specs/')
-
-    def named_in(self, text) -> Set[File]:
-        """The files that a text names."""
-        named = {self.file_of(found) for found in NAMED.finditer(text)}
-        return named & self.texts.keys()
+            for file, ending in map(os.path.splitext, os.listdir(place) if os.path.isdir(place) else ()):
+                if ending == '.antt' and file != 'Lib':
+                    self.texts[File(name, folder, file)] = text_of(os.path.join(place, file + ending))
 
     def file_of(self, found):
         return File(found[1] or self.crate, found[2] or found[3], found[4])
 
-    def reached_by(self, text) -> Set[File]:
+    def reached_by(self, text):
         """The files that a text names, and those that these name in turn."""
-        found, left = set(), self.named_in(text)
+        found, left = set(), {text}
         while left:
-            found |= left
-            left = set().union(*(self.named_in(self.texts[file]) for file in left)) - found
+            named = {self.file_of(each) for text in left for each in NAMED.finditer(text)}
+            left = {self.texts[file] for file in named & self.texts.keys() - found}
+            found |= named & self.texts.keys()
         return found
 
-    def standing_on(self, changed, row) -> Set[File]:
+    def standing_on(self, changed, row):
         """The files that a row reaches and that reach one of the changed ones, or are changed."""
         return {file for file in self.reached_by(row.text + row.answers)
                 if file in changed or self.reached_by(self.texts[file]) & changed}
@@ -114,8 +105,8 @@ def needed(imports, row):
 def add_files(room, files, number, copied, texts):
     """Adds copies of files; `texts` are those of the library that a wrong definition changes."""
     for file in sorted(copied):
-        text = texts.get(f'specs/{file.name}.antt') if (file.crate, file.folder) == (files.library, 'specs') else None
-        text = files.citing(text or files.texts[file], number, copied)
+        changed = texts.get(f'specs/{file.name}.antt') if file[:2] == (files.library, 'specs') else None
+        text = files.citing(changed or files.texts[file], number, copied)
         room.add(f'{file.folder}/E{number}{file.name}.antt', text)
         room.add(f'{file.folder}/Lib.antt', f'pub mod E{number}{file.name}\n')
 

@@ -15,7 +15,8 @@ ERROR = re.compile(r'^(?:\./)?((?:src|specs|proofs)/\S+?):\d+:\d+: error: (.*)')
 # An answer that does not prove its goal, and is not only left out for want of another.
 UNPROVED = re.compile(r'`([^`]+)`: (?!.*was not admitted)')
 # What is left out since it stands on something that was refused; a long list is cut off.
-LEFT_OUT = re.compile(r'\d+ declarations? that depends? on `.*, (?:was|were) not checked: (.*)')
+LEFT_OUT = re.compile(
+    r'\d+ declarations? that depends? on `.*, (?:was|were) not checked: (.*?)(?: and \d+ more)?$')
 # A name has gone: that refuses whatever stands on it, true or not.
 GONE = re.compile(r'has no field|has no `|is not in scope|can be named from here')
 
@@ -27,25 +28,10 @@ def answers_of(path):
     return '::'.join(parts[1:-1]) if parts[0] == 'proofs' and len(parts) > 2 else None
 
 
-def below(crate, function):
-    return function[len(crate) + 2:] if function.startswith(crate + '::') else function
-
-
 def errors_in(said):
-    """Each error: its line with those behind it, the file, and what is wrong."""
-    errors = map(ERROR.match, joined_lines(said))
+    """Each error: its line with the indented ones in which it goes on, the file, and what is wrong."""
+    errors = map(ERROR.match, re.sub(r'\n  +', ' ', said).splitlines())
     return [(found[0], found[1], found[2]) for found in errors if found]
-
-
-def joined_lines(said):
-    """The lines of a text, each with the indented ones behind it, in which it goes on."""
-    lines = []
-    for line in said.splitlines():
-        if lines and line.startswith('  '):
-            lines[-1] += ' ' + line.strip()
-        else:
-            lines.append(line)
-    return lines
 
 
 def refused_in(crate, said):
@@ -56,12 +42,12 @@ def refused_in(crate, said):
     """
     refused, left_open = {}, set()
     for line in said.splitlines():
-        if LEFT_OPEN.match(line):
-            left_open.add(LEFT_OPEN.match(line)[1])
-        elif FUNCTION.match(line):
-            function, how = FUNCTION.match(line).groups()
-            if not how:
-                refused[below(crate, function)] = left_open
+        goal, function = LEFT_OPEN.match(line), FUNCTION.match(line)
+        if goal:
+            left_open.add(goal[1])
+        elif function:
+            if not function[2]:
+                refused[re.sub(f'^{crate}::', '', function[1])] = left_open
             left_open = set()
     for _, path, wrong in errors_in(said):
         unproved, function = UNPROVED.match(wrong), answers_of(path)
@@ -86,6 +72,5 @@ def open_goals(crate, function, said):
     for _, path, wrong in errors_in(said):
         left_out = LEFT_OUT.match(wrong)
         if left_out and answers_of(path) == function:
-            names = re.split(r' and \d+ more$', left_out[1])[0].split(', ')
-            found |= {name.split(' (via ')[0] for name in names}
+            found |= {name.split(' (via ')[0] for name in left_out[1].split(', ')}
     return found

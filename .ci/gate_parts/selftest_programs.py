@@ -146,11 +146,7 @@ def on_scripts(folder):
         yield what, bool(list(hostile.shortfalls(ends, enough, of_each, part)))
 
 
-def main(words):
-    """Whether all that is planted is noticed, and nothing else."""
+def shown():
+    """All that is planted, in words, and whether it is noticed."""
     with tempfile.TemporaryDirectory() as folder, contextlib.redirect_stdout(io.StringIO()):
-        shown = [*on_digests(folder), *on_scripts(folder)]
-    unnoticed = [what for what, is_noticed in shown if not is_noticed]
-    print(*(f'NOT NOTICED: {what}' for what in unnoticed), sep='\n', end='\n' * bool(unnoticed))
-    print(f'programs: {len(shown)} things shown, {len(unnoticed)} not')
-    return not unnoticed
+        return [*on_digests(folder), *on_scripts(folder)]
