@@ -1,5 +1,5 @@
-//! std's `extend` and `collect`, over characters and strings. After a failure the text has the items
-//! before the one that was refused.
+//! std's `extend` and `collect`, over characters and strings. After a failure the text has the
+//! items before the one that was refused.
 ghost use Rattle.std.specs.Prelude.{◌≡◌, IsOk};
 ghost use Rattle.std.specs.Iterator.{IsFinite, ExtendsWithItems};
 ghost use Rattle.std.specs.Iterator.Runs.{EachRunFrom};
