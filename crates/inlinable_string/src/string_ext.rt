@@ -3,6 +3,7 @@
 ghost use Rattle.std.specs.Prelude.{◌≡◌, ℕ, ◌+◌, ◌≤◌, ◌<◌, ◌↔◌, List, ◌++◌, [], ◌∷◌, length, drop, IsTrue, OnOk, OnErr, IsOk, Err, MatchOption, IsUtf8};
 ghost use Rattle.std.specs.Str.{chars, IsCharBoundary};
 ghost use Rattle.inlinable_string.specs.Text.{bytes_of, size, IsCut, IsPlace, IsSplice, IsRemoval};
+ghost use Rattle.inlinable_string.specs.declared.string_ext.Storage.TheVariants.{Heap};
 ghost use Rattle.inlinable_string.specs.State.{TextState, IsLawful, IsSameText, HasRoom, HasInlineRoom, storage_with_room, storage_when_shrunk};
 
 use crate::inline_string::ReplaceError;
@@ -133,12 +134,14 @@ pub trait StringExt {
         ensures inline_granted { HasInlineRoom (state self.old) additional → IsOk result }
         ensures policy { (state self.new).policy ≡ (state self.old).policy };
 
-    /// Shrinks the capacity. A heap text of at most `limit` bytes moves back inline if its type
-    /// does that, which cannot fail.
+    /// Shrinks the capacity, by how much is not specified; it never grows on the heap. A heap text
+    /// of at most `limit` bytes moves back inline if its type does that, which cannot fail.
     fn shrink_to_fit(&mut self) -> Result<(), AllocError>
         ensures text { (state self.new).text ≡ (state self.old).text }
         ensures storage { OnOk result
             ((state self.new).storage ≡ storage_when_shrunk (state self.old)) }
+        ensures capacity { (state self.new).storage ≡ Heap
+            → (state self.new).capacity ≤ (state self.old).capacity }
         ensures err { OnErr result (IsSameText (state self.old) (state self.new)) }
         ensures granted { IsTrue (state self.old).policy.demotes
             → size (state self.old).text ≤ (state self.old).policy.limit → IsOk result }

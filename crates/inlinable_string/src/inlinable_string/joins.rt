@@ -13,7 +13,8 @@ use crate::string_ext::{StringExt, StringMake};
 use std::alloc::{AllocError, Global};
 
 impl<const N: usize> InlinableStringN<N> {
-    /// The text with `other` at its end. Where memory is refused, the text comes back as it was.
+    /// The text with `other` at its end. If memory is refused, the text comes back unchanged and
+    /// where it was stored; its capacity may be less.
     pub fn add(mut self, other: &str) -> Result<Self, Self>
         ensures text { IfOk result (λ joined. (inlinable_state N joined).text
             ≡ (inlinable_state N self.entry).text ++ chars other.now) }
