@@ -23,5 +23,4 @@ pub mod Unrefused
 pub mod SecondRun
 pub mod Places
 pub mod Compared
-pub mod Written
 pub mod Extended

@@ -1,6 +1,8 @@
 //! The traits of a text that can be edited: code over them is written once for `String`, for
 //! [`crate::InlinableStringN`] and for a type of one's own.
-ghost use Rattle.std.specs.Prelude.{◌≡◌, ℕ, ◌+◌, ◌≤◌, ◌<◌, ◌↔◌, List, ◌++◌, [], ◌∷◌, length, drop, IsTrue, OnOk, OnErr, IsOk, Err, MatchOption, IsUtf8};
+ghost use Rattle.std.specs.Prelude.{◌≡◌, ℕ, ◌+◌, ◌≤◌, ◌<◌, ◌↔◌, List, ◌++◌, [], ◌∷◌, length, drop, IsTrue, true, OnOk, OnErr, IsOk, Err, MatchOption, IsUtf8};
+ghost use Rattle.std.specs.Char.{is_ascii};
+ghost use Rattle.std.specs.List.{insert_slice, list_all};
 ghost use Rattle.std.specs.Str.{chars, IsCharBoundary};
 ghost use Rattle.inlinable_string.specs.Text.{bytes_of, size, IsCut, IsPlace, IsSplice, IsRemoval};
 ghost use Rattle.inlinable_string.specs.declared.string_ext.Storage.TheVariants.{Heap};
@@ -58,6 +60,10 @@ pub trait StringExt {
     fn push_str(&mut self, string: &str) -> Result<(), AllocError>
         ensures text { OnOk result
             ((state self.new).text ≡ (state self.old).text ++ chars string.now) }
+        ensures bytes { OnOk result (bytes_of (state self.new).text
+            ≡ bytes_of (state self.old).text ++ string.now) }
+        ensures ascii { list_all is_ascii string.now ≡ true
+            → OnOk result ((state self.new).text ≡ (state self.old).text ++ string.now) }
         ensures len { OnOk result
             (size (state self.new).text ≡ size (state self.old).text + length string.now) }
         ensures storage { OnOk result
@@ -99,6 +105,10 @@ pub trait StringExt {
         requires { IsPlace (state self.old).text idx }
         ensures text { OnOk result
             (IsSplice (state self.old).text idx (chars string.now) (state self.new).text) }
+        ensures bytes { OnOk result (bytes_of (state self.new).text
+            ≡ insert_slice (bytes_of (state self.old).text) idx string.now) }
+        ensures ascii { list_all is_ascii string.now ≡ true
+            → OnOk result (IsSplice (state self.old).text idx string.now (state self.new).text) }
         ensures len { OnOk result
             (size (state self.new).text ≡ size (state self.old).text + length string.now) }
         ensures storage { OnOk result

@@ -1,9 +1,11 @@
 //! Joining: another text, or the items of an iterator one by one, at the end of a text.
-ghost use Rattle.std.specs.Prelude.{◌≡◌, ◌+◌, ◌≤◌, ◌<◌, ◌++◌, length, OnOk, OnErr, IfOk, IfErr, IsOk, IsUtf8};
+ghost use Rattle.std.specs.Prelude.{◌≡◌, ◌+◌, ◌≤◌, ◌<◌, ◌++◌, length, true, OnOk, OnErr, IfOk, IfErr, IsOk, IsUtf8};
+ghost use Rattle.std.specs.Char.{is_ascii};
 ghost use Rattle.std.specs.Iterator.{IsFinite};
 ghost use Rattle.std.specs.Iterator.Runs.{SomeRun, WholeRun, EachRunFrom};
+ghost use Rattle.std.specs.List.{list_all};
 ghost use Rattle.std.specs.Str.{chars};
-ghost use Rattle.inlinable_string.specs.Text.{size};
+ghost use Rattle.inlinable_string.specs.Text.{bytes_of, size};
 ghost use Rattle.inlinable_string.specs.State.{IsSameText, HasRoom, HasInlineRoom, storage_with_room, storage_when_made};
 ghost use Rattle.inlinable_string.specs.Joins.{text_of_chars, text_of_char_refs, text_of_strs, IsExtended, IsRefusedLast};
 ghost use Rattle.inlinable_string.specs.Values.{inlinable_policy, inlinable_state};
@@ -18,6 +20,10 @@ impl<const N: usize> InlinableStringN<N> {
     pub fn add(mut self, other: &str) -> Result<Self, Self>
         ensures text { IfOk result (λ joined. (inlinable_state N joined).text
             ≡ (inlinable_state N self.entry).text ++ chars other.now) }
+        ensures bytes { IfOk result (λ joined. bytes_of (inlinable_state N joined).text
+            ≡ bytes_of (inlinable_state N self.entry).text ++ other.now) }
+        ensures ascii { list_all is_ascii other.now ≡ true → IfOk result (λ joined.
+            (inlinable_state N joined).text ≡ (inlinable_state N self.entry).text ++ other.now) }
         ensures len { IfOk result (λ joined. size (inlinable_state N joined).text
             ≡ size (inlinable_state N self.entry).text + length other.now) }
         ensures storage { IfOk result (λ joined. (inlinable_state N joined).storage

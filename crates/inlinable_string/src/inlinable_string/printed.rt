@@ -1,6 +1,8 @@
 //! Printing, which is that of the text as a `str` wherever it lies, and writing into a text.
-ghost use Rattle.std.specs.Prelude.{◌≡◌, ◌+◌, ◌≤◌, ◌++◌, length, Some, IsOk, OnOk, OnErr};
+ghost use Rattle.std.specs.Prelude.{◌≡◌, ◌+◌, ◌≤◌, ◌++◌, length, true, Some, IsOk, OnOk, OnErr};
+ghost use Rattle.std.specs.Char.{is_ascii};
 ghost use Rattle.std.specs.Fmt.{styled_text, debug_str};
+ghost use Rattle.std.specs.List.{list_all};
 ghost use Rattle.std.specs.Str.{chars};
 ghost use Rattle.inlinable_string.specs.Text.{bytes_of, size};
 ghost use Rattle.inlinable_string.specs.State.{IsSameText, HasRoom, HasInlineRoom, storage_with_room};
@@ -42,6 +44,8 @@ impl<const N: usize> fmt::Write for InlinableStringN<N> {
             ≡ bytes_of (inlinable_state N self.old).text ++ s.now }
         ensures text { OnOk result
             ((inlinable_state N self.new).text ≡ (inlinable_state N self.old).text ++ chars s.now) }
+        ensures ascii { list_all is_ascii s.now ≡ true → OnOk result
+            ((inlinable_state N self.new).text ≡ (inlinable_state N self.old).text ++ s.now) }
         ensures len { OnOk result (size (inlinable_state N self.new).text
             ≡ size (inlinable_state N self.old).text + length s.now) }
         ensures storage { OnOk result ((inlinable_state N self.new).storage

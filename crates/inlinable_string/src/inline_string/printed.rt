@@ -1,6 +1,8 @@
 //! Printing a text in an array, which is that of its `str`, and writing into one.
-ghost use Rattle.std.specs.Prelude.{◌≡◌, ◌+◌, ◌≤◌, ◌<◌, ◌++◌, length, Some, IsOk, OnOk, OnErr, MatchResult};
+ghost use Rattle.std.specs.Prelude.{◌≡◌, ◌+◌, ◌≤◌, ◌<◌, ◌++◌, length, true, Some, IsOk, OnOk, OnErr, MatchResult};
+ghost use Rattle.std.specs.Char.{is_ascii};
 ghost use Rattle.std.specs.Fmt.{styled_text, debug_str};
+ghost use Rattle.std.specs.List.{list_all};
 ghost use Rattle.std.specs.Str.{chars};
 ghost use Rattle.inlinable_string.specs.Text.{bytes_of, size};
 
@@ -37,6 +39,8 @@ impl<const N: usize> fmt::Write for InlineStringN<N> {
             (λ _. N < size self.old + length s.now) }
         ensures bytes { IsOk result → bytes_of self.new ≡ bytes_of self.old ++ s.now }
         ensures text { OnOk result (self.new ≡ self.old ++ chars s.now) }
+        ensures ascii { list_all is_ascii s.now ≡ true
+            → OnOk result (self.new ≡ self.old ++ s.now) }
         ensures len { OnOk result (size self.new ≡ size self.old + length s.now) }
         ensures err { OnErr result (self.new ≡ self.old) }
     {

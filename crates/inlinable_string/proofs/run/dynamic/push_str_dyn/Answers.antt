@@ -8,4 +8,5 @@ returns-in-Ok g c laws = search (rules, push_str_done)
 pub returns-in-Err : goal.returns-in-Err
 returns-in-Err g c laws =
     let e = c.in-Err.ensures in
-    push_str_refused _ _ _ c.utf8.string laws e.1.1.1.0 e.1.1.1.1.0 e.1.1.1.1.1.0 e.1.1.1.1.1.1.1
+    let refusal = e.1.1.1.1.1 in
+    push_str_refused _ _ _ c.utf8.string laws refusal.0 refusal.1.0 refusal.1.1.0 refusal.1.1.1.1
