@@ -22,7 +22,6 @@ LIBRARY, PART, PROGRAM = 'inlinable_string', 'run', 'inline_script'
 # The crates whose tests run without --all.
 MAIN_TESTS = ('inline_vectors', 'inline_script')
 PROVED = re.compile(r'^only=(\d+) proved=\1$', re.MULTILINE)
-LEFT_OUT = 'the proofs of the other crates and of all tests, and whatever must be refused or answered'
 HELD = 'this test needs the proved build'
 # Generated lists take long under the checks of `rt try`, and longer where others are at work.
 SECONDS = '600'
@@ -57,33 +56,28 @@ def program_runs():
     folder = crate_folder(PROGRAM)
     words = text_of(os.path.join(folder, 'args')).split()
     with open(os.path.join(folder, 'stdin'), 'rb') as script:
-        ran = subprocess.run(['rt', 'try', '--', *words], cwd=folder, stdin=script,
+        ran = subprocess.run(['rt', 'try', '--', *words], cwd=folder, stdin=script, encoding='utf-8',
                              stdout=subprocess.PIPE, stderr=subprocess.PIPE)
-    wanted = text_of(os.path.join(folder, 'stdout')).encode()
-    said = (ran.stdout + ran.stderr).decode(errors='replace')
-    return bool(wanted) and ran.returncode == 0 and ran.stdout == wanted, f'{PROGRAM} runs its script', said
-
-
-def steps_of(is_all):
-    """What is tried, the longest first, and in words what is not."""
-    if is_all:
-        return [library_is_proved, *(partial(tests_pass, crate) for crate in TRIED), program_runs], LEFT_OUT
-    others = ', '.join(crate for crate in TRIED if crate not in MAIN_TESTS)
-    return ([partial(library_is_proved, '--only', PART), *(partial(tests_pass, crate) for crate in MAIN_TESTS),
-             program_runs], f'the rest of {LIBRARY}, the tests of {others} (all this by --all), {LEFT_OUT}')
+    is_well = ran.returncode == 0 and ran.stdout == text_of(os.path.join(folder, 'stdout')) != ''
+    return is_well, f'{PROGRAM} runs its script', ran.stdout + ran.stderr
 
 
 def main(words):
-    steps, left_out = steps_of(options('quick', __doc__, words, '--all').all)
-    start, is_well = time.monotonic(), True
+    is_all = options('quick', __doc__, words, '--all').all
+    crates, proved = (TRIED, ()) if is_all else (MAIN_TESTS, ('--only', PART))
+    # the longest first
+    steps = [partial(library_is_proved, *proved), *(partial(tests_pass, crate) for crate in crates), program_runs]
+    start, found = time.monotonic(), []
     with ThreadPoolExecutor(PROCESSORS) as pool:
         for step in as_completed([pool.submit(step) for step in steps]):
-            is_step_well, told, said = step.result()
-            print(f'{time.monotonic() - start:5.0f} s  {"well" if is_step_well else "NOT WELL"}: {told}', flush=True)
-            print(said * (not is_step_well), end='')
-            is_well = is_well and is_step_well
+            is_well, told, said = step.result()
+            found.append(is_well)
+            print(f'{time.monotonic() - start:5.0f} s  {"well" if is_well else "NOT WELL"}: {told}', flush=True)
+            print(said * (not is_well), end='')
     used = resource.getrusage(resource.RUSAGE_CHILDREN)
     print(f'{used.ru_utime + used.ru_stime:5.0f} s of processor')
-    print(f'Not tried: {left_out}. The whole gate is .ci/run.')
-    print('PASSED quick' if is_well else 'FAILED quick')
-    return is_well
+    left_out = [] if is_all else [f'the rest of {LIBRARY}, the tests of other crates (all this by --all)']
+    print('Not tried:', *left_out, 'the proofs of the other crates and of all tests, and whatever must be refused '
+          'or answered. The whole gate is .ci/run.')
+    print('PASSED quick' if all(found) else 'FAILED quick')
+    return all(found)
