@@ -14,7 +14,7 @@ from functools import partial
 from hashlib import sha256
 
 from floors import BESIDE, BESIDE_NAMES, BESIDE_OF_EACH
-from gate_parts.call_inputs import MAKERS, calls_line, script_line
+from gate_parts.call_inputs import calls_line, script_line
 from gate_parts.good_scripts import LINES
 from gate_parts.language import ARGUMENTS
 from gate_parts.options import SEED, options
@@ -57,32 +57,22 @@ def answered(programs, start):
 
 
 def counted(lines, output):
-    """How many there are of each sort."""
+    """How many there are of each sort that `.ci/floors.py` names."""
     names = Counter()
     for line, answer in zip(lines.decode().splitlines(), output.decode(errors='replace').splitlines()):
-        names_of = calls_names if line.startswith('calls') else script_names
-        names.update(names_of(line.split(' '), answer.split(' ')))
+        kind, name, *given = line.split(' ')
+        answers, before = answer.split(' '), 'i'
+        if kind == 'script':
+            names.update([f'{name} {answers[1]}', f'{name} {bytes.fromhex(answers[2]).decode().split()[-1]}'])
+            continue
+        names[f'{name} {answers[-3]}'] += 1
+        for call, told in zip(given, answers[1:]):
+            word, outcome = re.split('[:@]', call)[0], re.split('[:=]', told)[1]
+            names.update([f'{name} {word}', f'{word} {outcome}'])
+            if before != told[0]:
+                names[f'{word} {"promotes" if before == "i" else "demotes"}'] += 1
+            before = told[0]
     return names
-
-
-def calls_names(words, answer):
-    """Of each call its type and word, also with its answer; how a text is moved, and where it ends."""
-    name, before = words[1], 'i'
-    yield f'{name} ends {answer[-3]}'
-    for call, (after, _, outcome) in zip(words[2:], (told.partition(':') for told in answer[1:])):
-        word = re.split('[:@]', call)[0]
-        yield f'{name} {word}'
-        yield f'{name} {word} {outcome.partition("=")[0]}'
-        if before != after and word not in MAKERS:
-            yield f'{name} {word} {"promotes" if after == "h" else "demotes"}'
-        before = after
-
-
-def script_names(words, answer):
-    """Its word with its status, and with its last line, which is a fault or where the text lies."""
-    last = bytes.fromhex(answer[2]).decode().split('\n')[-2]
-    yield f'script {words[1]} {answer[1]}'
-    yield f'script {words[1]} {last.partition(": ")[2] or last}'
 
 
 def failed_digests(builds, digests):

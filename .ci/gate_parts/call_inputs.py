@@ -196,8 +196,6 @@ SORTS = {
     made: f'from {OWN_MAKERS} collect', joined: f'write_str write_char {JOINS}',
     compared: 'eq eq_str cmp partial_cmp', printed: 'padded cut'}
 DRAWN = {word: sort for sort, words in SORTS.items() for word in words.split()}
-# What puts another text in the place of the one that is there.
-MAKERS = frozenset(word for word, sort in DRAWN.items() if sort in (emptied, made, read, with_capacity))
 
 
 def a_call(draw, played, word):

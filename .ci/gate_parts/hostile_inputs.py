@@ -2,9 +2,11 @@
 
 Each maker of an input takes `draw`, the case's random numbers, and `word`, its argument word.
 """
-from gate_parts.draw import CHARS, Draw
+import re
+
+from gate_parts.draw import Draw
 from gate_parts.encodings import nearly_utf8
-from gate_parts.good_scripts import LINES, good_lines, good_script, in_digits, line_of, written
+from gate_parts.good_scripts import LINES, good_lines, good_script, in_digits, line_of
 from gate_parts.language import GREATEST, MOST_BYTES, STARTS, Text, Undecided, answer, width
 from gate_parts.programs import STREAMS, Case
 
@@ -39,54 +41,40 @@ def spoilt(draw, word):
                         data[:at] + draw.choice(more) + data[at:], data[:at] + flipped + data[at + 1:]))
 
 
-# Lines that are bad, or look as if they were.
+# How a number can be written, and what can stand in the place of one.
+NUMBERS = ('{}', '{:020}', '{:021}', '+{}', '-{}', ' {}', '{} ', '{}.', '{}\0', '{:#x}', '{:,}', '{:_}', '{:e}', '{}５',
+           '', '0' * 20, '0' * 21, '9' * 400, '٣', '５', '²')
+# What can stand behind a word or in the place of a character.
+ENDS = ('', ' ', '  ', '\r', '\0', '\ufeff', ' a', 'a ', 'aa', 'e\u0301', 'é', '𝄞', 'g', '0', ' 00')
 
-def odd_number(draw, word):
-    n = draw.choice((0, 1, 8, 30, 2 ** 32, 2 ** 63, 10 ** 19, 2 ** 64, 2 ** 65, 10 ** 20))
-    n += draw.randint(-1, 1)
-    digits = draw.choice((
-        f'{n}', f'{n:020}', f'{n:021}', f'+{n}', f'-{n}', f' {n}', f'{n} ', f'{n}\r', f'{n}.', f'{n}\0',
-        f'0x{n:x}', f'{n:,}', f'{n:_}', f'{n:e}', f'{n}５', '', '0' * 20, '0' * 21, '9' * 400, '٣', '５', '²'))
-    return draw.choice(('truncate {}', 'remove {}', 'reserve {}', 'reserve_exact {}', 'insert {} a',
-                        'insert {}', 'insert_str {} a', 'insert_str {} ')).format(digits)
+
+def odd_line(draw, word):
+    """A line that is bad, or looks as if it were: its word, a space, its number or its end spoilt."""
+    line = line_of(draw, Text(word), draw.choice(list(LINES)))
+    name, space, rest = line.partition(' ')
+    n = draw.choice((0, 1, 8, 30, 2 ** 32, 2 ** 63, 10 ** 19, 2 ** 64, 2 ** 65, 10 ** 20)) + draw.randint(-1, 1)
+    number = draw.choice(NUMBERS).format(n)
+    names = (name.upper(), name.title(), name[:-1], name + 's', name.replace('_', '-'), '', ' ' + name)
+    return draw.choice((
+        draw.choice(names) + space + rest, name + draw.choice(('', '  ', '\t', '\xa0')) + rest,
+        line + draw.choice(ENDS), name + ' ' + draw.choice(ENDS), f'insert 0 {draw.choice(ENDS)}',
+        re.sub('[0-9]+', number, line, 1), f'reserve {number}', f'insert {number} a', f'insert_str {number} '))
 
 
 def odd_digits(draw, word):
     """`replace_bytes` of a text's size or of one beside it, with its digits spoilt or not."""
     text = draw.string(draw.choice((0, 1, 2, 3, 4, 8, 30, 31)))
     size = max(0, width(text) + draw.choice((-1, 0, 0, 0, 0, 1)))
-    digits = in_digits(draw, (nearly_utf8(draw, 1) + b'a' * draw.randint(0, 3) + b'b' * size)[:size])
-    at = draw.randint(0, len(digits))
-    front, back, other = digits[:at], digits[at:], draw.choice('g/:@G`-+ xé１\0\r')
-    digits = draw.choice((digits, digits, digits, digits.upper(), digits[1:], digits + '0', '0x' + digits,
-                          front + ' ' + back, front + other + back[1:], front + other + back))
+    digits = in_digits(draw, (nearly_utf8(draw, 1) + b'b' * size)[:size])
+    at, other = draw.randint(0, len(digits)), draw.choice(('', ' ', *'g/:@G`-+é１\0\r', '0x'))
+    digits = draw.choice((digits, digits, digits[:at] + other + digits[at:], digits[:at] + other + digits[at + 1:]))
     return f'clear\npush_str {text}\nreplace_bytes {digits}'
 
 
-def odd_line(draw, word):
-    """A good line with its word or a space spoilt."""
-    line = line_of(draw, Text(word), draw.choice(list(LINES)))
-    name, space, rest = line.partition(' ')
-    names = (name.upper(), name.title(), name[:-1], name + 's', name.replace('_', '-'), '')
-    return draw.choice((
-        f'{line} ', f' {line}', f'{line}\r', f'{line}\0', f'\ufeff{line}', f'{line} {draw.choice(CHARS[0])}',
-        name, f'{name} ', f'{name}  {rest}', f'{name}\t{rest}', f'{name}\xa0{rest}',
-        *(each + space + rest for each in names)))
-
-
-def odd_character(draw, word):
-    """None, one, or several where one is wanted."""
-    char, front = draw.char(), ('push', 'push ', 'insert 0', 'insert 0 ', f'insert {written(draw, 0)} ')
-    return draw.choice(front) + draw.choice(('', ' ', '  ', char, char, char * 2, 'e\u0301', ' a', 'a '))
-
-
-ODD_LINES = {odd_number: 12, odd_digits: 7, odd_line: 10, odd_character: 3}
-
-
 def odd(draw, word):
-    """An odd line in a script that is good."""
+    """Such a line in a script that is good."""
     lines = good_lines(draw, word, draw.randint(0, 4))
-    lines.insert(draw.randint(0, len(lines)), draw.weighted(ODD_LINES)(draw, word))
+    lines.insert(draw.randint(0, len(lines)), draw.weighted({odd_line: 25, odd_digits: 7})(draw, word))
     return '\n'.join(lines).encode() + draw.choice((b'', b'\n'))
 
 

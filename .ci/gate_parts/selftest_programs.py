@@ -90,7 +90,7 @@ def on_digests(folder):
     words = text_of(beside.WORDS)
     yield 'the words of the commands', not fails(beside.check_words, words)
     yield 'a word more', fails(beside.check_words, words.replace('"pop" =>', '"peek" => None,\n        "pop" =>'))
-    sort = 'String pop none'
+    sort = 'pop none'
     yield 'enough of each sort', not list(beside.shortfalls(tally, [sort], 10))
     for names, of_each in (([sort], 10 ** 6), (['String flies'], 1), ([sort], 0), ([], 1)):
         yield f'{of_each} of {names}', bool(list(beside.shortfalls(tally, names, of_each)))
