@@ -11,44 +11,33 @@ EDITS = {'inlinable_string': 174, 'inline_model': 20, 'inline_uses': 22, 'script
 # By crate: requests for memory refused one after the other, and how often a test met one.
 REFUSALS = {'inline_refusals': (7, 155)}
 
+
+def each(names, words):
+    """Every name with every word behind it."""
+    return [f'{name} {word}' for name in names.split() for word in words.split()]
+
+
 # Lines that `side_by_side` answers, whose digests stand in `replay/digests`: how many there are of each
-# kind; and of each name below how many there must be among the lines and their answers.
+# kind. And how many there must be at least of each type with a word, of each word with an answer or a move
+# of the text, of where texts lie at the end, and of scripts with a status and the last word of their output.
 BESIDE = {'calls': 40_000, 'script': 40_000}
 BESIDE_OF_EACH = 50
-BESIDE_TEXTS = {
-    'InlineString': 'default cmp partial_cmp',
-    **dict.fromkeys(('InlinableString', 'InlinableStringN<8>'), (
-        'default from_str from_string from_chars from_strs collect with_capacity from_utf8 from_utf8_unchecked '
-        'from_utf8_lossy from_utf16 from_utf16_lossy add extend extend_chars extend_char_refs extend_strs reserve '
-        'reserve_exact shrink_to_fit capacity cmp partial_cmp')),
-    'String': (
-        'collect with_capacity from_utf8 from_utf8_unchecked from_utf8_lossy from_utf16 from_utf16_lossy extend '
-        'reserve reserve_exact shrink_to_fit capacity cmp partial_cmp')}
+OURS, SCRIPTS = 'InlinableString InlinableStringN<8>', 'inline inline0 inline8 heap'
+GROWTHS = 'push push_str insert insert_str'
 BESIDE_NAMES = (
-    *(f'{name} {word}' for name, words in BESIDE_TEXTS.items() for word in (
-        'new from clone push push_str insert insert_str write_str write_char pop remove truncate clear len is_empty '
-        f'as_bytes as_str into_bytes eq eq_str hash display padded cut debug {words}').split()),
-    *(f'{name} {refusal}' for name in BESIDE_TEXTS for refusal in (
-        'insert bad_place', 'insert_str bad_place', 'truncate bad_place', 'remove bad_place', 'pop none', 'eq true',
-        'eq false', 'eq_str true', 'eq_str false', 'cmp less', 'cmp equal', 'cmp greater', 'partial_cmp less',
-        'partial_cmp equal', 'partial_cmp greater')),
-    *(f'InlineString {refusal}' for refusal in (
-        'push full', 'push_str full', 'insert full', 'insert_str full', 'write_str write_fault',
-        'write_char write_fault', 'from too_long', 'eq too_long')),
-    *(f'{name} {answer}' for name in BESIDE_TEXTS if name != 'InlineString' for answer in (
-        'reserve no_memory', 'reserve_exact no_memory', 'with_capacity no_memory', 'from_utf8 done',
-        'from_utf8 not_utf8', 'from_utf8_lossy borrowed', 'from_utf8_lossy owned', 'from_utf16 done',
-        'from_utf16 unpaired')),
-    *(f'{name} {word} promotes' for name in ('InlinableString', 'InlinableStringN<8>') for word in (
-        'push push_str insert insert_str write_str write_char add extend extend_chars extend_char_refs extend_strs '
-        'reserve reserve_exact').split()),
-    *(f'{name} shrink_to_fit demotes' for name in ('InlinableString', 'InlinableStringN<8>')),
-    *(f'{name} ends inline' for name in BESIDE_TEXTS if name != 'String'),
-    *(f'{name} ends heap' for name in BESIDE_TEXTS if name != 'InlineString'),
-    *(f'script {word} {end}' for word in ('inline', 'inline0', 'inline8', 'heap', 'string') for end in (
-        '0', '2', 'bad command')),
-    *(f'script {word} storage inline' for word in ('inline', 'inline0', 'inline8', 'heap')),
-    *(f'script {word} storage heap' for word in ('inline', 'inline0', 'inline8', 'heap', 'string')))
+    *each(f'InlineString {OURS} String', f'{GROWTHS} new from clone write_str write_char pop remove truncate clear '
+          'len is_empty as_bytes as_str into_bytes eq eq_str hash display padded cut debug cmp partial_cmp'),
+    *each(f'{OURS} String', 'collect with_capacity from_utf8 from_utf8_unchecked from_utf8_lossy from_utf16 '
+          'from_utf16_lossy extend reserve reserve_exact shrink_to_fit capacity heap'),
+    *each(OURS, 'from_str from_string from_chars from_strs add extend_chars extend_char_refs extend_strs'),
+    *each(f'InlineString {OURS}', 'default inline'), *each('insert insert_str truncate remove', 'bad_place'),
+    *each('eq eq_str', 'true false'), *each('cmp partial_cmp', 'less equal greater'), *each(GROWTHS, 'full'),
+    *each('write_str write_char', 'write_fault'), *each('from eq', 'too_long'), 'pop none',
+    *each('reserve reserve_exact with_capacity', 'no_memory'), *each('from_utf8', 'done not_utf8'),
+    *each('from_utf8_lossy', 'borrowed owned'), *each('from_utf16', 'done unpaired'), 'shrink_to_fit demotes',
+    *each(f'{GROWTHS} write_str write_char add extend extend_chars extend_char_refs extend_strs reserve '
+          'reserve_exact', 'promotes'),
+    *each(f'{SCRIPTS} string', '0 2 command heap'), *each(SCRIPTS, 'inline'))
 
 # The cases of `replay/named_cases.py`.
 NAMED_CASES = 65
@@ -81,9 +70,7 @@ QUICK_PROVED = 14
 
 # By crate, for `gate quick`: tests that must pass without being proved, and how many at most may say
 # that they need the proved build.
-# The longest come first.
-TRIED = {'inline_vectors': (50, 29), 'inline_refusals': (31, 0), 'inline_script': (10, 2),
-         'inline_uses': (13, 4)}
+TRIED = {'inline_vectors': (50, 29)}
 
 # Workloads of the bench, and on how many of them each type of text is run.
 BENCH_WORKLOADS = 74

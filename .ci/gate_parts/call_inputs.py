@@ -3,46 +3,43 @@
     calls InlinableString from:6162 insert@1:c3a9 reserve@28 push_str:63 shrink_to_fit
     script inline 707573682061
 
-Behind `@` stands a place, an amount, a width or a way in which a text comes about, and behind `:` a text,
-bytes or units of UTF-16, as hexadecimal digits. The text starts empty, and a maker puts another in its
-place. `crates/side_by_side/src` says what each word calls.
+`replay/README.md` says what stands where, and `crates/side_by_side/src` what each word calls.
 """
-from gate_parts.cases import Case
-from gate_parts.characters import ESCAPED, MARKS, a_char, a_string, is_alike
-from gate_parts.draw import Draw
+from gate_parts.draw import ESCAPED, MARKS, Draw, is_alike
 from gate_parts.encodings import nearly_utf8, nearly_utf16
 from gate_parts.good_scripts import a_growth, at_the_ends, good_script, line_of, way_back
 from gate_parts.language import GREATEST, STARTS, Text, Undecided, answer, command_of, width
+from gate_parts.programs import Case
 
 ARRAY, HEAP, SHORT, STRING = 'InlineString', 'InlinableString', 'InlinableStringN<8>', 'String'
 # By type: the word of the script language whose text it is, as the model has it.
 TYPES = {ARRAY: 'inline', HEAP: 'inline', SHORT: 'inline8', STRING: 'string'}
 READERS = 'from_utf8 from_utf8_unchecked from_utf8_lossy from_utf16 from_utf16_lossy'
-# By kind: the words that are drawn most.
+JOINS = 'add extend extend_chars extend_char_refs extend_strs'
+OWN_MAKERS = 'from_str from_string from_chars from_strs'
+# By kind: how often it comes beside the others, more often where there is more to answer, and the words
+# that are drawn most.
 KINDS = {
-    'growths': 'push push_str insert insert_str write_str write_char',
-    'cuts': 'pop remove truncate clear',
-    'slides': 'slide pop remove',
-    'makers': 'new default from clone from_str from_string from_chars from_strs collect with_capacity',
-    'room': 'reserve reserve_exact with_capacity shrink_to_fit capacity push_str',
-    'readers': READERS,
-    'joins': 'add extend extend_chars extend_char_refs extend_strs write_str write_char',
-    'comparisons': 'eq eq_str hash cmp partial_cmp',
-    'prints': 'display padded cut debug',
-    'views': 'len is_empty as_bytes as_str into_bytes clone capacity',
+    'growths': (1, 'push push_str insert insert_str write_str write_char'),
+    'cuts': (1, 'pop remove truncate clear'),
+    'slides': (1, 'slide pop remove'),
+    'makers': (1, f'new default from clone {OWN_MAKERS} collect with_capacity'),
+    'room': (2, 'reserve reserve_exact with_capacity shrink_to_fit capacity push_str'),
+    'readers': (3, READERS),
+    'joins': (2, f'{JOINS} write_str write_char'),
+    'comparisons': (2, 'eq eq_str hash cmp partial_cmp'),
+    'prints': (1, 'display padded cut debug'),
+    'views': (1, 'len is_empty as_bytes as_str into_bytes clone capacity'),
 }
-# How often each comes beside the others: more often, where there is more to answer.
-WEIGHTS = {**dict.fromkeys(KINDS, 1), 'readers': 3, 'joins': 2, 'room': 2, 'comparisons': 2}
 # What `good_scripts.py` draws, and what is drawn between the words of a kind.
 SCRIPTED = frozenset('push push_str insert insert_str truncate pop remove clear reserve reserve_exact '
                      'shrink_to_fit'.split())
 BETWEEN = 'push push_str insert insert_str pop remove truncate slide'.split()
 # What a type lacks.
-OWN = 'default from_str from_string from_chars from_strs add extend_chars extend_char_refs extend_strs'
 LACKING = {
-    ARRAY: f'{READERS} from_str from_string from_chars from_strs collect with_capacity reserve reserve_exact '
-           'shrink_to_fit add extend extend_chars extend_char_refs extend_strs capacity'.split(),
-    HEAP: (), SHORT: (), STRING: OWN.split()}
+    ARRAY: f'{READERS} {OWN_MAKERS} {JOINS} collect with_capacity reserve reserve_exact shrink_to_fit '
+           'capacity',
+    HEAP: '', SHORT: '', STRING: f'default {OWN_MAKERS} add extend_chars extend_char_refs extend_strs'}
 # Of a kind with fewer words than that there is none on a type.
 FEWEST = 3
 # How many calls there are at most, behind the one that a text begins with.
@@ -88,24 +85,24 @@ def alike(string):
     return ''.join(char if is_alike(char) else 'é' for char in string[:LONGEST])
 
 
-def scripted(played, line):
-    """The call of a line of a script."""
-    word, *parts = [alike(part) if isinstance(part, str) and at else part
-                    for at, part in enumerate(command_of(line))]
-    played.obey([word, *parts])
-    return token(word, *parts)
-
-
 def any_text(draw):
     """Of a size near an edge as often as any other, or of what prints in another form."""
     if draw.chance(60):
-        return a_string(draw, draw.choice(SIZES))
+        return draw.string(draw.choice(SIZES))
     if draw.chance(50):
         return ''.join(draw.choices(ESCAPED + MARKS, draw.randint(0, 9)))
-    return ''.join(a_char(draw) for _ in range(draw.randint(0, 14)))
+    return ''.join(draw.char() for _ in range(draw.randint(0, 14)))
 
 
 # Of each sort of word: the call, as it is drawn for the text that it is made on.
+
+def scripted(played, line):
+    """The call of a line of a script."""
+    word, *parts = command_of(line)
+    parts = [alike(part) if isinstance(part, str) else part for part in parts]
+    played.obey([word, *parts])
+    return token(word, *parts)
+
 
 def slide(draw, played, _):
     """At the ends of an inline text; of a text on the heap, the way back."""
@@ -126,8 +123,8 @@ def given_to(draw, played, word):
         strings = some_strings(draw, played.text)
         return strings, strings.replace(',', '')
     if word == 'write_char':
-        return (alike(a_char(draw)),) * 2
-    drawn = any_text(draw) if draw.chance(30) else a_string(draw, a_growth(draw, played.text))
+        return (alike(draw.char()),) * 2
+    drawn = any_text(draw) if draw.chance(30) else draw.string(a_growth(draw, played.text))
     return (alike(drawn),) * 2
 
 
@@ -193,33 +190,26 @@ def printed(draw, played, word):
     return token(word, max(0, draw.choice((size - 1, size, size + 1, size + 3, draw.randint(0, 40)))))
 
 
-def alone(_, played, word):
-    return token(word)
-
-
+# The words that are not SCRIPTED; any other is a call alone.
 SORTS = {
     slide: 'slide', emptied: 'new default into_bytes', with_capacity: 'with_capacity', read: READERS,
-    made: 'from from_str from_string from_chars from_strs collect',
-    joined: 'write_str write_char add extend extend_chars extend_char_refs extend_strs',
-    compared: 'eq eq_str cmp partial_cmp', printed: 'padded cut',
-    alone: 'clone capacity hash display debug len is_empty as_bytes as_str',
-}
+    made: f'from {OWN_MAKERS} collect', joined: f'write_str write_char {JOINS}',
+    compared: 'eq eq_str cmp partial_cmp', printed: 'padded cut'}
 DRAWN = {word: sort for sort, words in SORTS.items() for word in words.split()}
-# What puts another text in the place of the one that is there.
-MAKERS = frozenset(word for word, sort in DRAWN.items() if sort in (emptied, made, read, with_capacity))
 
 
 def a_call(draw, played, word):
     if word in SCRIPTED:
         return scripted(played, line_of(draw, played.text, word))
-    return DRAWN[word](draw, played, word)
+    return DRAWN[word](draw, played, word) if word in DRAWN else token(word)
 
 
 def calls_line(seed, number):
     """Calls `number` of a seed. Always the same ones."""
-    draw = Draw.seeded(f'calls {seed}:{number}')
-    kind = draw.weighted(WEIGHTS)
-    words = {name: [word for word in KINDS[kind].split() if word not in LACKING[name]] for name in TYPES}
+    draw = Draw(f'calls {seed}:{number}')
+    kind = draw.weighted({kind: often for kind, (often, _) in KINDS.items()})
+    words = {name: [word for word in KINDS[kind][1].split() if word not in LACKING[name].split()]
+             for name in TYPES}
     name = draw.choice([name for name in TYPES if len(words[name]) >= FEWEST])
     played, tokens = Played(name), []
     if draw.chance(80):
@@ -228,13 +218,6 @@ def calls_line(seed, number):
     for _ in range(draw.randint(1, draw.choice(TURNS))):
         tokens.append(a_call(draw, played, draw.choice(words[name] if draw.chance(70) else BETWEEN)))
     return ' '.join(('calls', name, *tokens))
-
-
-def spoilt(draw, data):
-    """With a byte left out, doubled or changed."""
-    at = draw.randrange(len(data) + 1)
-    byte = data[at:at + 1]
-    return data[:at] + draw.choice((b'', byte * 2, draw.randbytes(1))) + data[at + 1:]
 
 
 def is_decided(word, data):
@@ -247,11 +230,13 @@ def is_decided(word, data):
 
 
 def script_line(seed, number):
-    """Script `number` of a seed. Always the same one."""
-    draw = Draw.seeded(f'{seed}:{number}')
+    """Script `number` of a seed, with a byte left out, doubled or changed at times. Always the same one."""
+    draw = Draw(f'{seed}:{number}')
     word = draw.choice(list(STARTS))
     data = good_script(draw, word)
     if draw.chance(SPOILT):
-        wrong = spoilt(draw, data)
+        at = draw.randrange(len(data) + 1)
+        byte = data[at:at + 1]
+        wrong = data[:at] + draw.choice((b'', byte * 2, draw.randbytes(1))) + data[at + 1:]
         data = wrong if is_decided(word, wrong) else data
     return f'script {word} {data.hex()}'

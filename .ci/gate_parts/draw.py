@@ -1,20 +1,36 @@
-"""Random draws that are the same on every version of Python: SplitMix64, by whole numbers alone."""
+"""Random draws that are the same on every version of Python: SplitMix64, by whole numbers alone.
+
+Characters and texts are drawn from those at an edge of something.
+"""
 import hashlib
 from itertools import accumulate
 
 LOW_BITS = 2 ** 64 - 1
+# By width: what looks like an end or a space, the first and last of each width and of each gap.
+CHARS = (' \r\0\t\x0b\x1f\x7f~azAF09_-', '\x80\x85\xa0é\u0301\u07ff',
+         '\u0800€\u2028\u3000\ud7ff\ue000\ufeff\ufffd\uffff', '\U00010000𝄞😀\U000f0000\U0010ffff')
+# What `Debug` writes in another form, and what stands beside that.
+ESCAPED = '\0\x01\t\n\r\x1b\x1f "\'\\~\x7f\x80\x85\x9f\xa0\xad\u200b\u2028\ufeff\U000e0001'
+# Marks that stand on the character before, the characters that have them, and both in one.
+MARKS = 'aeé\xe5\u0300\u0301\u030a\u0903\u0e31\u200d\u20dd\u3099\ufe0f\U0001d165\U0001f3fd'
+# `Debug` goes by the version of Unicode: 17.0 in Rust 1.95, and 18.0 in the kit, which writes the
+# 12,970 characters that are new there as themselves. In these ranges there is none of them.
+ALIKE = ((0x20, 0x557), (0x58d, 0x208e), (0x20c5, 0x2e5f), (0x2e64, 0xa7dc), (0xab6e, 0xd7ff),
+         (0xe000, 0x107ba), (0x12687, 0x18cd5), (0x191d3, 0x1b122), (0x1fafb, 0x2b81d),
+         (0x2b81f, 0x3cfff), (0x3fc40, 0x10ffff))
+KNOWN = frozenset(''.join((*CHARS, ESCAPED, MARKS)))
+
+
+def is_alike(char):
+    """Whether `Debug` prints it in one way by both versions."""
+    return char in KNOWN or any(least <= ord(char) <= most for least, most in ALIKE)
 
 
 class Draw:
-    """The draws from a state. A method of a name of `random.Random` means the same as there."""
+    """The draws from a seed, a string. A method of a name of `random.Random` means the same as there."""
 
-    def __init__(self, state):
-        self.state = state
-
-    @classmethod
-    def seeded(cls, seed):
-        """The draws from a seed, which is a string."""
-        return cls(int.from_bytes(hashlib.sha256(seed.encode()).digest()[:8], 'big'))
+    def __init__(self, seed):
+        self.state = int.from_bytes(hashlib.sha256(seed.encode()).digest()[:8], 'big')
 
     def bits(self):
         """64 bits."""
@@ -49,3 +65,17 @@ class Draw:
     def randbytes(self, count):
         return b''.join(self.bits().to_bytes(8, 'big') for _ in range(count // 8 + 1))[:count]
 
+    def char(self):
+        if self.chance(10):
+            return chr(self.choice((self.randint(0x20, 0xd7ff), self.randint(0xe000, 0x10ffff))))
+        return self.choice(self.choice(CHARS))
+
+    def string(self, size):
+        """A string of as many bytes."""
+        if self.chance(30):
+            return self.choice('ab ') * size
+        out = ''
+        while size:
+            step = self.randint(1, min(size, 4))
+            out, size = out + self.choice(CHARS[step - 1]), size - step
+        return out

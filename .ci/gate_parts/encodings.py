@@ -1,5 +1,4 @@
 """Bytes that are nearly UTF-8, and units that are nearly UTF-16, as bytes too, at the edges of both."""
-from gate_parts.characters import a_char
 
 # The Unicode Standard, table 3-7: the first and last of each byte of a character, a row for each.
 TAIL = (0x80, 0xbf)
@@ -21,8 +20,6 @@ EDGES = (0, 0x7f, 0x80, 0x7ff, 0x800, 0xd7ff, 0xe000, 0xfdd0, 0xfeff, 0xfffd, 0x
 HIGH, LOW = (0xd800, 0xd801, 0xdbfe, 0xdbff), (0xdc00, 0xdc01, 0xdffe, 0xdfff)
 
 
-# Pieces of bytes.
-
 def in_table(draw):
     """The first or the last bytes of a row, cut off at times."""
     out = bytes(draw.choice(bounds) for bounds in draw.choice(ROWS))
@@ -43,13 +40,9 @@ def misformed(draw):
     return bytes([LEADS[width] | code >> 6 * (width - 1), *tail])
 
 
-def no_character(draw):
-    return draw.choice(NO_CHARACTER)
-
-
 def cut_character(draw):
     """A character without some bytes at its end or at its front."""
-    char = a_char(draw).encode()
+    char = draw.char().encode()
     at = draw.randint(0, len(char))
     return draw.choice((char[:at], char[:at], char[at:]))
 
@@ -59,16 +52,28 @@ def long_ascii(draw):
     return draw.choice((b'a', b'\0', b'\x7f')) * draw.choice((7, 8, 9, 15, 16, 17, 31, 32, 33, 63, 64, 65))
 
 
-def some_characters(draw):
-    return ''.join(a_char(draw) for _ in range(draw.randint(1, 5))).encode()
+def some_characters(draw, encoding='utf-8'):
+    return ''.join(draw.char() for _ in range(draw.randint(1, 5))).encode(encoding)
 
 
-def noise(draw):
-    return draw.randbytes(draw.randint(1, 8))
+def units(codes):
+    """Each unit as two bytes, the higher one first."""
+    return b''.join(code.to_bytes(2, 'big') for code in codes)
 
 
-BYTES = {in_table: 5, beside_table: 5, misformed: 4, no_character: 4, cut_character: 3, some_characters: 6,
-         noise: 2, long_ascii: 1}
+def surrogates(draw):
+    """In any order: alone, paired, reversed, highs before a pair, lows behind one."""
+    return units(draw.choice(draw.choice((HIGH, LOW))) for _ in range(draw.randint(1, 5)))
+
+
+# How often each piece comes beside the others.
+BYTES = {in_table: 5, beside_table: 5, misformed: 4, lambda draw: draw.choice(NO_CHARACTER): 4,
+         cut_character: 3, some_characters: 6, lambda draw: draw.randbytes(draw.randint(1, 8)): 2,
+         long_ascii: 1}
+UNITS = {lambda draw: units(draw.choices(EDGES, draw.randint(1, 3))): 2, surrogates: 4,
+         lambda draw: units([draw.randint(0xd800, 0xdbff), draw.randint(0xdc00, 0xdfff)]): 2,
+         lambda draw: some_characters(draw, 'utf-16-be'): 3,
+         lambda draw: units(draw.randrange(0x10000) for _ in range(draw.randint(1, 4))): 1}
 
 
 def nearly_utf8(draw, count):
@@ -76,34 +81,5 @@ def nearly_utf8(draw, count):
     return b''.join(draw.weighted(BYTES)(draw) for _ in range(count))
 
 
-# Pieces of units.
-
-def edge_units(draw):
-    return draw.choices(EDGES, draw.randint(1, 3))
-
-
-def surrogates(draw):
-    """In any order: alone, paired, reversed, highs before a pair, lows behind one."""
-    return [draw.choice(draw.choice((HIGH, LOW))) for _ in range(draw.randint(1, 5))]
-
-
-def a_pair(draw):
-    return [draw.randint(0xd800, 0xdbff), draw.randint(0xdc00, 0xdfff)]
-
-
-def character_units(draw):
-    data = some_characters(draw).decode().encode('utf-16-be')
-    return [int.from_bytes(data[at:at + 2], 'big') for at in range(0, len(data), 2)]
-
-
-def noise_units(draw):
-    return [draw.randrange(0x10000) for _ in range(draw.randint(1, 4))]
-
-
-UNITS = {edge_units: 2, surrogates: 4, a_pair: 2, character_units: 3, noise_units: 1}
-
-
 def nearly_utf16(draw, count):
-    """So many pieces: each unit as two bytes, the higher one first."""
-    units = [unit for _ in range(count) for unit in draw.weighted(UNITS)(draw)]
-    return b''.join(unit.to_bytes(2, 'big') for unit in units)
+    return b''.join(draw.weighted(UNITS)(draw) for _ in range(count))

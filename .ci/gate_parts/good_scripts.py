@@ -1,29 +1,8 @@
 """Scripts that the program takes, drawn at random, with places and sizes near the edges."""
-from itertools import accumulate
-
-from gate_parts.characters import a_char, a_string
 from gate_parts.encodings import nearly_utf8
-from gate_parts.language import ABSURD, GREATEST, Text, command_of, width
+from gate_parts.language import ABSURD, GREATEST, Text, command_of
 
 EDGES = (0, 8, 30)
-# A row for each line: how often it comes beside the others, and what follows its word. There,
-# `draw` is the case's random numbers, and `text` the text of its turn.
-LINES = {
-    'push': (10, lambda draw, text: a_char(draw)),
-    'push_str': (10, lambda draw, text: a_string(draw, a_growth(draw, text))),
-    'insert': (10, lambda draw, text: f'{a_place(draw, text)} {a_char(draw)}'),
-    'insert_str': (10, lambda draw, text:
-                   f'{a_place(draw, text)} {a_string(draw, a_growth(draw, text))}'),
-    'truncate': (8, lambda draw, text: a_place(draw, text)),
-    'pop': (8, None),
-    'remove': (12, lambda draw, text: a_place(draw, text)),
-    'clear': (1, None),
-    'replace_bytes': (10, lambda draw, text: in_digits(draw, a_replacement(draw, text))),
-    'reserve': (6, lambda draw, text: an_amount(draw, text)),
-    'reserve_exact': (6, lambda draw, text: an_amount(draw, text)),
-    'shrink_to_fit': (6, None),
-}
-WEIGHTS = {word: weight for word, (weight, _) in LINES.items()}
 
 
 def an_edge(draw, text):
@@ -41,25 +20,24 @@ def a_growth(draw, text):
     return draw.randint(6, 600) if kind < 99 else draw.randint(601, 6000)
 
 
+def a_growing_string(draw, text):
+    return draw.string(a_growth(draw, text))
+
+
 def written(draw, value):
     """A number's digits, with zeros before them at times."""
     return str(value).zfill(draw.choice((0, 0, 0, 0, 0, 2, 19, 20)))
 
 
-def places(text):
-    """Where the text falls in two, in order."""
-    return [0, *accumulate(width(char) for char in text.chars)]
-
-
 def between_places(draw, text):
     """An offset inside of a character; one past the end where there is none."""
-    inner = set(range(text.size)).difference(places(text))
+    inner = set(range(text.size)).difference(text.places())
     return draw.choice(sorted(inner)) if inner else text.size + 1
 
 
 def a_place(draw, text):
     """A place, the inside of a character, past the end, or what would wrap to a place."""
-    cut, kind = draw.choice(places(text)), draw.randrange(100)
+    cut, kind = draw.choice(list(text.places())), draw.randrange(100)
     if kind < 60:
         place = draw.choice((0, text.size, cut, cut))
     elif kind < 75:
@@ -91,7 +69,7 @@ def a_replacement(draw, text):
     """As many bytes as the text has, UTF-8 or not quite; or more or fewer."""
     kind = draw.randrange(100)
     if kind < 45:
-        data = a_string(draw, text.size).encode()
+        data = draw.string(text.size).encode()
         return data.replace(draw.choice((b'a', b' ', b'b')), b'\n') if draw.chance(30) else data
     data = nearly_utf8(draw, draw.randint(1, 3))
     if kind < 80 and len(data) <= text.size:
@@ -99,7 +77,7 @@ def a_replacement(draw, text):
         return b'a' * front + data + b'b' * (text.size - len(data) - front)
     if kind < 90:
         return data
-    return a_string(draw, max(0, text.size + draw.choice((-1, 1, text.size)))).encode()
+    return draw.string(max(0, text.size + draw.choice((-1, 1, text.size)))).encode()
 
 
 def in_digits(draw, data):
@@ -109,16 +87,32 @@ def in_digits(draw, data):
     return ''.join(digit.upper() if case % 2 else digit for digit, case in zip(digits, cases))
 
 
+# By the word of a line: how often it comes beside the others, and what draws each part that follows it.
+LINES = {
+    'push': (10, lambda draw, _: draw.char()),
+    'push_str': (10, a_growing_string),
+    'insert': (10, a_place, lambda draw, _: draw.char()),
+    'insert_str': (10, a_place, a_growing_string),
+    'truncate': (8, a_place),
+    'pop': (8,),
+    'remove': (12, a_place),
+    'clear': (1,),
+    'replace_bytes': (10, lambda draw, text: in_digits(draw, a_replacement(draw, text))),
+    'reserve': (6, an_amount),
+    'reserve_exact': (6, an_amount),
+    'shrink_to_fit': (6,),
+}
+
+
 def line_of(draw, text, word):
-    _, rest = LINES[word]
-    return f'{word} {rest(draw, text)}' if rest else word
+    return ' '.join([word, *(part(draw, text) for part in LINES[word][1:])])
 
 
 def way_back(draw, text):
     """For a text on the heap: a cut near an edge, or the shrinking after it."""
     edge = an_edge(draw, text)
     if text.size > edge + 1:
-        near = [place for place in places(text) if abs(place - edge) <= 2]
+        near = [place for place in text.places() if abs(place - edge) <= 2]
         return f'truncate {draw.choice(near)}'
     return 'shrink_to_fit'
 
@@ -128,8 +122,8 @@ def at_the_ends(draw, text):
     free = text.limit - text.size
     if text.chars and (free < 2 or draw.chance(50)):
         return draw.choice(('remove 0', 'remove 0', 'pop'))
-    added = a_string(draw, draw.choice((free, free, free, free // 2, min(free, 2), free + 1)))
-    place = draw.choice(places(text))
+    added = draw.string(draw.choice((free, free, free, free // 2, min(free, 2), free + 1)))
+    place = draw.choice(list(text.places()))
     return draw.choice(('push_str', 'insert_str 0', f'insert_str {place}')) + ' ' + added
 
 
@@ -138,7 +132,7 @@ def next_line(draw, text, slides):
         return way_back(draw, text)
     if text.storage == 'inline' and slides and draw.chance(70):
         return at_the_ends(draw, text)
-    return line_of(draw, text, draw.weighted(WEIGHTS))
+    return line_of(draw, text, draw.weighted({word: often for word, (often, *_) in LINES.items()}))
 
 
 def good_lines(draw, word, turns):

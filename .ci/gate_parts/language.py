@@ -3,6 +3,9 @@
 Written from the rules alone, for `gate hostile`. A text is a plain list of characters. Memory is
 ample: only a reservation that no machine can grant is refused.
 """
+import re
+from itertools import accumulate
+
 MOST_BYTES = 65_536
 GREATEST = 2 ** 64 - 1
 # Memory grants a text of the first size, and no process of an x86-64 machine can have the second.
@@ -17,54 +20,38 @@ class Undecided(Exception):
 
 
 class Fault(Exception):
-    """The line that is all the output, its status, and the name under which it is counted."""
-
-    def __init__(self, line, status, name=None):
-        super().__init__(line)
-        self.line, self.status, self.name = line, status, name or line
+    """The line that is all the output, and its status."""
 
 
 # The parts of a line. Each answers None where it cannot be read.
 
 def number(digits):
-    if not 1 <= len(digits) <= 20 or set(digits) - set('0123456789'):
-        return None
-    return int(digits) if int(digits) <= GREATEST else None
+    return int(digits) if re.fullmatch('[0-9]{1,20}', digits) and int(digits) <= GREATEST else None
 
 
 def character(rest):
     return rest if len(rest) == 1 else None
 
 
-def string(rest):
-    return rest
-
-
 def pairs(rest):
-    if len(rest) % 2 or set(rest) - set('0123456789abcdefABCDEF'):
-        return None
-    return bytes.fromhex(rest)
+    return bytes.fromhex(rest) if re.fullmatch('([0-9a-fA-F]{2})*', rest) else None
 
 
-ARGUMENTS = {'push': [character], 'push_str': [string], 'insert': [number, character], 'insert_str': [number, string],
-             'truncate': [number], 'pop': [], 'remove': [number], 'clear': [], 'replace_bytes': [pairs],
-             'reserve': [number], 'reserve_exact': [number], 'shrink_to_fit': []}
+ARGUMENTS = {
+    'push': [character], 'push_str': [str], 'insert': [number, character], 'insert_str': [number, str],
+    'truncate': [number], 'pop': [], 'remove': [number], 'clear': [], 'replace_bytes': [pairs],
+    'reserve': [number], 'reserve_exact': [number], 'shrink_to_fit': []}
 
 
 def command_of(line):
     """A line's word and its arguments; None where the line is bad."""
     word = line.split(' ')[0]
-    if word not in ARGUMENTS:
+    readers = ARGUMENTS.get(word, [])
+    first, *parts = line.split(' ', len(readers))
+    if word not in ARGUMENTS or first != word or len(parts) < len(readers):
         return None
-    command, rest = [word], line[len(word):]
-    for read in ARGUMENTS[word]:
-        if not rest.startswith(' '):
-            return None
-        # only a number ends at a space
-        part = rest[1:].split(' ')[0] if read is number else rest[1:]
-        command.append(read(part))
-        rest = rest[1 + len(part):]
-    return None if rest or None in command else command
+    command = [word, *(read(part) for read, part in zip(readers, parts))]
+    return None if None in command else command
 
 
 class Text:
@@ -78,13 +65,14 @@ class Text:
         word, *arguments = command
         return getattr(self, word)(*arguments)
 
+    def places(self):
+        """Where the text falls in two, in order."""
+        return accumulate(map(width, self.chars), initial=0)
+
     def index_of(self, place):
         """How many characters stand before a place; None where the text does not fall in two there."""
-        index = 0
-        while place > 0 and index < len(self.chars):
-            place -= width(self.chars[index])
-            index += 1
-        return None if place else index
+        index, at = next(((index, at) for index, at in enumerate(self.places()) if at >= place), (None, None))
+        return index if at == place else None
 
     def make_room(self, size):
         if self.storage == 'inline' and size > self.limit:
@@ -104,13 +92,9 @@ class Text:
     def push(self, char):
         return self.put_in(len(self.chars), char)
 
-    push_str = push
-
     def insert(self, place, char):
         index = self.index_of(place)
         return 'bad place' if index is None else self.put_in(index, char)
-
-    insert_str = insert
 
     def truncate(self, place):
         index = self.index_of(place)
@@ -144,12 +128,12 @@ class Text:
             raise Undecided
         return 'no memory' if size >= ABSURD else self.make_room(size)
 
-    reserve_exact = reserve
-
     def shrink_to_fit(self):
         if self.limit is not None and self.size <= self.limit:
             self.storage = 'inline'
         return 'done'
+
+    push_str, insert_str, reserve_exact = push, insert, reserve
 
 
 def width(text):
@@ -157,7 +141,7 @@ def width(text):
 
 
 def accepted(case):
-    """The word and the commands of a case; a fault where it is refused, the first in the order of the rules."""
+    """The word and the commands of a case; where it is refused, the first fault in the order of the rules."""
     if len(case.words) != 1 or case.words[0] not in STARTS:
         raise Fault('bad argument', 2)
     if case.io == 'stdin-dir':
@@ -171,7 +155,7 @@ def accepted(case):
     commands = [(at, command_of(line)) for at, line in enumerate(lines, 1) if line]
     for at, command in commands:
         if command is None:
-            raise Fault(f'line {at}: bad command', 2, 'bad command')
+            raise Fault(f'line {at}: bad command', 2)
     return case.words[0], [command for _, command in commands]
 
 
@@ -185,7 +169,7 @@ def answer(case):
         lines = [*replies, 'text ' + ''.join(text.chars), f'length {text.size}', 'storage ' + text.storage]
         ends, case.status = ('accepted', 0) if can_write else ('write fault', 1)
     except Fault as fault:
-        lines, ends, case.status = [fault.line], fault.name, fault.status
-        ends += '' if can_write else ', not written'
+        line, case.status = fault.args
+        lines, ends = [line], line.split(': ')[-1] + (', not written' if not can_write else '')
     case.output = ''.join(line + '\n' for line in lines).encode() if can_write else b''
     return ends, replies

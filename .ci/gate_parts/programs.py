@@ -3,47 +3,53 @@ import os
 import subprocess
 import threading
 import time
+from dataclasses import dataclass
 from multiprocessing import Pool
 
 from gate_parts.tree import PROCESSORS, Failure, crate_folder
 
 # A program that does not end is killed.
 SECONDS = 20
-TOO_SLOW = 'too slow'
+# How the standard streams are, where they are not files in memory.
+STREAMS = ('stdin-dir', 'stdin-zero', 'stdin-pipe', 'stdout-full', 'stdout-closed')
 
 
-def builds_of(crate):
-    """What `rt ci` builds of a program: by LLVM, and by Rattle's own compiler."""
-    made = os.path.join(crate_folder(crate), 'out', crate)
-    return {'llvm': made, 'rattle': made + '.by-rattle'}
+@dataclass
+class Case:
+    """A run: what it is given, and what it must write and end with. The words are strings or bytes."""
+    name: str
+    words: list = ()
+    input: bytes = b''
+    io: str = ''
+    output: bytes = b''
+    status: object = None
 
 
 def chosen(words, crate):
-    """The programs that these words name, or else a crate's two builds, by name: each with its path."""
-    named = {word: word for word in words} or builds_of(crate)
-    return {name: checked(path) for name, path in named.items()}
-
-
-def checked(program):
-    """The path of a program that can be run."""
-    path = os.path.abspath(program)
-    if not (os.path.isfile(path) and os.access(path, os.X_OK)):
-        raise Failure(f'{path} is not there: `rt ci` builds both programs')
-    return path
+    """The programs that these words name, by name, or else what `rt ci` builds of a crate: by LLVM, and by
+    Rattle's own compiler. Each with its path."""
+    made = os.path.join(crate_folder(crate), 'out', crate)
+    named = {word: os.path.abspath(word) for word in words} or {'llvm': made, 'rattle': made + '.by-rattle'}
+    for path in named.values():
+        if not (os.path.isfile(path) and os.access(path, os.X_OK)):
+            raise Failure(f'{path} is not there: `rt ci` builds both programs')
+    return named
 
 
 def run(program, case):
     """The standard output and the exit status of one run; the status is in words where it did not end."""
     stdin, feed = input_of(case)
     output = os.memfd_create('output')
-    stdout = {'stdout-full': full_output, 'stdout-closed': closed_output}.get(case.io, lambda: os.dup(output))()
+    # a full device takes no byte; nobody reads the pipe
+    stdout = os.open('/dev/full', os.O_WRONLY) if case.io == 'stdout-full' else os.dup(
+        UNREAD if case.io == 'stdout-closed' else output)
     try:
         if feed is not None:
             threading.Thread(target=feed_in_parts, args=(feed, case.input), daemon=True).start()
         status = subprocess.run([program, *case.words], stdin=stdin, stdout=stdout, stderr=subprocess.DEVNULL,
                                 timeout=SECONDS, check=False).returncode
     except subprocess.TimeoutExpired:
-        status = TOO_SLOW
+        status = 'too slow'
     finally:
         os.close(stdin)
         os.close(stdout)
@@ -63,16 +69,6 @@ def input_of(case):
         writing.write(case.input)
     os.lseek(file, 0, os.SEEK_SET)
     return file, None
-
-
-def full_output():
-    """Every write to it fails."""
-    return os.open('/dev/full', os.O_WRONLY)
-
-
-def closed_output():
-    """The writing end of a pipe that nobody reads."""
-    return os.dup(UNREAD)
 
 
 def feed_in_parts(pipe, data):

@@ -1,8 +1,7 @@
-"""gate quick [--all]: a newcomer's check, under three minutes on two processors. The gate is `.ci/run`.
+"""gate quick: a newcomer's check, under three minutes on two processors. The gate is `.ci/run`.
 
 One part of the library is proved, lists of commands; the main tests run unproved, by `rt try`; and the
-program prints what is stored of its own script. With --all the library is proved whole, over what earlier
-checks have kept, and the tests of every crate run. All go side by side. A test that holds all memory can't
+program prints what is stored of its own script. All go side by side. A test that holds all memory can't
 do so under `rt try`, and stops: it says that it needs the proved build, and is counted apart.
 """
 import os
@@ -19,21 +18,17 @@ from gate_parts.refusals import ENDED, TEST
 from gate_parts.tree import PROCESSORS, crate_folder, run_rt, text_of
 
 LIBRARY, PART, PROGRAM = 'inlinable_string', 'run', 'inline_script'
-# The crates whose tests run without --all: the calls and the runs of the library.
-MAIN_TESTS = ('inline_vectors',)
 PROVED = re.compile(r'^only=(\d+) proved=\1$', re.MULTILINE)
-LEFT_OUT = 'the proofs of the other crates and of all tests, and whatever must be refused or answered'
 HELD = 'this test needs the proved build'
 # Generated lists take long under the checks of `rt try`, and longer where others are at work.
 SECONDS = '600'
 
 
-def library_is_proved(*words):
-    """Whether the library is proved, or with `--only` and a module that alone, and how many functions."""
-    said, status = run_rt(crate_folder(LIBRARY), 'check', *words)
+def part_is_proved():
+    """Whether the part of the library is proved, and how many functions."""
+    said, status = run_rt(crate_folder(LIBRARY), 'check', '--only', PART)
     proved = int((PROVED.search(said) or [0, 0])[1])
-    is_well = status == 0 and (not words or proved >= QUICK_PROVED)
-    return is_well, f'{LIBRARY} is proved' + f', {proved} functions of `{PART}`' * bool(words), said
+    return status == 0 and proved >= QUICK_PROVED, f'{LIBRARY}: {proved} functions of `{PART}` are proved', said
 
 
 def counted(said):
@@ -57,33 +52,25 @@ def program_runs():
     folder = crate_folder(PROGRAM)
     words = text_of(os.path.join(folder, 'args')).split()
     with open(os.path.join(folder, 'stdin'), 'rb') as script:
-        ran = subprocess.run(['rt', 'try', '--', *words], cwd=folder, stdin=script,
+        ran = subprocess.run(['rt', 'try', '--', *words], cwd=folder, stdin=script, encoding='utf-8',
                              stdout=subprocess.PIPE, stderr=subprocess.PIPE)
-    wanted = text_of(os.path.join(folder, 'stdout')).encode()
-    said = (ran.stdout + ran.stderr).decode(errors='replace')
-    return bool(wanted) and ran.returncode == 0 and ran.stdout == wanted, f'{PROGRAM} runs its script', said
-
-
-def steps_of(is_all):
-    """What is tried, the longest first, and in words what is not."""
-    if is_all:
-        return [library_is_proved, *(partial(tests_pass, crate) for crate in TRIED), program_runs], LEFT_OUT
-    others = ', '.join(crate for crate in TRIED if crate not in MAIN_TESTS)
-    return ([partial(library_is_proved, '--only', PART), *(partial(tests_pass, crate) for crate in MAIN_TESTS),
-             program_runs], f'the rest of {LIBRARY}, the tests of {others} (all this by --all), {LEFT_OUT}')
+    is_well = ran.returncode == 0 and ran.stdout == text_of(os.path.join(folder, 'stdout')) != ''
+    return is_well, f'{PROGRAM} runs its script', ran.stdout + ran.stderr
 
 
 def main(words):
-    steps, left_out = steps_of(options('quick', __doc__, words, '--all').all)
-    start, is_well = time.monotonic(), True
+    options('quick', __doc__, words)
+    steps = [part_is_proved, *(partial(tests_pass, crate) for crate in TRIED), program_runs]
+    start, found = time.monotonic(), []
     with ThreadPoolExecutor(PROCESSORS) as pool:
         for step in as_completed([pool.submit(step) for step in steps]):
-            is_step_well, told, said = step.result()
-            print(f'{time.monotonic() - start:5.0f} s  {"well" if is_step_well else "NOT WELL"}: {told}', flush=True)
-            print(said * (not is_step_well), end='')
-            is_well = is_well and is_step_well
+            is_well, told, said = step.result()
+            found.append(is_well)
+            print(f'{time.monotonic() - start:5.0f} s  {"well" if is_well else "NOT WELL"}: {told}')
+            print(said * (not is_well), end='', flush=True)
     used = resource.getrusage(resource.RUSAGE_CHILDREN)
     print(f'{used.ru_utime + used.ru_stime:5.0f} s of processor')
-    print(f'Not tried: {left_out}. The whole gate is .ci/run.')
-    print('PASSED quick' if is_well else 'FAILED quick')
-    return is_well
+    print(f'Not tried: the rest of {LIBRARY}, the tests of other crates, the proofs of these and of all tests, and '
+          'whatever must be refused or answered. The whole gate is .ci/run.')
+    print('PASSED quick' if all(found) else 'FAILED quick')
+    return all(found)

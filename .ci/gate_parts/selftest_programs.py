@@ -10,25 +10,24 @@ import tempfile
 from collections import Counter
 
 from gate_parts import beside, hostile
-from gate_parts.cases import NAMED, named_cases
 from gate_parts.options import SEED
-from gate_parts.tree import Failure, in_tree, text_of, write_text
+from gate_parts.selftest_reading import fails
+from gate_parts.tree import in_tree, text_of, write_text
 
-# Answers lines in the form of `side_by_side`, and refuses what is no input.
-LINES = '''import sys
+# Answers lines in the form of `side_by_side`.
+LINES = '''import os, sys
 lines = open(3).read().split('\\n')[:-1]
 status = 0
 for line in lines:
     words = line.split(' ')
-    if line in NO_INPUT:
-        print('no input')
-        status = 2
-        break
     answer = words[1] + ' h:none' * (len(words) - 2) + ' heap 0 '
     FAULT
     print(answer)
 sys.exit(status)
 '''
+LINE_FAULTS = (
+    'answer += "0" * (line is lines[-1])', 'if line is lines[-1]: break', 'status = 3',
+    'if line is lines[-1]: sys.stdout.flush(); os.abort()')
 # Does what the model of `inline_script` does.
 SCRIPT = '''import os, sys
 from gate_parts.language import MOST_BYTES, answer
@@ -51,6 +50,10 @@ except OSError:
     case.status = case.status or 1
 sys.exit(case.status)
 '''
+SCRIPT_FAULTS = (
+    "case.output = case.output.replace(b'bad place', b'done')", "case.output = b''",
+    'case.status = case.status and 3 - case.status', 'case.status = case.status or 3',
+    'os.path.isfile("/dev/fd/1") or os.dup2(os.open("/dev/null", 1), 1)')
 HELD = {'calls': beside.STEP}
 INPUTS, CASES = 40, 16
 
@@ -61,18 +64,9 @@ def program(folder, source, fault='pass'):
     # Python does not start where its standard input is a directory
     write_text(path, f'#!/bin/sh\nexec {sys.executable} -ISB {path}.py "$@" 3<&0 </dev/null\n')
     os.chmod(path, 0o700)
-    write_text(path + '.py', f'import sys\nsys.path.insert(0, {in_tree(".ci")!r})\nNO_INPUT = {beside.NO_INPUT!r}\n'
+    write_text(path + '.py', f'import sys\nsys.path.insert(0, {in_tree(".ci")!r})\n'
                + source.replace('FAULT', fault))
     return {'stand-in': path}
-
-
-def fails(call, *given):
-    """Whether it says that a part can't be tried."""
-    try:
-        call(*given)
-    except Failure:
-        return True
-    return False
 
 
 def on_digests(folder):
@@ -85,65 +79,46 @@ def on_digests(folder):
         write_text(path, text)
         return sum(beside.failed_digests(builds, beside.stored(path, HELD))[0].values())
 
-    yield 'lines that are answered as is stored', failed(right) == 0 and not beside.taken(builds['stand-in'])
+    yield 'lines that are answered as is stored', failed(right) == 0
     yield 'another digest of answers', failed(f'calls 0 {lines} {"0" * 64}\n') == 1
-    yield 'another digest of lines', fails(failed, f'calls 0 {"0" * 16} {answers}\n')
-    for what, text in (('no digest', ''), ('a digest twice', right * 2), ('a digest cut', f'calls 0 {lines}\n'),
-                       ('a digest of other lines', right.replace('calls 0', 'calls 1000'))):
-        yield what, fails(failed, text)
-    for what, fault in (('a wrong answer to one line', 'answer += "0" * (line is lines[-1])'),
-                        ('no last line', 'if line is lines[-1]: break'),
-                        ('a wrong status', 'status = 3'),
-                        ('a crash', 'if line is lines[-1]: sys.stdout.flush(); import os; os.abort()')):
+    for text in (f'calls 0 {"0" * 16} {answers}\n', '', right * 2, f'calls 0 {lines}\n',
+                 right.replace('calls 0', 'calls 1000')):
+        yield f'digests {text}', fails(failed, text)
+    for fault in LINE_FAULTS:
         program(folder, LINES, fault)
-        yield what, failed(right) == 1
-    program(folder, LINES.replace('status = 2', 'status = 0'))
-    yield 'lines that are no input, with the status 0', len(beside.taken(builds['stand-in'])) == len(beside.NO_INPUT)
+        yield fault, failed(right) == 1
     words = text_of(beside.WORDS)
     yield 'the words of the commands', not fails(beside.check_words, words)
-    yield 'a word more', fails(beside.check_words, words.replace('"pop" =>', '"pop" => None,\n        "peek" =>'))
-    yield 'enough of each sort', not list(beside.shortfalls(tally, ('String pop none',), 10))
-    for what, names, of_each in (('too few', ('String pop none',), 10 ** 6), ('none of a sort', ('String flies',), 1),
-                                 ('a floor of nothing', ('String pop none',), 0), ('no floor', (), 1)):
-        yield what, bool(list(beside.shortfalls(tally, names, of_each)))
+    yield 'a word more', fails(beside.check_words, words.replace('"pop" =>', '"peek" => None,\n        "pop" =>'))
+    sort = 'pop none'
+    yield 'enough of each sort', not list(beside.shortfalls(tally, [sort], 10))
+    for names, of_each in (([sort], 10 ** 6), (['String flies'], 1), ([sort], 0), ([], 1)):
+        yield f'{of_each} of {names}', bool(list(beside.shortfalls(tally, names, of_each)))
 
 
 def on_scripts(folder):
     """The same of `hostile`."""
-    builds, cases = program(folder, SCRIPT), named_cases(hostile.NAMED_CASES)
-    # the last are of streams
-    some = cases[-CASES:]
-
-    def right(cases=some, count=INPUTS):
-        return hostile.are_right(builds, cases, SEED, count)
-
-    yield 'a program that is as the model', right()
-    yield 'no input', fails(right, some, 0) and fails(hostile.main, [builds['stand-in'], '--count', '0'])
-    yield 'no case', fails(right, [])
-    for what, fault in (('a wrong reply', "case.output = case.output.replace(b'bad place', b'done')"),
-                        ('no output', "case.output = b''"),
-                        ('a wrong status of what is refused', 'case.status = case.status and 3 - case.status'),
-                        ('a wrong status of what is accepted', 'case.status = case.status or 3'),
-                        ('a failed write that is not told',
-                         'os.path.isfile("/dev/fd/1") or os.dup2(os.open("/dev/null", 1), 1)')):
+    # the last cases are of streams
+    builds, cases = program(folder, SCRIPT), hostile.named_cases()[-CASES:]
+    yield 'a program that is as the model', hostile.are_right(builds, cases, SEED, INPUTS)
+    yield 'no input', fails(hostile.main, [builds['stand-in'], '--count', '0'])
+    for fault in SCRIPT_FAULTS:
         program(folder, SCRIPT, fault)
-        yield what, not right()
+        yield fault, not hostile.are_right(builds, cases, SEED, INPUTS)
     program(folder, SCRIPT, 'case.status = 0 if case.status == 1 else case.status')
-    yield 'a wrong status on the stored cases alone', not right(count=1)
-    path, source = os.path.join(folder, 'cases.py'), text_of(NAMED)
-    lines = source.split('\n')
-    at = next(at for at, line in enumerate(lines) if line.startswith("    ('no_word'"))
-    for what, text in (('a case gone', '\n'.join(lines[:at] + lines[at + 1:])), ('no cases', 'CASES = ()\n'),
-                       ('two of a name', source.replace("'no_word'", "'two_words'")),
-                       ('a case without a status', source.replace(lines[at], lines[at][:-3] + 'None),')),
-                       ('an unknown stream', source.replace('stdin-zero', 'stdin-nought'))):
-        write_text(path, text)
-        yield what, fails(named_cases, len(cases), path)
+    yield 'a wrong status on the stored cases alone', not hostile.are_right(builds, cases, SEED, 1)
+    path = os.path.join(folder, 'cases.py')
+    whole = "CASES = [('a', [], b'', '', b'', 2), ('b', [], b'', '', b'', 2)]\n"
+    for old, new, is_well in (('', '', True), ("('a', [], b'', '', b'', 2), ", '', False), ("'b'", "'a'", False),
+                              ('2)', 'None)', False), ("b'', ''", "b'', 'stdin-nought'", False)):
+        write_text(path, whole.replace(old, new))
+        yield f'cases with {new} for {old}', fails(hostile.named_cases, 2, path) != is_well
+    write_text(path, 'CASES = []\n')
+    yield 'no cases', fails(hostile.named_cases, 0, path)
     enough = Counter({name: 50 for name in ('accepted', *hostile.HOSTILE_REPLIES, *hostile.HOSTILE_FAULTS)})
     yield 'enough replies and faults', not list(hostile.shortfalls(enough, enough, 1, 1 / 100))
-    for what, ends, of_each, part in (('too few replies', enough, 51, 1 / 100), ('too few accepted', enough, 1, 1),
-                                      ('no end', Counter(), 1, 1 / 100), ('floors of nothing', enough, 0, 0)):
-        yield what, bool(list(hostile.shortfalls(ends, enough, of_each, part)))
+    for ends, of_each, part in ((enough, 51, 1 / 100), (enough, 1, 1), (Counter(), 1, 1 / 100), (enough, 0, 0)):
+        yield f'{of_each} of each, and {part}', bool(list(hostile.shortfalls(ends, enough, of_each, part)))
 
 
 def shown():

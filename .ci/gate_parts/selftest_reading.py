@@ -4,12 +4,10 @@ import tempfile
 from unittest import mock
 
 import floors
-from gate_parts import edits, quick, said
-from gate_parts.definitions import trials_of
+from gate_parts import edits, said
 from gate_parts.edit_files import Change, Edit, Goal, read_edits, texts_with
 from gate_parts.enclosing import functions_broken
-from gate_parts.row_copies import Files
-from gate_parts.tree import Failure, in_tree, text_of, write_text
+from gate_parts.tree import Failure, write_text
 
 # As much as the floors say at least, in all: whoever lowers one further lowers its number here too.
 LEAST = {'EDITS': 150, 'MUST_FAIL': 25, 'WRONG_DEFINITIONS': 200, 'WRONG_CLAUSES': 5, 'CALLERS': 80,
@@ -23,10 +21,8 @@ old:     1
 new:     2
 '''
 # What is no edit: a text of it, and what stands in its place.
-NO_EDIT = (('edit ', 'edits '), ('refused: one', 'refused: one two'), ('refused:', 'refuse:'), ('old:', 'old'),
-           ('new:     2\n', ''), ('new:     2\n', 'new: 2\nold: 3\n'), ('file: src/lib.rt\n', ''),
-           ('refused: one returns\n', ''), ('refused: one returns\n', 'refused: one returns\n' * 2))
-TWICE = 'first\n    1\nsecond\n    1\n    1\n'
+NO_EDIT = (('edit ', 'edits '), ('refused: one', 'refused: one two'), ('new:     2\n', ''),
+           ('new:     2\n', 'new: 2\nold: 3\n'), ('refused: one returns\n', ''))
 SOURCE = '''impl<const N: usize> Kept for Text<N> {
     final fn size(&self) -> [u8; N]
         ensures { a }
@@ -57,30 +53,23 @@ fn g() {
     m!(LIMIT)
 }
 '''
-# A text of that, what comes in its place, the functions that an edit names, whether it breaks them alone.
+# A text of that, what comes in its place, and the functions that an edit names: whether it breaks them alone.
 CHANGES = (
     ("b('{'", "i('{'", 'part::Text::size', True), ('{ a }', '{ i }', 'part::Text::size', False),
     ("b('{'", "i('{'", 'part::Text::len', False), ('> Kept', '> Held', 'part::Text::size', False),
     ("b('{'", "} b('{'", 'part::Text::size', False), ('  c\n', '  i\n', 'len', True),
     ('-> usize {', '-> usize { i;', 'len', True), ('-> usize {', '-> u8 {', 'len', False),
-    ('&self);', '&self, i: u8);', 'none', False), ('  d\n', '  i\n', 'f g', True),
-    ('  d\n', '  i\n', 'f', False))
+    ('&self);', '&self, i: u8);', 'none', False), ('  d\n', '  i\n', 'f g', True), ('  d\n', '  i\n', 'f', False))
 NOTE = ('note: src/worked/room.rt:1:1: it is not proved that what the function ensures holds when it '
         'returns (`returns-clause-insert`); the facts known there allow values at which this goal is false\n'
         'fn toy::row: no proof: expected answers in ./proofs/row/Answers.antt; `search` did not prove\n'
         'fn toy::caller: no proof: it calls `row`\nfn toy::other: proved\n')
-LEFT_OUT = (
-    './proofs/Free.antt:81:83: error: `met_inline`: a tuple is checked against `IsMet s`, which is no ×\n'
-    './proofs/run/laws/short/Answers.antt:4:5: error: 1 declaration that depends on `short_runs`, which '
-    'was not admitted, was not checked: returns-clause-replies\nfn toy::run::laws::short: not proved\n')
 NO_REFUSAL = (
     './specs/Run.antt:98:23: error: `IsMet`: `Foo` is not in scope',
     './specs/Run.antt:98:23: error: `IsMet`: expected type `ℕ`',
     './proofs/Free.antt:7:215: error: module `Rattle.toy.specs.Run` has no `IsMet` that can be named',
     './proofs/a/Answers.antt:1:1: error: `returns`: `c.requires` has no field `place`',
     './proofs/a/Answers.antt:1:1: error: `returns`: record `After-push`\n  has no field `new`')
-TESTS = ('test a::b ... ok\ntest a::c ... FAILED\n\n    test stopped at src/held.rt:8:5\n'
-         f'    all memory cannot be held here: {quick.HELD}\n{{}}test result: FAILED. 1 passed\n')
 
 
 def fails(call, *given):
@@ -111,13 +100,12 @@ def on_edits(place):
     yield 'edits are parted by empty lines', read(EDIT + '\n\n' + EDIT) == [one, one]
     for old, new in NO_EDIT:
         yield f'{new} for {old}', fails(read, EDIT.replace(old, new))
-    for after, changed in (('', None), ('after: third\n', None), ('after:     1\n', None),
-                           ('after: second\n', 'first\n    1\nsecond\n    2\n    1\n')):
-        write_text(os.path.join(place, 'src', 'lib.rt'), TWICE)
-        edit = read(EDIT.replace('old:', after + 'old:'))
-        yield f'a text that is more than once, {after}', (
-            texts_with(place, edit) == {'src/lib.rt': changed} if changed else fails(texts_with, place, edit))
-        yield 'two edits of one text', fails(texts_with, place, edit * 2)
+    write_text(os.path.join(place, 'src', 'lib.rt'), 'first\n    1\nsecond\n    1\n    1\n')
+    yield 'a text that is more than once', fails(texts_with, place, [one])
+    after = one._replace(changes=[change._replace(after='second\n')])
+    yield 'a text behind another', texts_with(place, [after]) == {
+        'src/lib.rt': 'first\n    1\nsecond\n    2\n    1\n'}
+    yield 'two edits of one text', fails(texts_with, place, [after, after])
 
 
 def on_changes(place):
@@ -130,8 +118,7 @@ def on_changes(place):
     def edit(name, old, new, touches=()):
         return Edit(name, [Goal('toy', name, 'returns')], [Change('src/lib.rt', old, new)], touches)
 
-    size, length = edit('size', "b('{'", "i('{'"), edit('len', '  c\n', '  i\n')
-    limit = edit('g', '> Kept', '>')
+    size, length, limit = edit('size', "b('{'", "i('{'"), edit('len', '  c\n', '  i\n'), edit('g', '> K', '>')
     with mock.patch.object(edits, 'crate_folder', lambda crate: place):
         for group, sizes in (([size, length], [2]), ([size, size], [1, 1]), ([length, limit], [1, 1]),
                              ([length, limit._replace(touches=('usize',))], [1, 1]),
@@ -140,43 +127,14 @@ def on_changes(place):
 
 
 def on_said():
-    yield 'answers of a function', said.answers_of('proofs/tree/Tree/+add/Answers.antt') == 'tree::Tree::add'
-    yield 'a file of lemmas', said.answers_of('proofs/Trees.antt') is None
     yield 'an open goal', said.refused_in('toy', NOTE) == {'row': {'returns-clause-insert'}}
     yield 'what is proved', [said.is_proved('toy', name, NOTE) for name in ('other', 'row')] == [True, False]
-    short = 'run::laws::short'
-    yield 'a goal left out', said.open_goals('toy', short, LEFT_OUT) == {'returns-clause-replies'}
-    yield 'a lemma refused', not said.ill_formed(LEFT_OUT) and not said.refused_in('toy', LEFT_OUT)[short]
     for line in NO_REFUSAL:
         yield line, (said.ill_formed(line) == [line.replace('\n  ', ' ')]
                      and said.refused_in('toy', line).get('a') is None)
 
 
-def on_copies():
-    """Of a row of this repository, what stands on a change is copied, and nothing else."""
-    files = Files('inlinable_string', 'inline_model')
-    goal = Goal('inline_model', 'worked::room::shrinking_is_free', 'returns')
-    edit = Edit('any', [goal], [Change('specs/Run.antt', 'a', 'b')])
-    trial, = trials_of('inlinable_string', files, edit)
-    kept = ' Rattle.inlinable_string.specs.declared.run.{b} crate::proofs::Sizes'
-    yield 'what is copied', {'Run', 'Text'} & {file.name for file in trial.copied} == {'Run'}
-    yield 'what cites a copy', (
-        files.citing('Rattle.inlinable_string.specs.Run.{a}' + kept, 7, trial.copied)
-        == 'Rattle.inline_model.specs.E7Run.{a}' + kept)
-
-
-def on_quick():
-    for more, counted in (('', (1, 0, 1)), ('test a::d ... FAILED\n    other\n', (1, 1, 1))):
-        yield f'tests that end, {more}', quick.counted(TESTS.format(more)) == counted
-    yield 'tests that do not', quick.counted('test a::b ... ok\n') == (1, 1, 0)
-    yield 'what a test says', quick.HELD in text_of(in_tree('crates/test_support/src/hoard.rt'))
-    with mock.patch.object(quick, 'run_rt', lambda *words: (TESTS.format(''), 4)):
-        for tried, is_well in (((1, 1), True), ((2, 1), False), ((1, 0), False)):
-            with mock.patch.dict(quick.TRIED, toy=tried):
-                yield f'{tried} tests', quick.tests_pass('toy')[0] == is_well
-
-
 def shown():
     with tempfile.TemporaryDirectory() as place:
         os.mkdir(os.path.join(place, 'src'))
-        yield from [*on_floors(), *on_edits(place), *on_changes(place), *on_said(), *on_copies(), *on_quick()]
+        yield from [*on_floors(), *on_edits(place), *on_changes(place), *on_said()]

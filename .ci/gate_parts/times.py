@@ -23,7 +23,7 @@ def ticks(process):
     """What a process and all that it started have taken of the processor so far."""
     try:
         own = text_of(f'/proc/{process}/stat').rpartition(')')[2].split()[11:15]
-        started = [child for path in glob(f'/proc/{process}/task/*/children') for child in text_of(path).split()]
+        started = ' '.join(map(text_of, glob(f'/proc/{process}/task/*/children'))).split()
     except OSError:  # it has ended, and is in the ticks of what started it
         return 0
     return sum(map(int, own)) + sum(map(ticks, started))
@@ -52,10 +52,10 @@ def main(words):
     given = options('times', __doc__, words, 'crate', '--test', '--only')
     if given.crate not in crates_with('src'):
         raise Failure(f'there is no crate {given.crate}')
-    asked = ['--test'] * given.test + ['--only', given.only] * bool(given.only)
     with copies([given.crate], 1) as (room,):
-        forget(crate_folder(given.crate, room))
-        costs = timed(crate_folder(given.crate, room), asked)
+        folder = crate_folder(given.crate, room)
+        forget(folder)
+        costs = timed(folder, ['--test'] * given.test + ['--only', given.only] * bool(given.only))
     for function, seconds in sorted(costs.items(), key=lambda each: -each[1]):
         print(f'{seconds:7.1f} s  {function}')
     print(f'{sum(costs.values()):7.1f} s  in all')

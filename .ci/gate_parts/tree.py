@@ -20,9 +20,8 @@ def crate_folder(crate, top=TOP):
 
 def run_rt(folder, *words):
     """What a command of `rt` prints in a crate's folder, and its exit status."""
-    ran = subprocess.run(['rt', *words], cwd=folder, stdin=subprocess.DEVNULL,
-                         stdout=subprocess.PIPE, stderr=subprocess.STDOUT,
-                         encoding='utf-8', errors='replace')
+    ran = subprocess.run(['rt', *words], cwd=folder, stdin=subprocess.DEVNULL, stdout=subprocess.PIPE,
+                         stderr=subprocess.STDOUT, encoding='utf-8', errors='replace')
     return ran.stdout, ran.returncode
 
 
@@ -36,24 +35,19 @@ def write_text(path, text):
         writing.write(text)
 
 
-def dependencies():
-    """By crate of the repository, the crates of the repository that it uses."""
-    named = {}
+def with_those_below(crates):
+    """The crates, and all of the repository that they stand on."""
+    uses, found, left = {}, set(), list(crates)
     for line in text_of(in_tree('crates.txt')).splitlines():
         crate, colon, used = line.split('#')[0].partition(':')
         if colon:
-            named[crate.split()[0]] = used.split()
-    return {crate: [other for other in used if other in named] for crate, used in named.items()}
-
-
-def with_those_below(crates):
-    """The crates, and all that they stand on."""
-    uses, found, left = dependencies(), set(), list(crates)
+            uses[crate.split()[0]] = used.split()
     while left:
         crate = left.pop()
-        if crate not in uses:
+        if crate in crates and crate not in uses:
             raise Failure(f'crates.txt has no crate {crate}')
-        if crate not in found:
+        # (what is no crate of the repository is the kit's)
+        if crate in uses and crate not in found:
             found.add(crate)
             left += uses[crate]
     return found
@@ -61,5 +55,5 @@ def with_those_below(crates):
 
 def crates_with(folder):
     """The crates that have such a folder, in order."""
-    crates = sorted(os.listdir(in_tree('crates')))
-    return [crate for crate in crates if os.path.isdir(os.path.join(crate_folder(crate), folder))]
+    return [crate for crate in sorted(os.listdir(in_tree('crates')))
+            if os.path.isdir(os.path.join(crate_folder(crate), folder))]
