@@ -8,171 +8,54 @@ use test_support::letters::{
     LETTERS_26 as A26, LETTERS_27 as A27, LETTERS_29 as A29, LETTERS_30 as A30, LETTERS_31 as A31,
 };
 
-const CUT: &[List] = &[
+const CUT: &[List] = rows! {
     ("", &[]),
-    ("", &[(Pop, NoChar, "", AsMade)]),
-    ("foo", &[(Truncate(1), Done, "f", AsMade)]),
-    ("hello", &[(Truncate(2), Done, "he", AsMade)]),
-    ("foo", &[(Clear, Done, "", AsMade)]),
-    (
-        "foo",
-        &[
-            (Pop, Char('o'), "fo", AsMade),
-            (Pop, Char('o'), "f", AsMade),
-            (Pop, Char('f'), "", AsMade),
-            (Pop, NoChar, "", AsMade),
-        ],
-    ),
-    (
-        "foo",
-        &[
-            (Remove(0), Char('f'), "oo", AsMade),
-            (Remove(1), Char('o'), "o", AsMade),
-            (Remove(0), Char('o'), "", AsMade),
-        ],
-    ),
-    (
-        "x",
-        &[
-            (PushStr("y"), Done, "xy", AsMade),
-            (Remove(0), Char('x'), "y", AsMade),
-            (Pop, Char('y'), "", AsMade),
-            (Pop, NoChar, "", AsMade),
-        ],
-    ),
-];
+    ("foo", &[(Truncate(1), Done, "f", AsMade), (Clear, Done, "", AsMade),
+        (Pop, NoChar, "", AsMade)]),
+    ("foo", &[(Pop, Char('o'), "fo", AsMade), (Pop, Char('o'), "f", AsMade),
+        (Pop, Char('f'), "", AsMade)]),
+    ("foo", &[(Remove(0), Char('f'), "oo", AsMade), (Remove(1), Char('o'), "o", AsMade),
+        (Remove(0), Char('o'), "", AsMade)]),
+    // The end is no place to remove from.
+    ("aé", &[(Remove(1), Char('é'), "a", AsMade), (Remove(1), BadPlace, "a", AsMade)]),
+    // What is put in is taken out whole.
+    ("aé", &[(Insert(1, '€'), Done, "a€é", AsMade), (Remove(2), BadPlace, "a€é", AsMade),
+        (Remove(1), Char('€'), "aé", AsMade)]),
+};
 
 #[test]
 fn texts_are_cut(rt: HostRuntime) {
     assert_each(&rt, rt.alloc(), CUT);
 }
 
-const PLACES: &[List] = &[
-    // The end is no place to remove from.
-    (
-        "aé",
-        &[
-            (Remove(1), Char('é'), "a", AsMade),
-            (Remove(1), BadPlace, "a", AsMade),
-        ],
-    ),
-    // The middle of a character is no place.
-    (
-        "é",
-        &[
-            (Insert(1, 'x'), BadPlace, "é", AsMade),
-            (Truncate(1), BadPlace, "é", AsMade),
-            (Truncate(3), BadPlace, "é", AsMade),
-            (Truncate(2), Done, "é", AsMade),
-        ],
-    ),
-    // What is put in is taken out whole.
-    (
-        "aé",
-        &[
-            (Insert(1, '€'), Done, "a€é", AsMade),
-            (Remove(2), BadPlace, "a€é", AsMade),
-            (Remove(1), Char('€'), "aé", AsMade),
-        ],
-    ),
-];
-
-#[test]
-fn places_follow_the_text(rt: HostRuntime) {
-    assert_each(&rt, rt.alloc(), PLACES);
-}
-
-const REPLACED: &[List] = &[
-    (
-        "é",
-        &[
-            (ReplaceBytes(&[0xFF]), WrongLength, "é", AsMade),
-            (ReplaceBytes(&[]), WrongLength, "é", AsMade),
-            (ReplaceBytes(&[0xC3, 0x61]), NotUtf8, "é", AsMade),
-            (ReplaceBytes(&[0x61, 0x62]), Done, "ab", AsMade),
-        ],
-    ),
-    ("hello", &[(ReplaceBytes(b"olleh"), Done, "olleh", AsMade)]),
-    // The number of bytes is tested before they are.
-    (
-        "",
-        &[
-            (ReplaceBytes(b"a"), WrongLength, "", AsMade),
-            (ReplaceBytes(b"\xFF"), WrongLength, "", AsMade),
-            (ReplaceBytes(b""), Done, "", AsMade),
-        ],
-    ),
-    (
-        "a",
-        &[
-            (ReplaceBytes(b""), WrongLength, "a", AsMade),
-            (ReplaceBytes(b"\xC3\xA9"), WrongLength, "a", AsMade),
-        ],
-    ),
-    (
-        "é",
-        &[
-            (ReplaceBytes(b"a"), WrongLength, "é", AsMade),
-            (ReplaceBytes(b"\xC3"), WrongLength, "é", AsMade),
-            (ReplaceBytes(b"\xFF\xFF\xFF"), WrongLength, "é", AsMade),
-        ],
-    ),
-    (
-        "aé€𝄞",
-        &[(ReplaceBytes(b"0123456789a"), WrongLength, "aé€𝄞", AsMade)],
-    ),
-];
+/// The number of bytes is tested before they are.
+const REPLACED: &[List] = rows! {
+    ("é", &[(ReplaceBytes(b"a"), WrongLength, "é", AsMade),
+        (ReplaceBytes(&[0xFF]), WrongLength, "é", AsMade),
+        (ReplaceBytes(b"\xFF\xFF\xFF"), WrongLength, "é", AsMade),
+        (ReplaceBytes(&[]), WrongLength, "é", AsMade),
+        (ReplaceBytes(&[0xC3, 0x61]), NotUtf8, "é", AsMade),
+        (ReplaceBytes(b"ab"), Done, "ab", AsMade)]),
+    ("a", &[(ReplaceBytes(b""), WrongLength, "a", AsMade),
+        (ReplaceBytes(b"\xC3\xA9"), WrongLength, "a", AsMade)]),
+    ("", &[(ReplaceBytes(b"a"), WrongLength, "", AsMade),
+        (ReplaceBytes(b"\xFF"), WrongLength, "", AsMade), (ReplaceBytes(b""), Done, "", AsMade)]),
+};
 
 #[test]
 fn bytes_are_replaced_by_as_many_that_are_utf_8(rt: HostRuntime) {
     assert_each(&rt, rt.alloc(), REPLACED);
 }
 
-const CUT_ON_THE_HEAP: &[List] = &[
+const A27_EURO_B: &str = "aaaaaaaaaaaaaaaaaaaaaaaaaaa€b";
+
+const CUT_ON_THE_HEAP: &[List] = rows! {
     // Each cut leaves 30 bytes or fewer of 31.
-    (
-        A31,
-        &[
-            (Pop, Char('a'), A30, OnHeap),
-            (Remove(0), Char('a'), A29, OnHeap),
-            (Truncate(1), Done, "a", OnHeap),
-            (Clear, Done, "", OnHeap),
-            (Pop, NoChar, "", OnHeap),
-        ],
-    ),
-    (
-        "",
-        &[
-            (PushStr(A27), Done, A27, AsMade),
-            (PushStr("€"), Done, "aaaaaaaaaaaaaaaaaaaaaaaaaaa€", AsMade),
-            (PushStr("b"), Done, "aaaaaaaaaaaaaaaaaaaaaaaaaaa€b", OnHeap),
-            (
-                Truncate(28),
-                BadPlace,
-                "aaaaaaaaaaaaaaaaaaaaaaaaaaa€b",
-                OnHeap,
-            ),
-            (Truncate(27), Done, A27, OnHeap),
-            (Pop, Char('a'), A26, OnHeap),
-        ],
-    ),
-    (
-        "",
-        &[
-            (PushStr("hello world"), Done, "hello world", AsMade),
-            (Truncate(5), Done, "hello", AsMade),
-            (Pop, Char('o'), "hell", AsMade),
-            (Truncate(9), BadPlace, "hell", AsMade),
-            (
-                PushStr("abcdefghijklmnopqrstuvwxyz0"),
-                Done,
-                "hellabcdefghijklmnopqrstuvwxyz0",
-                OnHeap,
-            ),
-            (Pop, Char('0'), "hellabcdefghijklmnopqrstuvwxyz", OnHeap),
-        ],
-    ),
-];
+    (A31, &[(Pop, Char('a'), A30, OnHeap), (Remove(0), Char('a'), A29, OnHeap),
+        (Truncate(1), Done, "a", OnHeap), (Clear, Done, "", OnHeap), (Pop, NoChar, "", OnHeap)]),
+    (A27, &[(PushStr("€b"), Done, A27_EURO_B, OnHeap), (Truncate(28), BadPlace, A27_EURO_B, OnHeap),
+        (Truncate(27), Done, A27, OnHeap), (Pop, Char('a'), A26, OnHeap)]),
+};
 
 #[test]
 fn a_cut_does_not_bring_a_text_back_from_the_heap(rt: HostRuntime) {

@@ -4,7 +4,7 @@ use crate::player::{
 };
 use crate::steps::List;
 use crate::steps::Where::{AsMade, OnHeap, Shrunk};
-use crate::texts::{LONG, whole_of};
+use crate::texts::{LONG, SMALL_AND_LONG, whole_of};
 use inlinable_string::run::Command::{
     Clear, Insert, InsertStr, Pop, Push, PushStr, Remove, ReplaceBytes, Reserve, ReserveExact,
     ShrinkToFit, Truncate,
@@ -12,60 +12,23 @@ use inlinable_string::run::Command::{
 use inlinable_string::run::Reply::{Char, Done, NotUtf8, WrongLength};
 use test_support::letters::{LETTERS_30 as A30, LETTERS_31 as A31};
 
-const GROWN: &[List] = &[
-    ("", &[(Push('a'), Done, "a", AsMade)]),
-    ("foo", &[(PushStr("bar"), Done, "foobar", AsMade)]),
-    ("hello", &[(PushStr(" world"), Done, "hello world", AsMade)]),
-    ("foo", &[(Insert(2, 'f'), Done, "fofo", AsMade)]),
-    ("foo", &[(InsertStr(2, "bar"), Done, "fobaro", AsMade)]),
-    (
-        "abc",
-        &[
-            (Push('1'), Done, "abc1", AsMade),
-            (Push('2'), Done, "abc12", AsMade),
-            (Push('3'), Done, "abc123", AsMade),
-        ],
-    ),
-    // The empty text fits a full one.
-    (
-        A30,
-        &[
-            (PushStr(""), Done, A30, AsMade),
-            (InsertStr(30, ""), Done, A30, AsMade),
-        ],
-    ),
-];
-
-#[test]
-fn texts_grow(rt: HostRuntime) {
-    assert_each(&rt, rt.alloc(), GROWN);
-}
-
 /// Each command, given to an empty text, and past 30 bytes.
-const EVERY_COMMAND: &[List] = &[(
-    "",
-    &[
-        (PushStr(""), Done, "", AsMade),
-        (Push('é'), Done, "é", AsMade),
-        (PushStr("fg"), Done, "éfg", AsMade),
-        (Insert(2, 'x'), Done, "éxfg", AsMade),
+const EVERY_COMMAND: &[List] = rows! {
+    ("", &[(PushStr(""), Done, "", AsMade), (Push('é'), Done, "é", AsMade),
+        (PushStr("fg"), Done, "éfg", AsMade), (Insert(2, 'x'), Done, "éxfg", AsMade),
         (InsertStr(0, "ab"), Done, "abéxfg", AsMade),
         // Cuts.
-        (Remove(2), Char('é'), "abxfg", AsMade),
-        (Truncate(3), Done, "abx", AsMade),
+        (Remove(2), Char('é'), "abxfg", AsMade), (Truncate(3), Done, "abx", AsMade),
         (Pop, Char('x'), "ab", AsMade),
         // Replacements.
         (ReplaceBytes(b"a"), WrongLength, "ab", AsMade),
         (ReplaceBytes(&[0xC3, 0x61]), NotUtf8, "ab", AsMade),
         (ReplaceBytes(b"yz"), Done, "yz", AsMade),
         // Room.
-        (Reserve(28), Done, "yz", AsMade),
-        (ShrinkToFit, Done, "yz", Shrunk),
-        (ReserveExact(29), Done, "yz", OnHeap),
-        (ShrinkToFit, Done, "yz", Shrunk),
-        (Clear, Done, "", Shrunk),
-    ],
-)];
+        (Reserve(28), Done, "yz", AsMade), (ShrinkToFit, Done, "yz", Shrunk),
+        (ReserveExact(29), Done, "yz", OnHeap), (ShrinkToFit, Done, "yz", Shrunk),
+        (Clear, Done, "", Shrunk)]),
+};
 
 #[test]
 fn each_command_is_given_to_each_kind_of_text(rt: HostRuntime) {
@@ -83,72 +46,28 @@ fn a_text_goes_from_inline_to_the_heap_letter_by_letter(rt: HostRuntime) {
 /// 28 bytes.
 const ADDED: &str = "0123456789012345678901234567";
 
-/// "small" and `LONG`.
-const SMALL_AND_LONG: &str = "smallthis is a really long string that is much larger than
-                        INLINE_STRING_CAPACITY and so cannot be stored inline.";
+const FOO_AND_ADDED: &str = "foo0123456789012345678901234567";
 
-/// "hi world" and `LONG`.
-const HI_WORLD_AND_LONG: &str = "hi worldthis is a really long string that is much larger than
-                        INLINE_STRING_CAPACITY and so cannot be stored inline.";
+const ADDED_IN_FOO: &str = "f0123456789012345678901234567oo";
 
-const OUTGROWN: &[List] = &[
-    (
-        "foo",
-        &[(
-            PushStr(ADDED),
-            Done,
-            "foo0123456789012345678901234567",
-            OnHeap,
-        )],
-    ),
-    (
-        "foo",
-        &[
-            (
-                InsertStr(1, ADDED),
-                Done,
-                "f0123456789012345678901234567oo",
-                OnHeap,
-            ),
-            // Past the capacity.
-            (
-                InsertStr(30, ADDED),
-                Done,
-                "f0123456789012345678901234567o0123456789012345678901234567o",
-                OnHeap,
-            ),
-        ],
-    ),
-    (
-        "",
-        &[
-            (PushStr("small"), Done, "small", AsMade),
-            (PushStr(LONG), Done, SMALL_AND_LONG, OnHeap),
-        ],
-    ),
+const ADDED_TWICE: &str = "f0123456789012345678901234567o0123456789012345678901234567o";
+
+const GROWN: &[List] = rows! {
+    ("foo", &[(PushStr("bar"), Done, "foobar", AsMade)]),
+    ("foo", &[(Insert(2, 'f'), Done, "fofo", AsMade)]),
+    ("foo", &[(InsertStr(2, "bar"), Done, "fobaro", AsMade)]),
+    // The empty text fits a full one.
+    (A30, &[(PushStr(""), Done, A30, AsMade), (InsertStr(30, ""), Done, A30, AsMade)]),
+    ("foo", &[(PushStr(ADDED), Done, FOO_AND_ADDED, OnHeap)]),
+    // Past the capacity, too.
+    ("foo", &[(InsertStr(1, ADDED), Done, ADDED_IN_FOO, OnHeap),
+        (InsertStr(30, ADDED), Done, ADDED_TWICE, OnHeap)]),
     ("small", &[(PushStr(LONG), Done, SMALL_AND_LONG, OnHeap)]),
-    (
-        "hi world",
-        &[(PushStr(LONG), Done, HI_WORLD_AND_LONG, OnHeap)],
-    ),
-    (
-        "inline",
-        &[(PushStr("it works!"), Done, "inlineit works!", AsMade)],
-    ),
-    (
-        "this is a plain std::string::String",
-        &[(
-            PushStr("it works!"),
-            Done,
-            "this is a plain std::string::Stringit works!",
-            OnHeap,
-        )],
-    ),
-];
+};
 
 #[test]
-fn texts_outgrow_the_limit_in_the_middle_and_at_the_end(rt: HostRuntime) {
-    assert_each(&rt, rt.alloc(), OUTGROWN);
+fn texts_grow_and_outgrow_the_limit_in_the_middle_and_at_the_end(rt: HostRuntime) {
+    assert_each(&rt, rt.alloc(), GROWN);
 }
 
 const TEN: &str = "0123456789";
@@ -159,44 +78,25 @@ const CB: &str = "caaaaaaaaaaaaaaaaaaaaaaaaaaaaaaab";
 
 const CB_TEN: &str = "caaaaaaaaaaaaaaaaaaaaaaaaaaaaaaab0123456789";
 
+/// 53 bytes.
 const TEN_CB_TEN: &str = "0123456789caaaaaaaaaaaaaaaaaaaaaaaaaaaaaaab0123456789";
 
 /// Growths past the capacity, one after the other, and after a shrink each.
-const GROWN_ON_THE_HEAP: &[List] = &[
-    (
-        A31,
-        &[
-            (Insert(0, 'c'), Done, C, OnHeap),
-            (Push('b'), Done, CB, OnHeap),
-            (PushStr(TEN), Done, CB_TEN, OnHeap),
-            (InsertStr(0, TEN), Done, TEN_CB_TEN, OnHeap),
-            (Reserve(100), Done, TEN_CB_TEN, OnHeap),
-            (ReserveExact(1000), Done, TEN_CB_TEN, OnHeap),
-            (ShrinkToFit, Done, TEN_CB_TEN, OnHeap),
-        ],
-    ),
-    (
-        A31,
-        &[
-            (ShrinkToFit, Done, A31, OnHeap),
-            (Insert(0, 'c'), Done, C, OnHeap),
-            (ShrinkToFit, Done, C, OnHeap),
-            (Push('b'), Done, CB, OnHeap),
-            (ShrinkToFit, Done, CB, OnHeap),
-            (PushStr(TEN), Done, CB_TEN, OnHeap),
-            (ShrinkToFit, Done, CB_TEN, OnHeap),
-            (InsertStr(0, TEN), Done, TEN_CB_TEN, OnHeap),
-            (ShrinkToFit, Done, TEN_CB_TEN, OnHeap),
-            (Reserve(50), Done, TEN_CB_TEN, OnHeap),
-            (ShrinkToFit, Done, TEN_CB_TEN, OnHeap),
-            (ReserveExact(50), Done, TEN_CB_TEN, OnHeap),
-        ],
-    ),
-];
+const GROWN_ON_THE_HEAP: &[List] = rows! {
+    (A31, &[(Insert(0, 'c'), Done, C, OnHeap), (Push('b'), Done, CB, OnHeap),
+        (PushStr(TEN), Done, CB_TEN, OnHeap), (InsertStr(0, TEN), Done, TEN_CB_TEN, OnHeap),
+        (Reserve(100), Done, TEN_CB_TEN, OnHeap), (ReserveExact(1000), Done, TEN_CB_TEN, OnHeap),
+        (ShrinkToFit, Done, TEN_CB_TEN, OnHeap)]),
+    (A31, &[(ShrinkToFit, Done, A31, OnHeap), (Insert(0, 'c'), Done, C, OnHeap),
+        (ShrinkToFit, Done, C, OnHeap), (Push('b'), Done, CB, OnHeap),
+        (ShrinkToFit, Done, CB, OnHeap), (PushStr(TEN), Done, CB_TEN, OnHeap),
+        (ShrinkToFit, Done, CB_TEN, OnHeap), (InsertStr(0, TEN), Done, TEN_CB_TEN, OnHeap),
+        (ShrinkToFit, Done, TEN_CB_TEN, OnHeap), (Reserve(50), Done, TEN_CB_TEN, OnHeap),
+        (ShrinkToFit, Done, TEN_CB_TEN, OnHeap), (ReserveExact(50), Done, TEN_CB_TEN, OnHeap)]),
+};
 
 #[test]
 fn a_text_on_the_heap_goes_on_growing(rt: HostRuntime) {
-    assert!(rt; TEN_CB_TEN.len() == 53);
     assert_each(&rt, rt.alloc(), GROWN_ON_THE_HEAP);
 }
 

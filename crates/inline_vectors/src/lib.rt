@@ -1,6 +1,14 @@
 //! Tests over the public calls of `inlinable_string`, with the values that they must give.
 #![tactic(auto)]
 
+/// A table, of which each row is one line where it can be.
+#[cfg(test)]
+macro_rules! rows {
+    ($($row:expr,)*) => {
+        &[$($row),*]
+    };
+}
+
 #[cfg(test)]
 mod beside;
 #[cfg(test)]

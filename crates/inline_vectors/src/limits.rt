@@ -8,6 +8,7 @@ use crate::player::{
 use crate::steps::Where::{AsMade, OnHeap, Shrunk};
 use crate::steps::{List, one_step, where_at};
 use crate::texts::{text_of, whole_of};
+use crate::ways::HEAP_ROOM;
 use inlinable_string::run::Command::{
     Insert, InsertStr, Pop, Push, PushStr, ReplaceBytes, Reserve, ReserveExact, ShrinkToFit,
 };
@@ -15,27 +16,13 @@ use inlinable_string::run::Reply::{Char, Done, NoMemory, WrongLength};
 use inlinable_string::{InlinableString, StringExt};
 use std::alloc::Global;
 use std::process::Abort;
-use test_support::step::HEAP_ROOM;
 
-const WITHIN_0: &[List] = &[
-    (
-        "",
-        &[
-            (Push('a'), Done, "a", OnHeap),
-            (ShrinkToFit, Done, "a", OnHeap),
-            (Pop, Char('a'), "", OnHeap),
-            (ShrinkToFit, Done, "", Shrunk),
-        ],
-    ),
-    (
-        "",
-        &[
-            (PushStr(""), Done, "", AsMade),
-            (ReplaceBytes(b"a"), WrongLength, "", AsMade),
-            (ReplaceBytes(b""), Done, "", AsMade),
-        ],
-    ),
-];
+const WITHIN_0: &[List] = rows! {
+    ("", &[(Push('a'), Done, "a", OnHeap), (ShrinkToFit, Done, "a", OnHeap),
+        (Pop, Char('a'), "", OnHeap), (ShrinkToFit, Done, "", Shrunk)]),
+    ("", &[(PushStr(""), Done, "", AsMade), (ReplaceBytes(b"a"), WrongLength, "", AsMade),
+        (ReplaceBytes(b""), Done, "", AsMade)]),
+};
 
 const MADE_WITHIN_0: Kinds = (&[Inlinable], 0, &[Some(0), Some(1)]);
 
@@ -48,23 +35,13 @@ fn with_no_room_inline_only_the_empty_text_is_inline(rt: HostRuntime) {
 
 const WITHIN_3: &[List] = &[("", &[(Push('𝄞'), Done, "𝄞", OnHeap)])];
 
-const WITHIN_4: &[List] = &[(
-    "",
-    &[
-        (Push('𝄞'), Done, "𝄞", AsMade),
-        (Push('a'), Done, "𝄞a", OnHeap),
-    ],
-)];
+const WITHIN_4: &[List] =
+    rows! { ("", &[(Push('𝄞'), Done, "𝄞", AsMade), (Push('a'), Done, "𝄞a", OnHeap)]), };
 
-const WITHIN_8: &[List] = &[(
-    "1234",
-    &[
-        (Reserve(4), Done, "1234", AsMade),
-        (ReserveExact(4), Done, "1234", AsMade),
-        (Reserve(5), Done, "1234", OnHeap),
-        (ReserveExact(5), Done, "1234", OnHeap),
-    ],
-)];
+const WITHIN_8: &[List] = rows! {
+    ("1234", &[(Reserve(4), Done, "1234", AsMade), (ReserveExact(4), Done, "1234", AsMade),
+        (Reserve(5), Done, "1234", OnHeap), (ReserveExact(5), Done, "1234", OnHeap)]),
+};
 
 #[test]
 fn characters_and_reservations_go_by_the_limit_of_the_type(rt: HostRuntime) {

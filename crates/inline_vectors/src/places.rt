@@ -4,11 +4,11 @@ use crate::kinds::Kind::Inlinable;
 use crate::player::{EVERYWHERE, Kinds, assert_right, play_each_alone, within};
 use crate::steps::Where::{AsMade, OnHeap};
 use crate::steps::{List, Step};
+use crate::ways::HEAP_ROOM;
 use inlinable_string::run::Command::{Insert, InsertStr, Remove, Truncate};
 use inlinable_string::run::Reply::{BadPlace, Char, Done};
 use std::alloc::Global;
 use std::process::Abort;
-use test_support::step::HEAP_ROOM;
 
 /// A character of each length. Its places are 0, 1, 3, 6 and 10.
 const TEXT: &str = "aé€𝄞";
@@ -36,19 +36,16 @@ const INSERTED: &[Step] = inserted!(AsMade);
 /// The same in a text that is full.
 const OUTGROWN: &[Step] = inserted!(OnHeap);
 
-const CUT: &[Step] = &[
-    (Truncate(0), Done, "", AsMade),
-    (Truncate(1), Done, "a", AsMade),
+const CUT: &[Step] = rows! {
+    (Truncate(0), Done, "", AsMade), (Truncate(1), Done, "a", AsMade),
     (Truncate(3), Done, "aé", AsMade),
-    (Truncate(6), Done, "aé€", AsMade),
-    (Truncate(10), Done, TEXT, AsMade),
+    (Truncate(6), Done, "aé€", AsMade), (Truncate(10), Done, TEXT, AsMade),
     (Remove(0), Char('a'), "é€𝄞", AsMade),
-    (Remove(1), Char('é'), "a€𝄞", AsMade),
-    (Remove(3), Char('€'), "aé𝄞", AsMade),
+    (Remove(1), Char('é'), "a€𝄞", AsMade), (Remove(3), Char('€'), "aé𝄞", AsMade),
     (Remove(6), Char('𝄞'), "aé€", AsMade),
     // None begins at the end.
     (Remove(10), BadPlace, TEXT, AsMade),
-];
+};
 
 /// Offsets that are no places.
 const OTHERS: &[usize] = &[2, 4, 5, 7, 8, 9, 11, usize::MAX];

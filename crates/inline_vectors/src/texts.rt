@@ -11,6 +11,13 @@ use test_support::EmptyText;
 pub const LONG: &str = "this is a really long string that is much larger than
                         INLINE_STRING_CAPACITY and so cannot be stored inline.";
 
+/// 40 bytes.
+pub const TEN_CLEFS: &str = "𝄞𝄞𝄞𝄞𝄞𝄞𝄞𝄞𝄞𝄞";
+
+/// "small" and `LONG`.
+pub const SMALL_AND_LONG: &str = "smallthis is a really long string that is much larger than
+                        INLINE_STRING_CAPACITY and so cannot be stored inline.";
+
 /// The text with this content, made with room for `room` bytes, or new where that is `None`.
 pub fn text_of<S: EmptyText + Drop>(
     rt: &impl Abort,
@@ -20,20 +27,6 @@ pub fn text_of<S: EmptyText + Drop>(
 ) -> S {
     let mut text = S::empty(alloc, room).expect(rt, "memory");
     text.push_str(content).expect(rt, "memory");
-    text
-}
-
-/// The text of so many letters 'a', made as by `text_of`.
-pub fn letters<S: EmptyText + Drop>(
-    rt: &impl Abort,
-    alloc: Global,
-    room: Option<usize>,
-    count: usize,
-) -> S {
-    let mut text: S = text_of(rt, alloc, room, "");
-    for _ in 0..count {
-        text.push('a').expect(rt, "memory");
-    }
     text
 }
 
@@ -56,28 +49,24 @@ pub fn is_text<S: StringExt>(text: &S, content: &str) -> bool
         && text.capacity() >= content.len()
 }
 
-/// Whether the text is this and lies there.
+/// Whether the text is this, with this storage.
 pub fn is_lying<S: StringExt>(text: &S, content: &str, storage: Storage) -> bool {
     is_text(text, content) && text.storage() == storage
 }
 
-/// Asserts that no row is wrong, each time that a table was gone through.
-pub fn assert_no_wrong_row(rt: &impl Abort, wrong: &[Option<usize>]) {
-    for (time, row) in wrong.iter().enumerate() {
-        if let Some(row) = row {
-            assert!(rt; false, "row {row}, time {time}");
-        }
-    }
+/// Asserts that no row is wrong.
+pub fn assert_none_wrong(rt: &impl Abort, wrong: Option<usize>) {
+    assert!(rt; wrong.is_none(), "{wrong:?}");
 }
 
-/// Asserts what the text is and where it lies.
+/// Asserts what the text is, and its storage.
 pub fn assert_text<S: StringExt>(rt: &impl Abort, text: &S, content: &str, storage: Storage)
     ensures text { bytes_of (S.state text.now).text ≡ content.now }
     ensures storage { (S.state text.now).storage ≡ storage }
 {
-    let (given, lies) = (text.as_str(), text.storage());
+    let (given, stored) = (text.as_str(), text.storage());
     assert!(rt;
-        is_text(text, content) && lies == storage,
-        "{given}, {lies:?}, is not {content}, {storage:?}"
+        is_text(text, content) && stored == storage,
+        "{given}, {stored:?}, is not {content}, {storage:?}"
     );
 }

@@ -8,7 +8,6 @@ mod heap_text;
 mod hoard;
 pub mod letters;
 mod refusals;
-pub mod step;
 
 pub use array_text::ArrayText;
 pub use empty_text::EmptyText;
