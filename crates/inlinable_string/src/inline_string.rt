@@ -18,6 +18,7 @@ use std::{fmt, str};
 
 mod borrowed;
 mod compared;
+mod joins;
 mod printed;
 #[cfg(test)]
 mod tests;
