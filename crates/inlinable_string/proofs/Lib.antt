@@ -24,3 +24,4 @@ pub mod SecondRun
 pub mod Places
 pub mod Compared
 pub mod Extended
+pub mod Added

@@ -18,6 +18,7 @@ use std::{fmt, str};
 
 mod borrowed;
 mod compared;
+mod joins;
 mod printed;
 
 /// The capacity of an [`InlineString`] in bytes, as in the crate `inlinable_string`.

@@ -107,6 +107,11 @@ pub fn bytes_of_parts()
     ensures string { (bs : List ℕ) → IsUtf8 bs → bytes_of (chars bs) ≡ bs }
 {}
 
+/// The items of `chars` are the characters of its `&str`: no other text has the same bytes.
+pub fn items_are_the_characters()
+    ensures { (bs cs : List ℕ) → IsUtf8 bs → bytes_of cs ≡ bs → cs ≡ chars bs }
+{}
+
 /// How many bytes a text in two parts has, a character at most, and the text of a `&str`.
 pub fn sizes_of_parts()
     ensures joined { (a b : List ℕ) → size (a ++ b) ≡ size a + size b }

@@ -9,8 +9,8 @@ ghost use Rattle.inlinable_string.specs.Joins.{text_of_strs, IsExtended};
 ghost use Rattle.inlinable_string.specs.Values.{inlinable_policy, inlinable_state};
 
 use crate::inlinable_string::InlinableStringN;
-use crate::inlinable_string::joins::assume_utf8_param;
 use crate::string_ext::{StringExt, StringMake};
+use crate::well_formed::assume_utf8_param;
 use std::alloc::{AllocError, Global};
 
 impl<const N: usize> Extend<char> for InlinableStringN<N> {

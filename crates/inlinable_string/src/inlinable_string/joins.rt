@@ -1,5 +1,5 @@
 //! Joining: another text, or the items of an iterator one by one, at the end of a text.
-ghost use Rattle.std.specs.Prelude.{◌≡◌, ◌+◌, ◌≤◌, ◌<◌, ◌++◌, length, true, OnOk, OnErr, IfOk, IfErr, IsOk, IsUtf8};
+ghost use Rattle.std.specs.Prelude.{◌≡◌, ◌+◌, ◌≤◌, ◌<◌, ◌++◌, length, true, OnOk, OnErr, IfOk, IfErr, IsOk};
 ghost use Rattle.std.specs.Char.{is_ascii};
 ghost use Rattle.std.specs.Iterator.{IsFinite};
 ghost use Rattle.std.specs.Iterator.Runs.{SomeRun, WholeRun, EachRunFrom};
@@ -12,6 +12,7 @@ ghost use Rattle.inlinable_string.specs.Values.{inlinable_policy, inlinable_stat
 
 use crate::inlinable_string::InlinableStringN;
 use crate::string_ext::{StringExt, StringMake};
+use crate::well_formed::assume_utf8_param;
 use std::alloc::{AllocError, Global};
 
 impl<const N: usize> InlinableStringN<N> {
@@ -172,12 +173,4 @@ impl<const N: usize> InlinableStringN<N> {
         made.extend_strs(items)?;
         Ok(made)
     }
-}
-
-/// The same string: a `&str` out of an iterator has no fact that it is UTF-8, a parameter has.
-pub(crate) fn assume_utf8_param(string: &str) -> &str
-    ensures value { result.now ≡ string.now }
-    ensures utf8 { IsUtf8 string.now }
-{
-    string
 }

@@ -1,0 +1,96 @@
+//! The items of an iterator, one by one, at the end of a text in an array.
+ghost use Rattle.std.specs.Prelude.{◌≡◌, ◌+◌, ◌≤◌, ◌<◌, ℕ, List, ◌++◌, [], ◌∷◌, OnOk, OnErr, IfOk, IsOk};
+ghost use Rattle.std.specs.Borrow.{Bor};
+ghost use Rattle.std.specs.Iterator.{IsFinite};
+ghost use Rattle.std.specs.Iterator.Runs.{SomeRun, WholeRun, EachRunFrom};
+ghost use Rattle.inlinable_string.specs.Text.{size};
+ghost use Rattle.inlinable_string.specs.Joins.{text_of_strs};
+
+use super::{InlineStringN, NotEnoughSpaceError};
+use crate::well_formed::assume_utf8_param;
+
+impl<const N: usize> InlineStringN<N> {
+    /// Appends the characters of an iterator that ends, one by one. What it says of how many will
+    /// come is not asked for.
+    ///
+    /// Fails at the first character with which the text would have more than `N` bytes; then those
+    /// before it have been appended, and it is lost.
+    pub fn extend_chars<I: Iterator<Item = char>>(
+        &mut self,
+        items: I,
+    ) -> Result<(), NotEnoughSpaceError>
+        requires can { I.can_next items }
+        requires ends { IsFinite (I.remaining items) }
+        ensures ok { OnOk result
+            (WholeRun I.next_gives items (λ run. self.new ≡ self.old ++ run.items)) }
+        ensures err { OnErr result (SomeRun I.next_gives items (λ run.
+            (taken : List ℕ) × (refused : ℕ) × (run.items ≡ taken ++ refused ∷ [])
+            × (self.new ≡ self.old ++ taken) × (N < size self.old + size run.items))) }
+        ensures granted { EachRunFrom I.next_gives items
+            (λ run. size self.old + size run.items ≤ N) → IsOk result }
+    {
+        for ch in items {
+            self.push(ch)?;
+        }
+        Ok(())
+    }
+
+    /// Appends the strings of an iterator that ends, one by one. What it says of how many will come
+    /// is not asked for.
+    ///
+    /// Fails at the first string with which the text would have more than `N` bytes; then those
+    /// before it have been appended, and nothing of it.
+    pub fn extend_strs<'a, I: Iterator<Item = &'a str>>(
+        &mut self,
+        items: I,
+    ) -> Result<(), NotEnoughSpaceError>
+        requires can { I.can_next items }
+        requires ends { IsFinite (I.remaining items) }
+        ensures ok { OnOk result (WholeRun I.next_gives items
+            (λ run. self.new ≡ self.old ++ text_of_strs run.items)) }
+        ensures err { OnErr result (SomeRun I.next_gives items (λ run. (taken : List (Bor (List ℕ)))
+            × (refused : Bor (List ℕ)) × (run.items ≡ taken ++ refused ∷ [])
+            × (self.new ≡ self.old ++ text_of_strs taken)
+            × (N < size self.old + size (text_of_strs run.items)))) }
+        ensures granted { EachRunFrom I.next_gives items
+            (λ run. size self.old + size (text_of_strs run.items) ≤ N) → IsOk result }
+    {
+        for string in items {
+            self.push_str(assume_utf8_param(string))?;
+        }
+        Ok(())
+    }
+
+    /// The text of the characters of an iterator that ends. Fails exactly where it would have more
+    /// than `N` bytes, at the first character with which it has.
+    pub fn from_chars<I: Iterator<Item = char>>(items: I) -> Result<Self, NotEnoughSpaceError>
+        requires can { I.can_next items }
+        requires ends { IsFinite (I.remaining items) }
+        ensures text { IfOk result
+            (λ made. WholeRun I.next_gives items (λ run. made ≡ run.items)) }
+        ensures err { OnErr result (SomeRun I.next_gives items (λ run. N < size run.items)) }
+        ensures granted { EachRunFrom I.next_gives items (λ run. size run.items ≤ N)
+            → IsOk result }
+    {
+        let mut made = Self::new();
+        made.extend_chars(items)?;
+        Ok(made)
+    }
+
+    /// The strings of an iterator that ends, joined. Fails exactly where the text would have more
+    /// than `N` bytes, at the first string with which it has.
+    pub fn from_strs<'a, I: Iterator<Item = &'a str>>(items: I) -> Result<Self, NotEnoughSpaceError>
+        requires can { I.can_next items }
+        requires ends { IsFinite (I.remaining items) }
+        ensures text { IfOk result
+            (λ made. WholeRun I.next_gives items (λ run. made ≡ text_of_strs run.items)) }
+        ensures err { OnErr result (SomeRun I.next_gives items
+            (λ run. N < size (text_of_strs run.items))) }
+        ensures granted { EachRunFrom I.next_gives items
+            (λ run. size (text_of_strs run.items) ≤ N) → IsOk result }
+    {
+        let mut made = Self::new();
+        made.extend_strs(items)?;
+        Ok(made)
+    }
+}
