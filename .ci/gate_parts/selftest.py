@@ -239,6 +239,13 @@ def on_parts(repository):
         yield ' '.join(map(str, row)), repository.is_noticed(*row)
 
 
+def on_options(repository):
+    """Whether each part of the gate, and what is no part of it, tells its options."""
+    _, said = repository.ran('.ci/gate')
+    for part in re.search('PART is one of: (.*)', said)[1].split(', '):
+        yield f'{part} --help', repository.ran('.ci/gate', part, '--help')[0] == 0
+
+
 def on_run(repository):
     """The same of `.ci/run`, which ends at the first part that fails."""
     parts = len(re.findall('^part ', text_of(repository.path('.ci/run')), re.MULTILINE))
@@ -259,7 +266,7 @@ def main(words):
     options('selftest', __doc__, words)
     with tempfile.TemporaryDirectory(prefix='gate-selftest-') as place:
         repository = Repository(place)
-        shown = [*on_parts(repository), *on_run(repository)]
+        shown = [*on_parts(repository), *on_options(repository), *on_run(repository)]
     shown += [*selftest_reading.shown(), *selftest_programs.shown()]
     unnoticed = [f'NOT NOTICED: {what}' for what, is_noticed in shown if not is_noticed]
     print(*unnoticed, f'{len(shown)} things shown, {len(unnoticed)} not', sep='\n')
