@@ -1,7 +1,7 @@
 //! std's `extend` and `collect`, over characters and strings. After a failure the text has the
 //! items before the one that was refused.
 ghost use Rattle.std.specs.Prelude.{◌≡◌, IsOk};
-ghost use Rattle.std.specs.Iterator.{IsFinite, ExtendsWithItems};
+ghost use Rattle.std.specs.Iterator.{IsFinite, HoldsAlong, ExtendsWithItems};
 ghost use Rattle.std.specs.Iterator.Runs.{EachRunFrom};
 ghost use Rattle.inlinable_string.specs.Text.{size};
 ghost use Rattle.inlinable_string.specs.State.{HasRoom, storage_when_made};
@@ -19,7 +19,9 @@ impl<const N: usize> Extend<char> for InlinableStringN<N> {
 
     fn extend<U: IntoIterator<Item = char>>(&mut self, iter: U) -> Result<(), AllocError>
         requires { (it : U.IntoIter) → U.into_iter_gives iter it
-            → U.IntoIter.can_next it × IsFinite (U.IntoIter.remaining it) }
+            → U.IntoIter.can_next it × IsFinite (U.IntoIter.remaining it)
+            × HoldsAlong U.IntoIter.next_gives it
+            (⟦<InlinableStringN<N> as Extend<char>>⟧.can_extend self.old) }
         ensures ran { ExtendsWithItems U.into_iter_gives U.IntoIter.next_gives
             ⟦<InlinableStringN<N> as Extend<char>>⟧.extend_gives iter self.old self.new result }
         // What fits is not refused.
@@ -42,7 +44,9 @@ impl<'a, const N: usize> Extend<&'a str> for InlinableStringN<N> {
 
     fn extend<U: IntoIterator<Item = &'a str>>(&mut self, iter: U) -> Result<(), AllocError>
         requires { (it : U.IntoIter) → U.into_iter_gives iter it
-            → U.IntoIter.can_next it × IsFinite (U.IntoIter.remaining it) }
+            → U.IntoIter.can_next it × IsFinite (U.IntoIter.remaining it)
+            × HoldsAlong U.IntoIter.next_gives it
+            (⟦<InlinableStringN<N> as Extend<&'a str>>⟧.can_extend self.old) }
         ensures ran { ExtendsWithItems U.into_iter_gives U.IntoIter.next_gives
             ⟦<InlinableStringN<N> as Extend<&'a str>>⟧.extend_gives iter self.old self.new result }
         // What fits is not refused.
