@@ -14,6 +14,8 @@ pub mod instances;
 pub mod joined;
 pub mod joins;
 pub mod json;
+pub mod literals;
+pub mod loops;
 pub mod makers;
 pub mod makes;
 pub mod moves;

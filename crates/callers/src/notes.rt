@@ -3,7 +3,6 @@ ghost use Rattle.std.specs.Prelude.{◌≡◌, ◌++◌, OnOk};
 ghost use Rattle.inlinable_string.specs.Text.{bytes_of};
 ghost use Rattle.inlinable_string.specs.Values.{inlinable_state};
 
-use inlinable_string::laws::bytes_of_parts;
 use inlinable_string::{InlinableString, StringExt};
 use std::alloc::AllocError;
 
@@ -33,6 +32,5 @@ pub fn add_bytes(text: &mut InlinableString, string: &str) -> Result<(), AllocEr
     ensures { OnOk result (bytes_of (inlinable_state 30 text.new).text
         ≡ bytes_of (inlinable_state 30 text.old).text ++ string.now) }
 {
-    bytes_of_parts();
     text.push_str(string)
 }

@@ -1,7 +1,6 @@
 //! std's traits on texts and on the errors: what `default` and conversions make, and what is
 //! printed.
-ghost use Rattle.std.specs.Prelude.{◌≡◌, ◌≤◌, ◌↔◌, [], ◌∷◌, length, codes, IfOk, IfSome, IsSome};
-ghost use Rattle.std.specs.Str.{chars};
+ghost use Rattle.std.specs.Prelude.{◌≡◌, ◌≤◌, ◌↔◌, [], ◌∷◌, codes, IfOk, IfSome, IsSome};
 ghost use Rattle.std.specs.String.{string_bytes};
 ghost use Rattle.inlinable_string.specs.Text.{size};
 ghost use Rattle.inlinable_string.specs.BoxableValues.{boxable_state};
@@ -16,14 +15,6 @@ pub fn blank<const N: usize>() -> InlineStringN<N>
     ensures { result ≡ [] }
 {
     InlineStringN::default()
-}
-
-/// A word in an array, or none where it is too long.
-pub fn taken<const N: usize>(word: &str) -> Option<InlineStringN<N>>
-    ensures some { IfSome result (λ made. made ≡ chars word.now) }
-    ensures fits { IsSome result ↔ (length word.now ≤ N) }
-{
-    InlineStringN::try_from(word).ok()
 }
 
 /// A character as a text, or none where the array is too small.

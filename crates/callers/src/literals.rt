@@ -1,0 +1,61 @@
+//! Literals, whose characters a contract says by `codes`.
+ghost use Rattle.std.specs.Prelude.{◌≡◌, ◌<◌, ◌++◌, IfOk, OnOk, codes};
+ghost use Rattle.std.specs.Str.{chars};
+ghost use Rattle.inlinable_string.specs.Text.{bytes_of};
+ghost use Rattle.inlinable_string.specs.Values.{inlinable_state};
+
+use inlinable_string::inline_string::NotEnoughSpaceError;
+use inlinable_string::laws::splices_at_the_ends;
+use inlinable_string::{InlinableString, InlineStringN, StringExt};
+use std::alloc::{AllocError, Global};
+
+/// A word and a space.
+pub fn ship() -> InlineStringN<16>
+    ensures text { result ≡ codes "ship " }
+    ensures bytes { bytes_of result ≡ codes "ship " }
+{
+    InlineStringN::from("ship ")
+}
+
+/// The name of a level of a log.
+pub fn level(number: u8) -> InlineStringN<8>
+    ensures debug { number ≡ 0 → result ≡ codes "debug" }
+    ensures warning { number ≡ 1 → result ≡ codes "warning" }
+    ensures error { 1 < number → result ≡ codes "error" }
+{
+    InlineStringN::from(match number {
+        0 => "debug",
+        1 => "warning",
+        _ => "error",
+    })
+}
+
+/// A key between literals, where all of it fits.
+pub fn option(key: &str) -> Result<InlineStringN<32>, NotEnoughSpaceError>
+    ensures { IfOk result (λ made. made ≡ codes "--" ++ chars key.now ++ codes "=") }
+{
+    let mut made = InlineStringN::try_from("--")?;
+    made.push_str(key)?;
+    made.push_str("=")?;
+    Ok(made)
+}
+
+/// A greeting of any length.
+pub fn greeting(alloc: Global, name: &str) -> Result<InlinableString, AllocError>
+    ensures { IfOk result
+        (λ made. (inlinable_state 30 made).text ≡ codes "Hello, " ++ chars name.now) }
+{
+    let mut made = InlinableString::from(alloc, "Hello, ")?;
+    made.push_str(name)?;
+    Ok(made)
+}
+
+/// A line of a list, in a text of any type.
+pub fn as_item<S: StringExt>(line: &mut S) -> Result<(), AllocError>
+    ensures { OnOk result
+        ((S.state line.new).text ≡ codes "- " ++ (S.state line.old).text ++ codes ";") }
+{
+    splices_at_the_ends();
+    line.insert_str(0, "- ")?;
+    line.push_str(";")
+}

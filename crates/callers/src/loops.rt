@@ -1,0 +1,56 @@
+//! Loops over characters and strings: a call, and one of std's adapters for what the loop does.
+ghost use Rattle.std.specs.Prelude.{◌≡◌, ◌++◌, ◌==◌, if◌then◌else◌, map, filter, reverse, replicate, IfOk, OnOk};
+ghost use Rattle.std.specs.Char.{is_ascii_digit};
+ghost use Rattle.std.specs.Str.{chars};
+ghost use Rattle.inlinable_string.specs.Joins.{text_of_strs};
+
+use inlinable_string::InlineStringN;
+use inlinable_string::inline_string::NotEnoughSpaceError;
+use inlinable_string::laws::items_are_the_characters;
+
+/// A text, and spaces behind it.
+pub fn pad(text: &mut InlineStringN<32>, n: usize) -> Result<(), NotEnoughSpaceError>
+    ensures { OnOk result (text.new ≡ text.old ++ replicate n 32) }
+{
+    text.extend_chars(std::iter::repeat_n(' ', n))
+}
+
+/// A name with `_` in the place of each `-`.
+pub fn as_name(string: &str) -> Result<InlineStringN<16>, NotEnoughSpaceError>
+    ensures { IfOk result (λ made. made ≡ map (λ c. if c == 45 then 95 else c) (chars string.now)) }
+{
+    items_are_the_characters();
+    InlineStringN::from_chars(string.chars().map(|ch| underscored(ch)))
+}
+
+/// What the closure does: in a function, so that a contract says it.
+fn underscored(ch: char) -> char
+    ensures { result ≡ (if ch == 45 then 95 else ch) }
+{
+    if ch == '-' { '_' } else { ch }
+}
+
+/// The digits of a string.
+pub fn digits(string: &str) -> Result<InlineStringN<8>, NotEnoughSpaceError>
+    ensures { IfOk result (λ made. made ≡ filter is_ascii_digit (chars string.now)) }
+{
+    items_are_the_characters();
+    InlineStringN::from_chars(string.chars().filter(|ch| ch.is_ascii_digit()))
+}
+
+/// Letters the other way round.
+pub fn reversed(letters: &[char]) -> Result<InlineStringN<32>, NotEnoughSpaceError>
+    ensures { IfOk result (λ made. made ≡ reverse letters.now) }
+{
+    InlineStringN::from_chars(letters.iter().rev().copied())
+}
+
+/// Words behind a text, as many as there are.
+pub fn add_all<const N: usize>(
+    text: &mut InlineStringN<N>,
+    words: &[&str],
+) -> Result<(), NotEnoughSpaceError>
+    ensures { OnOk result (text.new ≡ text.old ++ text_of_strs words.now) }
+{
+    text.extend_strs(words.iter().copied())
+}
