@@ -1,5 +1,5 @@
 -- Runs that stay within the inline room: no memory can be refused to them.
-use Rattle.inlinable_string.proofs.Common.{common_steps, ◌≡◌, ◌≢◌, ℕ, ◌+◌, ◌≤◌, inl, inr, ◌⊎◌, true, List, [], ◌∷◌, refl, sym, ap, ◌∙◌, arith, subst, Contains, rules, size, TextState, IsLawful, edit, reply_of, text_left, text_after_step, Need, at_end, anywhere, reserved, tight, no_room, need_of, storage_when_met, storage_after_step, state_after_step, storage_after, IsMet, IsLegal, LegalReplies, ReservesWithin, StaysWithin, Inline, Command, Push, PushStr, Insert, InsertStr, Truncate, Pop, Remove, Clear, ReplaceBytes, Reserve, ReserveExact, ShrinkToFit, Reply, Done, NoMemory}
+use Rattle.inlinable_string.proofs.Common.{common_steps, ◌≡◌, ◌≢◌, ℕ, ◌+◌, ◌≤◌, inl, inr, ◌⊎◌, true, List, [], ◌∷◌, refl, sym, ap, ◌∙◌, arith, subst, Contains, rules, size, TextState, IsLawful, edit, reply_of, text_left, text_after_step, Need, at_end, anywhere, reserved, tight, no_room, need_of, storage_when_met, storage_after_step, state_after_step, storage_after, IsMet, IsLegal, LegalReplies, ReservesWithin, StaysWithin, Inline, Command, Push, PushStr, Insert, InsertStr, ShrinkToFit, Reply, Done, NoMemory}
 use Rattle.inlinable_string.proofs.Edits.{push_grows, push_str_grows, insert_grows, insert_str_grows, text_granted}
 use Rattle.inlinable_string.proofs.RefusalsDecide.{storage_kept}
 use Rattle.inlinable_string.proofs.FreeCommands.{granted, not_refused, absent, absent_nil}
@@ -19,14 +19,8 @@ grows t (Push c) done = push_grows t c
 grows t (PushStr u) done = push_str_grows t u
 grows t (Insert p c) done = insert_grows t p c done
 grows t (InsertStr p u) done = insert_str_grows t p u done
-grows t (Truncate p) done = tt
-grows t Pop done = tt
-grows t (Remove p) done = tt
-grows t Clear done = tt
-grows t (ReplaceBytes b) done = tt
-grows t (Reserve n) done = tt
-grows t (ReserveExact n) done = tt
 grows t ShrinkToFit done = refl
+grows t command done = tt
 
 -- a need within the limit is met inline
 met_inline : (s : TextState) (need : Need) (v : List ℕ) → Grows s.text need v

@@ -1,39 +1,20 @@
 -- Commands told by their words and their arguments, wherever what they borrow stands.
-use Rattle.std.proofs.Common.{◌≡◌, refl, sym, ap, subst, ◌∙◌, ℕ, ◌+◌, List, [], ◌∷◌, ◌⊎◌, inl, inr, codes, map, if◌then◌else◌}
-use Rattle.std.specs.Borrow.{Bor}
+use Rattle.std.proofs.Common.{◌≡◌, refl, sym, ap, subst, ◌∙◌, ℕ, ◌+◌, List, [], ◌∷◌, ◌⊎◌, inl, inr, map}
 use Rattle.inlinable_string.specs.State.{TextState}
 use Rattle.inlinable_string.specs.Text.{size}
 use Rattle.inlinable_string.specs.Edit.{reply_of, text_left, edit}
 use Rattle.inlinable_string.specs.Run.{Need, no_room, need_of, storage_when_met, credit, credit_when_met, state_after_step, state_after, IsFree, IsLegal, IsMet, IsCounted, LegalReplies}
 use Rattle.inlinable_string.specs.declared.string_ext.Storage.{Storage}
 use Rattle.inlinable_string.specs.declared.run.Command.{Command}
-use Rattle.inlinable_string.specs.declared.run.Command.TheVariants.{Push, PushStr, Insert, InsertStr, Truncate, Pop, Remove, Clear, ReplaceBytes, Reserve, ReserveExact, ShrinkToFit}
+use Rattle.inlinable_string.specs.declared.run.Command.TheVariants.{Pop}
 use Rattle.inlinable_string.specs.declared.run.Reply.{Reply}
 use Rattle.inlinable_string.specs.declared.run.Reply.TheVariants.{Done, Char, NoChar, BadPlace, NotUtf8, WrongLength, NoMemory}
-use Rattle.script_language.specs.Line.{Arguments, nothing, character, text, number, number_and_character, number_and_text, bytes, arguments_of, word_of}
-use Rattle.std.specs.Str.{bytes_eq}
+use Rattle.script_language.specs.Line.{arguments_of, word_of}
 use Rattle.script_language.specs.Script.{LinesAskFor}
 use Rattle.script_language.proofs.OneCommand.{one_command}
+use Rattle.script_language.proofs.Words.{plain_of}
 
--- bytes that are borrowed from nowhere
-abbrev pub borrowed : List ℕ → Bor (List ℕ)
-borrowed bs = record { ref_ptr = (0, 0); now = bs }
-
--- the command of a word and its arguments
-abbrev pub plain_of : List ℕ → Arguments → Command
-plain_of word nothing =
-    if bytes_eq word (codes "pop") then Pop else
-    if bytes_eq word (codes "clear") then Clear else ShrinkToFit
-plain_of word (character c) = Push c
-plain_of word (text t) = PushStr (borrowed t)
-plain_of word (number n) =
-    if bytes_eq word (codes "truncate") then Truncate n else
-    if bytes_eq word (codes "remove") then Remove n else
-    if bytes_eq word (codes "reserve") then Reserve n else ReserveExact n
-plain_of word (number_and_character n c) = Insert n c
-plain_of word (number_and_text n t) = InsertStr n (borrowed t)
-plain_of word (bytes bs) = ReplaceBytes (borrowed bs)
-
+-- a command by its word and its arguments alone
 abbrev pub plain : Command → Command
 plain command = plain_of (word_of command) (arguments_of command)
 

@@ -46,8 +46,7 @@ returns g c =
     record {
       written = on_ok_weaker c.flush.result
           (λ h. subst (Appends _ _) whole (gathered_and_flushed _ all h)) c.flush.ensures.written;
-      part = of_error _ _ _
-          (λ front. subst (WritesFront _ _) whole (front_of_flushed all front))
+      part = of_error _ _ _ (λ front. subst (WritesFront _ _) whole (front_of_flushed all front))
           c.flush.ensures.part;
       fault = c.flush.ensures.fault;
     }
