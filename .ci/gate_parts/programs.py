@@ -4,7 +4,7 @@ import subprocess
 import threading
 import time
 from dataclasses import dataclass
-from multiprocessing import Pool
+from multiprocessing import get_context
 
 from gate_parts.tree import PROCESSORS, Failure, crate_folder
 
@@ -85,7 +85,7 @@ def feed_in_parts(pipe, data):
 
 def all_runs(work, items, at_once=1):
     """What `work` answers of each item, in order."""
-    with Pool(PROCESSORS) as pool:
+    with get_context('fork').Pool(PROCESSORS) as pool:
         yield from pool.imap(work, items, at_once)
 
 

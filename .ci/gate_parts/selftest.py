@@ -173,7 +173,7 @@ BROKEN = (
     ('bench', 'given 11 with status 3', 'bin/program', 'echo 11', 'echo 11; exit 3'),
     ('bench', '1 passed, 1 failed', 'bin/program', 'Two', 'Three'),
     ('bench', 'is not there', 'bin/program', '', None),
-    ('bench', '0 workloads are run on Two, and must be 1', 'bench/workloads.py', "'One', 'Two'", "'One',"),
+    ('bench', '0 are `Two`, and at least 1 must be', 'bench/workloads.py', "'One', 'Two'", "'One',"),
     ('bench', 'missing, or of no workload: from 6', 'bench/sums', '11 from 6\n', ''),
     ('bench', 'nothing was summed: from 6', 'bench/sums', '11', '0'),
     ('counts', 'there is no toy/src/other.rt', 'README.md', 'lib.rt', 'other.rt'),
