@@ -24,8 +24,9 @@ BESIDE = {'calls': 40_000, 'script': 40_000}
 OURS, SCRIPTS = 'InlinableString InlinableStringN<8>', 'inline inline0 inline8 heap'
 GROWTHS = 'push push_str insert insert_str'
 BESIDE_OF_EACH = dict.fromkeys((
-    *each(f'InlineString {OURS} String', f'{GROWTHS} new from clone write_str write_char pop remove truncate clear '
-          'len is_empty as_bytes as_str into_bytes eq eq_str hash display padded cut debug cmp partial_cmp'),
+    *each(f'InlineString {OURS} String', f'{GROWTHS} new from clone write_str write_char pop remove truncate '
+          'clear len is_empty as_bytes as_str into_bytes eq eq_str hash display padded cut debug cmp '
+          'partial_cmp'),
     *each(f'{OURS} String', 'collect with_capacity from_utf8 from_utf8_unchecked from_utf8_lossy from_utf16 '
           'from_utf16_lossy extend reserve reserve_exact shrink_to_fit capacity heap'),
     *each(OURS, 'from_str from_string from_chars from_strs add extend_chars extend_char_refs extend_strs'),

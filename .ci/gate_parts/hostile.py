@@ -48,7 +48,7 @@ def difference(program, case):
 
 
 def tried(programs, item):
-    """The differences on a case, or on the input of a number; of this its end and the kinds of its replies."""
+    """The differences on a case, or on the input of a number; of this its end and its kinds of replies."""
     case, *kinds = [item] if isinstance(item, Case) else hostile_case(item)
     return [difference(program, case) for program in programs], Counter(kinds)
 

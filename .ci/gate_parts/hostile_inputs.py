@@ -39,8 +39,8 @@ def spoilt(draw, word):
 
 
 # How a number can be written, and what can stand in the place of one.
-NUMBERS = ('{}', '{:020}', '{:021}', '+{}', '-{}', ' {}', '{} ', '{}.', '{}\0', '{:#x}', '{:,}', '{:_}', '{:e}', '{}５',
-           '', '0' * 20, '0' * 21, '9' * 400, '٣', '５', '²')
+NUMBERS = ('{}', '{:020}', '{:021}', '+{}', '-{}', ' {}', '{} ', '{}.', '{}\0', '{:#x}', '{:,}', '{:_}',
+           '{:e}', '{}５', '', '0' * 20, '0' * 21, '9' * 400, '٣', '５', '²')
 # What can stand behind a word or in the place of a character.
 ENDS = ('', ' ', '  ', '\r', '\0', '\ufeff', ' a', 'a ', 'aa', 'e\u0301', 'é', '𝄞', 'g', '0', ' 00')
 
@@ -49,13 +49,13 @@ def odd_line(draw, word):
     """A line that is bad, or looks as if it were: its word, a space, its number or its end spoilt."""
     line = line_of(draw, Text(word), draw.choice(list(LINES)))
     name, space, rest = line.partition(' ')
-    n = draw.choice((0, 1, 8, 30, 2 ** 32, 2 ** 63, 10 ** 19, 2 ** 64, 2 ** 65, 10 ** 20)) + draw.randint(-1, 1)
-    number = draw.choice(NUMBERS).format(n)
+    near = draw.choice((0, 1, 8, 30, 2 ** 32, 2 ** 63, 10 ** 19, 2 ** 64, 2 ** 65, 10 ** 20))
+    number = draw.choice(NUMBERS).format(near + draw.randint(-1, 1))
     names = (name.upper(), name.title(), name[:-1], name + 's', name.replace('_', '-'), '', ' ' + name)
     return draw.choice((
         draw.choice(names) + space + rest, name + draw.choice(('', '  ', '\t', '\xa0')) + rest,
         line + draw.choice(ENDS), name + ' ' + draw.choice(ENDS), f'insert 0 {draw.choice(ENDS)}',
-        re.sub('[0-9]+', number, line, 1), f'reserve {number}', f'insert {number} a', f'insert_str {number} '))
+        re.sub('[0-9]+', number, line, 1), f'reserve {number}', f'insert {number} a', f'insert {number}'))
 
 
 def odd(draw, word):

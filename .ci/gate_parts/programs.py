@@ -8,7 +8,7 @@ from multiprocessing import get_context
 
 from gate_parts.tree import PROCESSORS, Failure, crate_folder
 
-# A program that does not end is killed.
+# A program that does not end in so many seconds is killed.
 SECONDS = 20
 # How the standard streams are, where they are not files in memory.
 STREAMS = ('stdin-dir', 'stdin-zero', 'stdin-pipe', 'stdout-full', 'stdout-closed')
@@ -40,7 +40,6 @@ def run(program, case):
     """The standard output and the exit status of one run; the status is in words where it did not end."""
     stdin, feed = input_of(case)
     output = os.memfd_create('output')
-    # a full device takes no byte; nobody reads the pipe
     stdout = os.open('/dev/full', os.O_WRONLY) if case.io == 'stdout-full' else os.dup(
         UNREAD if case.io == 'stdout-closed' else output)
     try:

@@ -1,7 +1,7 @@
 """What `beside` and `hostile` must notice where a program answers otherwise: a part of `selftest`.
 
-What runs a program is shown on real ones. For the others a function stands in for that, right or with a fault,
-and each stored file is whole, or something in it is wrong or gone.
+What runs a program is shown on real ones. Else a function stands in for that, right or with a fault, and each
+stored file is whole, or something in it is wrong or gone.
 """
 import contextlib
 import io
@@ -16,13 +16,14 @@ from gate_parts.selftest_reading import fails
 from gate_parts.tree import text_of, too_few, write_text
 
 # Scripts of the shell, the streams of their runs, and what comes of it.
-RUNS = (('cat', '', (b'input', 0)), ('cat', 'stdin-pipe', (b'input', 0)), ('echo told; exit 3', '', (b'told\n', 3)),
-        ('echo told; kill -6 $$', '', (b'told\n', -6)), ('exec cat', 'stdin-dir', (b'', 1)),
+RUNS = (('cat', '', (b'input', 0)), ('cat', 'stdin-pipe', (b'input', 0)), ('exec cat', 'stdin-dir', (b'', 1)),
+        ('echo told; exit 3', '', (b'told\n', 3)), ('echo told; kill -6 $$', '', (b'told\n', -6)),
         ('head -c 2', 'stdin-zero', (b'\0\0', 0)), ('exec cat', 'stdout-full', (b'', 1)),
         ('exec cat', 'stdout-closed', (b'', -13)))
 # What a program may do otherwise than it must.
 LINE_FAULTS = {
-    'a wrong answer to one line': lambda output: (output[:-1] + b'0\n', 0), 'a wrong status': lambda output: (output, 3),
+    'a wrong answer to one line': lambda output: (output[:-1] + b'0\n', 0),
+    'a wrong status': lambda output: (output, 3),
     'no last line': lambda output: (output[:output.rindex(b'\n', 0, -1) + 1], 0)}
 SCRIPT_FAULTS = {
     'a wrong reply': lambda output, status: (output.replace(b'bad place', b'done'), status),
@@ -56,7 +57,8 @@ def on_digests(folder):
     def failed(text, runner=answered):
         write_text(path, text)
         with mock.patch.object(beside, 'run', runner):
-            return sum(beside.failed_digests({'one': ''}, beside.stored(path, {'calls': beside.STEP}))[0].values())
+            failed, _ = beside.failed_digests({'one': ''}, beside.stored(path, {'calls': beside.STEP}))
+            return failed['one']
 
     with mock.patch.object(beside, 'run', answered):
         lines, (answers,), tally = beside.answered([''], ('calls', 0))
@@ -70,7 +72,7 @@ def on_digests(folder):
         yield what, failed(right, with_fault(answered, lambda output, _: fault(output))) == 1
     words, sort = text_of(beside.WORDS), 'pop none'
     yield 'the words of the commands', not fails(beside.check_words, words)
-    yield 'a word more', fails(beside.check_words, words.replace('"pop" =>', '"peek" => None,\n        "pop" =>'))
+    yield 'another word', fails(beside.check_words, words.replace('"pop" =>', '"peek" =>'))
     yield 'enough of a sort', not list(too_few(tally, {sort: 10}))
     for floors in ({sort: 10 ** 6}, {'String flies': 1}, {sort: 0}, {}):
         yield f'floors {floors}', bool(list(too_few(tally, floors)))
@@ -91,10 +93,10 @@ def on_scripts(folder):
         with_fault(played, lambda output, status: (output, status if status != 1 else 0)), 1)
     path = os.path.join(folder, 'cases.py')
     whole = "CASES = [('a', [], b'', '', b'', 2), ('b', [], b'', '', b'', 2)]\n"
-    for old, new, is_well in (('', '', True), ("('a', [], b'', '', b'', 2), ", '', False), ("'b'", "'a'", False),
-                              ('2)', 'None)', False), ("b'', ''", "b'', 'stdin-nought'", False)):
+    for old, new in (('', ''), ("('a', [], b'', '', b'', 2), ", ''), ("'b'", "'a'"), ('2)', 'None)'),
+                     ("b'', ''", "b'', 'stdin-nought'")):
         write_text(path, whole.replace(old, new))
-        yield f'cases with {new} for {old}', fails(hostile.named_cases, 2, path) != is_well
+        yield f'cases with {new} for {old}', fails(hostile.named_cases, 2, path) == bool(old)
     with mock.patch.multiple(hostile, HOSTILE_INPUTS=1, HOSTILE={'done': 10 ** 6}):
         yield 'too few replies', not is_right(played)
 

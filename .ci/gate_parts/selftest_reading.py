@@ -56,7 +56,8 @@ CHANGES = (
     ("b('{'", "i('{'", 'part::Text::len', False), ('> Kept', '> Held', 'part::Text::size', False),
     ("b('{'", "} b('{'", 'part::Text::size', False), ('  c\n', '  i\n', 'len', True),
     ('-> usize {', '-> usize { i;', 'len', True), ('-> usize {', '-> u8 {', 'len', False),
-    ('&self);', '&self, i: u8);', 'none', False), ('  d\n', '  i\n', 'f g', True), ('  d\n', '  i\n', 'f', False))
+    ('&self);', '&self, i: u8);', 'none', False), ('  d\n', '  i\n', 'f g', True),
+    ('  d\n', '  i\n', 'f', False))
 NO_REFUSAL = (
     './specs/Run.antt:98:23: error: `IsMet`: `Foo` is not in scope',
     './specs/Run.antt:98:23: error: `IsMet`: expected type `ℕ`',
