@@ -21,12 +21,12 @@ def each(names, words):
 # kind. And how many there must be at least of each type with a word, of each word with an answer or a move
 # of the text, of where texts lie at the end, and of scripts with a status and the last word of their output.
 BESIDE = {'calls': 40_000, 'script': 40_000}
-BESIDE_OF_EACH = 50
 OURS, SCRIPTS = 'InlinableString InlinableStringN<8>', 'inline inline0 inline8 heap'
 GROWTHS = 'push push_str insert insert_str'
-BESIDE_NAMES = (
-    *each(f'InlineString {OURS} String', f'{GROWTHS} new from clone write_str write_char pop remove truncate clear '
-          'len is_empty as_bytes as_str into_bytes eq eq_str hash display padded cut debug cmp partial_cmp'),
+BESIDE_OF_EACH = dict.fromkeys((
+    *each(f'InlineString {OURS} String', f'{GROWTHS} new from clone write_str write_char pop remove truncate '
+          'clear len is_empty as_bytes as_str into_bytes eq eq_str hash display padded cut debug cmp '
+          'partial_cmp'),
     *each(f'{OURS} String', 'collect with_capacity from_utf8 from_utf8_unchecked from_utf8_lossy from_utf16 '
           'from_utf16_lossy extend reserve reserve_exact shrink_to_fit capacity heap'),
     *each(OURS, 'from_str from_string from_chars from_strs add extend_chars extend_char_refs extend_strs'),
@@ -37,20 +37,17 @@ BESIDE_NAMES = (
     *each('from_utf8_lossy', 'borrowed owned'), *each('from_utf16', 'done unpaired'), 'shrink_to_fit demotes',
     *each(f'{GROWTHS} write_str write_char add extend extend_chars extend_char_refs extend_strs reserve '
           'reserve_exact', 'promotes'),
-    *each(f'{SCRIPTS} string', '0 2 command heap'), *each(SCRIPTS, 'inline'))
+    *each(f'{SCRIPTS} string', '0 2 command heap'), *each(SCRIPTS, 'inline')), 50)
 
 # The cases of `replay/named_cases.py`.
 NAMED_CASES = 65
 
-# Hostile inputs: how many, the part of them that is accepted and so runs, and how many there must be
-# of each reply and of each fault that an input can lead to. (Want of memory before a run can't be
-# brought about by an input.)
+# Hostile inputs: how many, and how many of them must be accepted and so run, and lead to each fault and to
+# each reply. (Want of memory before a run can't be brought about by an input.)
 HOSTILE_INPUTS = 6_000
-HOSTILE_ACCEPTED_PART = 1 / 5
-HOSTILE_OF_EACH = 30
-HOSTILE_REPLIES = ('done', 'char', 'none', 'bad place', 'not utf-8', 'wrong length', 'no memory')
-HOSTILE_FAULTS = ('bad argument', 'read fault', 'input too long', 'input is not utf-8',
-                  'bad command', 'write fault')
+HOSTILE = {'accepted': 1_200, **dict.fromkeys((
+    'bad argument', 'read fault', 'input too long', 'input is not utf-8', 'bad command', 'write fault',
+    'done', 'char', 'none', 'bad place', 'not utf-8', 'wrong length', 'no memory'), 30)}
 
 # Edits in `wrong-definitions/`, by crate: just as many.
 WRONG_DEFINITIONS = {'inlinable_string': 140, 'script_language': 90}

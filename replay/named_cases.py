@@ -1,4 +1,4 @@
-"""Runs of `inline_script` with the outputs and statuses that they must have, worked out by hand from the rules.
+"""Runs of `inline_script` with the outputs and statuses that they must have, by hand from the rules.
 
 Each is named for what it shows: its words, its input, its streams where they are not files, what it must
 print, and the status that it must end with.
@@ -22,16 +22,17 @@ NOT_UTF8 = {
 # By their names: the bad line's number, and the input.
 BAD_LINES = {
     'second_line_is_bad': (2, b'pop\npush ab\n'), 'empty_line_is_counted': (2, b'\npop \n'),
-    'first_of_two_bad_lines': (3, b'pop\n\n?\n!\n'), 'bad_line_in_the_last_byte': (65536, b'\n' * 65535 + b'?'),
-    'carriage_return_after_a_word': (1, b'pop\r\n'), 'line_of_a_space': (1, b' \n'),
+    'first_of_two_bad_lines': (3, b'pop\n\n?\n!\n'), 'line_of_a_space': (1, b' \n'),
+    'bad_line_in_the_last_byte': (65536, b'\n' * 65535 + b'?'),
+    'carriage_return_after_a_word': (1, b'pop\r\n'),
     'byte_order_mark_before_a_word': (1, b'\xef\xbb\xbfpop\n'),
     'place_past_the_greatest': (1, b'truncate 18446744073709551616\n'),
     'place_of_twenty_one_digits': (1, b'truncate 000000000000000000000\n'),
     'place_with_a_sign': (1, b'truncate +1\n'), 'half_a_pair_of_digits': (2, b'pop\nreplace_bytes 6\n'),
     'digit_that_is_none': (1, b'replace_bytes 6g\n'), 'no_character_to_push': (1, b'push \n'),
     'letter_and_its_accent_pushed': (1, b'push e\xcc\x81\n'), 'push_without_a_space': (1, b'push_str\n'),
-    'insertion_without_its_second_space': (1, b'insert 0\n'), 'insertion_with_two_spaces': (1, b'insert  0 a\n'),
-    'pop_with_a_space': (1, b'pop \n'), 'clear_with_a_space': (1, b'clear \n'),
+    'insertion_without_its_second_space': (1, b'insert 0\n'), 'pop_with_a_space': (1, b'pop \n'),
+    'insertion_with_two_spaces': (1, b'insert  0 a\n'), 'clear_with_a_space': (1, b'clear \n'),
     'word_in_capitals': (1, b'POP\n'), 'word_with_a_tab': (1, b'push\ta\n')}
 # By their names: the input, and what an inline text answers, with its storage, length and text at the end.
 RUNS = {
@@ -44,7 +45,8 @@ RUNS = {
                                   'inline', 6, b'\xef\xbb\xbf\xef\xbb\xbf'),
     'greatest_place': (b'truncate 18446744073709551615\n', b'bad place\n', 'inline', 0, b''),
     'place_of_twenty_digits': (b'truncate 00000000000000000000\n', b'done\n', 'inline', 0, b''),
-    'digits_of_either_case': (b'push_str abcd\nreplace_bytes 6a6A4b4B\n', b'done\ndone\n', 'inline', 4, b'jjKK'),
+    'digits_of_either_case': (b'push_str abcd\nreplace_bytes 6a6A4b4B\n', b'done\ndone\n',
+                              'inline', 4, b'jjKK'),
     'length_is_tested_before_utf8': (b'push a\nreplace_bytes ffff\nreplace_bytes ff\n',
                                      b'done\nwrong length\nnot utf-8\n', 'inline', 1, b'a'),
     'bytes_across_characters': ('push_str a€\nreplace_bytes f09d849e\ntruncate 1\npop\n'.encode(),
@@ -58,8 +60,10 @@ THEIR_OUTPUT = (b'done\ndone\nchar o\nbad place\ndone\nchar 0\n'
 CASES = (
     *((name, words, b'pop\n', '', b'bad argument\n', 2) for name, words in BAD_WORDS.items()),
     *((name, ['inline'], bytes_of, '', b'input is not utf-8\n', 2) for name, bytes_of in NOT_UTF8.items()),
-    *((name, ['inline'], lines, '', b'line %d: bad command\n' % at, 2) for name, (at, lines) in BAD_LINES.items()),
-    *((name, ['inline'], lines, '', replies + ends(*end), 0) for name, (lines, replies, *end) in RUNS.items()),
+    *((name, ['inline'], given, '', b'line %d: bad command\n' % at, 2)
+      for name, (at, given) in BAD_LINES.items()),
+    *((name, ['inline'], given, '', replies + ends(*end), 0)
+      for name, (given, replies, *end) in RUNS.items()),
     ('commands_are_answered_in_order', ['inline'], SEVERAL, '', THEIR_OUTPUT, 0),
     ('input_comes_in_parts', ['inline'], SEVERAL, 'stdin-pipe', THEIR_OUTPUT, 0),
     ('parts_for_a_heap_text', ['heap'],

@@ -12,19 +12,10 @@ from concurrent.futures import ThreadPoolExecutor
 from floors import BENCH_TEXTS, BENCH_WORKLOADS
 from gate_parts.options import options
 from gate_parts.programs import Case, chosen, run
-from gate_parts.tree import PROCESSORS, Failure, in_tree
+from gate_parts.tree import PROCESSORS, Failure, in_tree, too_few
 
 sys.path.insert(0, in_tree('bench'))
 import sums  # noqa: E402
-
-
-def shortfalls(runs):
-    """In words, of what there is less than there must be."""
-    having = Counter(text for _, text in runs)
-    having['all'] = len(sums.EACH)
-    for text, wanted in {'all': BENCH_WORKLOADS, **BENCH_TEXTS}.items():
-        if having[text] < wanted:
-            yield f'TOO FEW: {having[text]} workloads are run on {text}, and must be {wanted}'
 
 
 def wrong_sums(name, program, runs, stored):
@@ -48,6 +39,7 @@ def main(words):
         raise Failure(fault) from None
     runs = [(workload, text) for workload in sums.EACH for text in workload.texts]
     faults = [fault for name, path in builds.items() for fault in wrong_sums(name, path, runs, stored)]
-    faults += shortfalls(runs)
+    having = Counter(['workloads'] * len(sums.EACH) + [text for _, text in runs])
+    faults += too_few(having, {'workloads': BENCH_WORKLOADS, **BENCH_TEXTS})
     print(*faults, sep='\n')
     return not faults

@@ -13,13 +13,13 @@ from collections import Counter
 from functools import partial
 from hashlib import sha256
 
-from floors import BESIDE, BESIDE_NAMES, BESIDE_OF_EACH
+from floors import BESIDE, BESIDE_OF_EACH
 from gate_parts.call_inputs import calls_line, script_line
 from gate_parts.good_scripts import LINES
 from gate_parts.language import ARGUMENTS
 from gate_parts.options import SEED, options
 from gate_parts.programs import Case, all_runs, chosen, run
-from gate_parts.tree import Failure, in_tree, text_of
+from gate_parts.tree import Failure, in_tree, text_of, too_few
 
 STEP = 1000
 DRAWN = {'calls': calls_line, 'script': script_line}
@@ -91,14 +91,6 @@ def failed_digests(builds, digests):
     return failed, tally
 
 
-def shortfalls(tally, names=BESIDE_NAMES, of_each=BESIDE_OF_EACH):
-    """In words, of what there is less than there must be."""
-    if of_each < 1 or not names:
-        yield 'TOO FEW: no floor says how much there must be'
-    for name in (name for name in names if tally[name] < of_each):
-        yield f'TOO FEW: {tally[name]} are `{name}`, and at least {of_each} must be'
-
-
 def check_words(source):
     """Fails where the program, the model and what draws scripts do not have the same words of commands."""
     words = set(re.findall(r'^ +"(\w+)" =>', source, re.MULTILINE))
@@ -119,7 +111,7 @@ def main(words):
         return True
     check_words(text_of(WORDS))
     failed, tally = failed_digests(builds, stored())
-    lacking = list(shortfalls(tally))
+    lacking = list(too_few(tally, BESIDE_OF_EACH))
     print(*(f'{name}: {sum(BESIDE.values())} lines by {len(starts(BESIDE))} digests: {count} failed'
             for name, count in failed.items()), *lacking, sep='\n')
     return not lacking and not any(failed.values())

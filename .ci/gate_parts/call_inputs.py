@@ -5,6 +5,8 @@
 
 `replay/README.md` says what stands where, and `crates/side_by_side/src` what each word calls.
 """
+from contextlib import suppress
+
 from gate_parts.draw import ESCAPED, MARKS, Draw, is_alike
 from gate_parts.encodings import nearly_utf8, nearly_utf16
 from gate_parts.good_scripts import a_growth, at_the_ends, good_script, line_of, way_back
@@ -40,12 +42,10 @@ LACKING = {
     ARRAY: f'{READERS} {OWN_MAKERS} {JOINS} collect with_capacity reserve reserve_exact shrink_to_fit '
            'capacity',
     HEAP: '', SHORT: '', STRING: f'default {OWN_MAKERS} add extend_chars extend_char_refs extend_strs'}
-# Of a kind with fewer words than that there is none on a type.
-FEWEST = 3
+# Of a kind with fewer words than FEWEST there is none on a type. A text is cut at LONGEST.
+FEWEST, LONGEST = 3, 40
 # How many calls there are at most, behind the one that a text begins with.
 TURNS = (3, 6, 6, 6, 20)
-# A text is cut there, so that lines stay short.
-LONGEST = 40
 SIZES = (0, 1, 2, 7, 8, 9, 26, 27, 28, 28, 29, 29, 30, 30, 31, 32)
 # How a text that is compared comes about, with how many bytes more it had, or where it lies on the heap.
 WAYS = {0: 0, 1: 4, 3: 4}
@@ -66,12 +66,10 @@ class Played:
         if self.text.size + width(added) <= self.most:
             self.text.obey(command)
 
-    def becomes(self, string, storage='inline'):
+    def becomes(self, string, *storage):
         if width(string) <= self.most:
-            self.text = Text(TYPES[self.name])
-            if storage == 'heap':
-                self.text.storage = storage
-            self.text.obey(['push_str', string])
+            self.text = Text(TYPES[self.name], *storage)
+            self.text.push_str(string)
 
 
 def token(word, *given):
@@ -148,8 +146,7 @@ def emptied(_, played, word):
 def with_capacity(draw, played, word):
     capacity = draw.choice((0, 1, 7, 8, 9, 29, 30, 31, 32, 100, 2 ** 48, 2 ** 63 - 1, 2 ** 63, GREATEST))
     if capacity < 2 ** 48:
-        limit = played.text.limit
-        played.becomes('', 'inline' if limit is not None and capacity <= limit else 'heap')
+        played.becomes('', *['heap'] * (capacity > (played.text.limit or 0)))
     return token(word, capacity)
 
 
@@ -220,15 +217,6 @@ def calls_line(seed, number):
     return ' '.join(('calls', name, *tokens))
 
 
-def is_decided(word, data):
-    """Whether it asks for no memory that one machine grants and another refuses."""
-    try:
-        answer(Case('', [word], data))
-    except Undecided:
-        return False
-    return True
-
-
 def script_line(seed, number):
     """Script `number` of a seed, with a byte left out, doubled or changed at times. Always the same one."""
     draw = Draw(f'{seed}:{number}')
@@ -238,5 +226,8 @@ def script_line(seed, number):
         at = draw.randrange(len(data) + 1)
         byte = data[at:at + 1]
         wrong = data[:at] + draw.choice((b'', byte * 2, draw.randbytes(1))) + data[at + 1:]
-        data = wrong if is_decided(word, wrong) else data
+        # unless it asks for memory that one machine grants and another refuses
+        with suppress(Undecided):
+            answer(Case('', [word], wrong))
+            data = wrong
     return f'script {word} {data.hex()}'

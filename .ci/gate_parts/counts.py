@@ -1,9 +1,9 @@
 """gate counts: prints how long the tree is, and finds what is too long or is cited and not there.
 
 It prints the lines by kind, and the `unsafe` blocks. A line of a crate has at most 100 columns, unless it
-imports; a file at most 500 lines; a proof, which is a lemma with its type or an answer to a goal, at most 30
-lines, comments aside. Each path, function or other name that a document has in backticks is in the tree. The
-first program of the README has to be that of the crate `tour`, which `rt ci` proves and runs.
+imports; a file at most 500 lines; a proof, a lemma with its type or an answer to a goal, at most 30 lines,
+comments aside. Each path or name that a document has in backticks is in the tree. The README has the program
+of the crate `tour`, which `rt ci` proves and runs.
 """
 import os
 import re
@@ -59,17 +59,17 @@ def test_paths(texts):
 
 def kind_of(path, tests):
     """What a file counts as."""
-    parts, stem = path.split('/'), os.path.splitext(path)[0]
+    top, crate, folder = (*path.split('/')[:-1], '', '', '')[:3]
     if path.endswith('.md'):
         return 'documents'
-    if parts[0] != 'crates' or len(parts) < 4:
-        return parts[0] if parts[0] in ('.ci', 'replay', 'bench') else 'the rest'
-    if parts[2] in EDIT_FOLDERS:
+    if top in ('.ci', 'replay', 'bench'):
+        return top
+    if folder in EDIT_FOLDERS:
         return 'edits'
-    if parts[1] == 'test_support' or any(f'{stem}/'.startswith(f'{test}/') for test in tests):
+    if crate == 'test_support' or any(re.match(rf'{test}[./]', path) for test in tests):
         return 'tests'
-    if parts[2] in ('src', 'specs', 'proofs'):
-        return f'{"library" if parts[1] == LIBRARY else "other crates"}: {parts[2]}'
+    if folder in ('src', 'specs', 'proofs'):
+        return f'{"library" if crate == LIBRARY else "other crates"}: {folder}'
     return 'the rest'
 
 
@@ -86,33 +86,28 @@ def print_lines(texts):
     print(f'{unsafe[True]:>8,}  unsafe blocks of the library, and {unsafe[False]} of other crates')
 
 
-def indent_of(line):
-    return len(line) - len(line.lstrip())
-
-
 def proofs_in(text):
     """The name of each declaration of a file of proofs, those in its modules too, and its number of lines."""
     level, name, count = 0, None, 0
     for line in text.splitlines():
         if not line.strip() or line.lstrip().startswith('--') or IMPORT.match(line):
             continue
-        level = min(level, indent_of(line))
-        begins = indent_of(line) == level and line[level] not in ')]}'
+        indent = len(line) - len(line.lstrip())
+        level = min(level, indent)
+        begins = indent == level and line[level] not in ')]}'
         if begins and DECLARED.match(line)[1] != name:
-            if name:
-                yield name, count
+            yield name, count
             name, count = DECLARED.match(line)[1], 0
         count += 1
         if name == 'module' and line.endswith(' where'):
             level, name = level + 2, None
-    if name:
-        yield name, count
+    yield name, count
 
 
 def too_long(texts):
     """How many proofs there are, and in words what is too long in these files of the tree."""
     proofs = [(path, *proof) for path, text in texts.items() if path.endswith('.antt')
-              for proof in proofs_in(text)]
+              for proof in proofs_in(text) if proof[0]]
     wrong = [f'{path}: {name} has {count} lines, and may have {PROOF_LINES}'
              for path, name, count in proofs if count > PROOF_LINES]
     wrong += [f'{path}: the file has more than {FILE_LINES} lines' for path, text in texts.items()

@@ -2,29 +2,26 @@
 
 They stand in `wrong-definitions`. With --named only those are tried whose name has the word in it.
 
-A wrong definition changes a file of `specs/`, and a law or a worked row must refuse it: a function that
-does nothing, of the same crate or of one above, named with a goal that must stay open. Each is tried
-over copies: the changed file and what stands on it, with a copy of the row that cites them
-(`row_copies.py`). So one check tries many, and none reaches what another changes. Each row must also
-be proved in that form over copies of all definitions as they are.
+A wrong definition changes a file of `specs/`, and a law or a worked row must refuse it, of the same crate
+or of one above, named with a goal that must stay open. Each is tried over copies of what stands on the
+definition (`row_copies.py`), so that one check tries many. Each row must also be proved over copies of all
+definitions as they are. Where a row reaches no changed file by its own words (it names an `impl`, or is no
+row), the change is made in the files themselves, in a check of its own.
 
-Where the row reaches no changed file by its own words (it names an `impl`, or is no row), the change is
-made in the files themselves, in a check of its own.
-
-It is no refusal where an error stands in `specs/` or `src/`, since the definition is then not well
-formed, nor where a name has gone: either would refuse whatever stands on it, true or not.
+It is no refusal where a definition is not well formed, nor where a name has gone: either would refuse
+whatever stands on it, true or not.
 """
 import os
 import re
+from collections import namedtuple
 from time import monotonic
-from typing import NamedTuple, Optional, Set
 
 from floors import WRONG_DEFINITIONS
-from gate_parts.edit_files import Edit, edits_of, texts_with
+from gate_parts.edit_files import edits_of, texts_with
 from gate_parts.edits import listed
 from gate_parts.options import options
 from gate_parts.rooms import Room, require_proof, said_of, tried_in_copies
-from gate_parts.row_copies import File, Files, Row, add_files, add_row, row_of
+from gate_parts.row_copies import File, Files, add_files, add_row, row_of
 from gate_parts.said import ill_formed, is_proved, open_goals
 from gate_parts.tree import TOP, Failure, crate_folder, crates_with, with_those_below
 
@@ -32,15 +29,11 @@ FOLDER = 'wrong-definitions'
 # How many are tried in one check: what it prints should be readable where one is not refused.
 TOGETHER = 40
 # The number of a copy, in the path of an error.
-COPY = re.compile(r'/(?:E(\d+)[A-Z]|r(\d+)\b)')
+COPY = re.compile(r'^[^:]*?/[Er](\d+)(?![a-z])')
 
 
-class Trial(NamedTuple):
-    """A wrong definition, and a function that must refuse it: with a row and files to copy, or in place."""
-    edit: Edit
-    function: str
-    row: Optional[Row]
-    copied: Set[File]
+# A wrong definition, and a function that must refuse it: with a row and files to copy, or in place with none.
+Trial = namedtuple('Trial', 'edit function row copied')
 
 
 def wrong_definitions(crate):
@@ -71,15 +64,13 @@ def trials_of(library, files, edit):
 
 def require_rows(top, files, trials):
     """Each named function is proved as things are, in the form in which it will be tried."""
-    rows = {trial.function: trial.row for trial in trials}
-    copied = [row for row in rows.values() if row]
+    rows, every = {trial.function: trial.row for trial in trials}, set(files.texts)
     with Room(top, files.crate) as room:
-        add_files(room, files, 0, set(files.texts), {})
-        named = {add_row(room, files, row, at, 0, set(files.texts)): row.function
-                 for at, row in enumerate(copied)}
-        named.update({function: function for function, row in rows.items() if not row})
-        said, _ = said_of(top, files.crate, 1, named)
-    for copy, function in named.items():
+        add_files(room, files, 0, every, {})
+        named = {function: add_row(room, files, row, at, 0, every) if row else function
+                 for at, (function, row) in enumerate(sorted(rows.items(), key=lambda each: not each[1]))}
+        said, _ = said_of(top, files.crate, 1, named.values())
+    for function, copy in named.items():
         if not is_proved(files.crate, copy, said):
             raise Failure(f'{files.crate}/{function} is not proved as it is:\n{said}')
     return set()
@@ -98,20 +89,15 @@ def added(room, files, number, trial):
 def breach(crate, trial, name, said, number):
     """In words, what is not as the edit says; None where the function, or its copy of this number, is refused
     by each goal."""
-    bad = [line for line in ill_formed(said) if not trial.row or number_in(line) in (None, number)]
+    bad = [line for line in ill_formed(said)
+           if not trial.row or (COPY.match(line) or ['', str(number)])[1] == str(number)]
     if bad:
         return f'the definition is not well formed, or a name has gone: {bad[0]}'
     left = open_goals(crate, name, said)
     for goal in trial.edit.goals:
         if (goal.crate, goal.function) == (crate, trial.function) and goal.name not in left:
-            return f'tried at {goal}, which is not refused; open goals: {listed(left)}'
+            return f'tried at {crate}/{goal.function} {goal.name}, not refused; open goals: {listed(left)}'
     return None
-
-
-def number_in(error):
-    """The number of the copy that an error stands in; None where it is in no copy."""
-    found = COPY.search(error.split(':')[0])
-    return int(found[1] or found[2]) if found else None
 
 
 def tried(top, files, trials):

@@ -5,8 +5,7 @@ where that is no function's body: those functions whose text has one of these na
 """
 import os
 import re
-from collections import Counter, defaultdict
-from typing import List, NamedTuple, Tuple
+from collections import Counter, defaultdict, namedtuple
 
 from gate_parts.tree import Failure, text_of
 
@@ -16,30 +15,13 @@ EDIT = re.compile(
     rf'edit (\S+)\n((?:refused: \S+ \S+\n)+)((?:touches: .+\n)*)((?=file: )(?:{CHANGE})+)')
 
 
-class Goal(NamedTuple):
-    """A goal of a function that must stay open."""
-    crate: str
-    function: str
-    name: str
-
-    def __str__(self):
-        return f'{self.crate}/{self.function} {self.name}'
+# A goal of a function that must stay open.
+Goal = namedtuple('Goal', 'crate function name')
+# A text of a file, once in it or the first after another text, and what replaces it.
+Change = namedtuple('Change', 'path old new after', defaults=[''])
 
 
-class Change(NamedTuple):
-    """A text of a file, once in it or the first after another text, and what replaces it."""
-    path: str
-    old: str
-    new: str
-    after: str = ''
-
-
-class Edit(NamedTuple):
-    name: str
-    goals: List[Goal]
-    changes: List[Change]
-    touches: Tuple[str, ...] = ()
-
+class Edit(namedtuple('Edit', 'name goals changes touches', defaults=[()])):
     def functions(self):
         return {(goal.crate, goal.function) for goal in self.goals}
 
@@ -54,7 +36,7 @@ def edits_of(folder, crate, named=None):
     refuse_repetitions(folder, edits)
     for goal in (goal for edit in edits for goal in edit.goals):
         if named not in (None, goal.crate):
-            raise Failure(f'{folder}: {goal} is named, which is not of {named}')
+            raise Failure(f'{folder}: {goal.crate}/{goal.function} is named, which is not of {named}')
     return edits
 
 

@@ -42,16 +42,11 @@ def stays_in_its_functions(crate, edit):
 
 
 def are_apart(edit, other):
-    """Whether no goal of one can stay open for what the other changes."""
-    return (edit.functions().isdisjoint(other.functions())
-            and not has_a_name_of(edit, other) and not has_a_name_of(other, edit))
-
-
-def has_a_name_of(edit, other):
-    """Whether a function that the edit names has a name in its text that the other touches."""
-    name = re.compile(rf'\b(?:{"|".join(map(re.escape, other.touches))})\b')
-    return bool(other.touches) and any(
-        text is None or name.search(text) for text in map(function_text, edit.functions()))
+    """Whether no goal of one can stay open for what the other changes: they name other functions, whose texts
+    have no name that the other touches."""
+    return edit.functions().isdisjoint(other.functions()) and not any(
+        text is None or name in re.findall(r'\w+', text) for one, of in ((edit, other), (other, edit))
+        for name in of.touches for text in map(function_text, one.functions()))
 
 
 @lru_cache(maxsize=None)
@@ -90,8 +85,7 @@ def are_refused(crate, of, group, said, start):
     found = [f'{goal.function}: {goal.name} is not refused; open goals of it: '
              f'{listed(refused.get(goal.function, ()))}'
              for edit in group for goal in edit.goals if goal.name not in refused.get(goal.function, ())]
-    how = 'NOT AS THEY MUST BE' if found else 'refused'
-    names = ', '.join(edit.name for edit in group)
+    how, names = 'NOT AS THEY MUST BE' if found else 'refused', ', '.join(edit.name for edit in group)
     print(f'{crate}: {how}, {len(group)} after {monotonic() - start:.0f} s: {names}', *found,
           *[said] * bool(found), sep='\n    ', flush=True)
     return not found

@@ -7,8 +7,8 @@ leaves that one proved, and fails.
 """
 import os
 import re
+from collections import namedtuple
 from functools import lru_cache
-from typing import NamedTuple
 
 from gate_parts.edit_files import place_of
 from gate_parts.said import answers_of
@@ -17,13 +17,8 @@ from gate_parts.tree import text_of
 HEAD = re.compile(r'( *)(?:[a-z]\S* )*(fn|macro_rules!) (\w+)')
 
 
-class Body(NamedTuple):
-    """A function or a macro, and the lines on which it begins, its body begins, and it ends."""
-    kind: str
-    name: str
-    first: int
-    opened: int
-    closed: int
+# A function or a macro, and the lines on which it begins, its body begins, and it ends.
+Body = namedtuple('Body', 'kind name first opened closed')
 
 
 @lru_cache(maxsize=None)

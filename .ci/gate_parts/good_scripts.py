@@ -20,19 +20,9 @@ def a_growth(draw, text):
     return draw.randint(6, 600) if kind < 99 else draw.randint(601, 6000)
 
 
-def a_growing_string(draw, text):
-    return draw.string(a_growth(draw, text))
-
-
 def written(draw, value):
     """A number's digits, with zeros before them at times."""
     return str(value).zfill(draw.choice((0, 0, 0, 0, 0, 2, 19, 20)))
-
-
-def between_places(draw, text):
-    """An offset inside of a character; one past the end where there is none."""
-    inner = set(range(text.size)).difference(text.places())
-    return draw.choice(sorted(inner)) if inner else text.size + 1
 
 
 def a_place(draw, text):
@@ -41,7 +31,8 @@ def a_place(draw, text):
     if kind < 60:
         place = draw.choice((0, text.size, cut, cut))
     elif kind < 75:
-        place = between_places(draw, text)
+        inner = sorted(set(range(text.size)).difference(text.places()))
+        place = draw.choice(inner) if inner else text.size + 1
     elif kind < 85:
         place = draw.randint(0, text.size + 4)
     else:
@@ -90,9 +81,9 @@ def in_digits(draw, data):
 # By the word of a line: how often it comes beside the others, and what draws each part that follows it.
 LINES = {
     'push': (10, lambda draw, _: draw.char()),
-    'push_str': (10, a_growing_string),
+    'push_str': (10, lambda draw, text: draw.string(a_growth(draw, text))),
     'insert': (10, a_place, lambda draw, _: draw.char()),
-    'insert_str': (10, a_place, a_growing_string),
+    'insert_str': (10, a_place, lambda draw, text: draw.string(a_growth(draw, text))),
     'truncate': (8, a_place),
     'pop': (8,),
     'remove': (12, a_place),
@@ -127,20 +118,18 @@ def at_the_ends(draw, text):
     return draw.choice(('push_str', 'insert_str 0', f'insert_str {place}')) + ' ' + added
 
 
-def next_line(draw, text, slides):
-    if text.storage == 'heap' and draw.chance(15):
-        return way_back(draw, text)
-    if text.storage == 'inline' and slides and draw.chance(70):
-        return at_the_ends(draw, text)
-    return line_of(draw, text, draw.weighted({word: often for word, (often, *_) in LINES.items()}))
-
-
 def good_lines(draw, word, turns):
     """The lines of a script that the program takes."""
     text, lines, slides = Text(word), [], draw.chance(25)
     for _ in range(turns):
-        lines.append(next_line(draw, text, slides))
-        text.obey(command_of(lines[-1]))
+        if text.storage == 'heap' and draw.chance(15):
+            line = way_back(draw, text)
+        elif text.storage == 'inline' and slides and draw.chance(70):
+            line = at_the_ends(draw, text)
+        else:
+            line = line_of(draw, text, draw.weighted({word: often for word, (often, *_) in LINES.items()}))
+        lines.append(line)
+        text.obey(command_of(line))
     return lines
 
 

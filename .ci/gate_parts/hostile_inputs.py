@@ -6,8 +6,9 @@ import re
 
 from gate_parts.draw import Draw
 from gate_parts.encodings import nearly_utf8
-from gate_parts.good_scripts import LINES, good_lines, good_script, in_digits, line_of
-from gate_parts.language import GREATEST, MOST_BYTES, STARTS, Text, Undecided, answer, width
+from gate_parts.good_scripts import LINES, good_lines, good_script, line_of
+from gate_parts.language import GREATEST, MOST_BYTES, STARTS, Text, Undecided, answer
+from gate_parts.options import SEED
 from gate_parts.programs import STREAMS, Case
 
 WRONG_WORDS = [
@@ -27,13 +28,9 @@ def noise(draw, word):
         line + nearly_utf8(draw, draw.randint(1, 4)) + draw.choice((b'', b'\n', b'\npop', b'\n?'))))
 
 
-def short(draw, word):
-    return '\n'.join(good_lines(draw, word, draw.randint(1, 8))).encode() + draw.choice((b'', b'\n'))
-
-
 def spoilt(draw, word):
     """A good script with bytes left out, doubled, put in, cut off or changed by a bit at a place."""
-    data = short(draw, word)
+    data = '\n'.join(good_lines(draw, word, draw.randint(1, 8))).encode() + draw.choice((b'', b'\n'))
     at, size = draw.randrange(len(data)), draw.choice((1, 1, 1, 2, 40))
     more = (b' ', b'0', b'\n', b'\r', b'\0', b'\xef\xbb\xbf', draw.randbytes(1), nearly_utf8(draw, 1))
     flipped = bytes([data[at] ^ 1 << draw.randrange(8)])
@@ -42,8 +39,8 @@ def spoilt(draw, word):
 
 
 # How a number can be written, and what can stand in the place of one.
-NUMBERS = ('{}', '{:020}', '{:021}', '+{}', '-{}', ' {}', '{} ', '{}.', '{}\0', '{:#x}', '{:,}', '{:_}', '{:e}', '{}５',
-           '', '0' * 20, '0' * 21, '9' * 400, '٣', '５', '²')
+NUMBERS = ('{}', '{:020}', '{:021}', '+{}', '-{}', ' {}', '{} ', '{}.', '{}\0', '{:#x}', '{:,}', '{:_}',
+           '{:e}', '{}５', '', '0' * 20, '0' * 21, '9' * 400, '٣', '５', '²')
 # What can stand behind a word or in the place of a character.
 ENDS = ('', ' ', '  ', '\r', '\0', '\ufeff', ' a', 'a ', 'aa', 'e\u0301', 'é', '𝄞', 'g', '0', ' 00')
 
@@ -52,29 +49,19 @@ def odd_line(draw, word):
     """A line that is bad, or looks as if it were: its word, a space, its number or its end spoilt."""
     line = line_of(draw, Text(word), draw.choice(list(LINES)))
     name, space, rest = line.partition(' ')
-    n = draw.choice((0, 1, 8, 30, 2 ** 32, 2 ** 63, 10 ** 19, 2 ** 64, 2 ** 65, 10 ** 20)) + draw.randint(-1, 1)
-    number = draw.choice(NUMBERS).format(n)
+    near = draw.choice((0, 1, 8, 30, 2 ** 32, 2 ** 63, 10 ** 19, 2 ** 64, 2 ** 65, 10 ** 20))
+    number = draw.choice(NUMBERS).format(near + draw.randint(-1, 1))
     names = (name.upper(), name.title(), name[:-1], name + 's', name.replace('_', '-'), '', ' ' + name)
     return draw.choice((
         draw.choice(names) + space + rest, name + draw.choice(('', '  ', '\t', '\xa0')) + rest,
         line + draw.choice(ENDS), name + ' ' + draw.choice(ENDS), f'insert 0 {draw.choice(ENDS)}',
-        re.sub('[0-9]+', number, line, 1), f'reserve {number}', f'insert {number} a', f'insert_str {number} '))
-
-
-def odd_digits(draw, word):
-    """`replace_bytes` of a text's size or of one beside it, with its digits spoilt or not."""
-    text = draw.string(draw.choice((0, 1, 2, 3, 4, 8, 30, 31)))
-    size = max(0, width(text) + draw.choice((-1, 0, 0, 0, 0, 1)))
-    digits = in_digits(draw, (nearly_utf8(draw, 1) + b'b' * size)[:size])
-    at, other = draw.randint(0, len(digits)), draw.choice(('', ' ', *'g/:@G`-+é１\0\r', '0x'))
-    digits = draw.choice((digits, digits, digits[:at] + other + digits[at:], digits[:at] + other + digits[at + 1:]))
-    return f'clear\npush_str {text}\nreplace_bytes {digits}'
+        re.sub('[0-9]+', number, line, 1), f'reserve {number}', f'insert {number} a', f'insert {number}'))
 
 
 def odd(draw, word):
     """Such a line in a script that is good."""
     lines = good_lines(draw, word, draw.randint(0, 4))
-    lines.insert(draw.randint(0, len(lines)), draw.weighted({odd_line: 25, odd_digits: 7})(draw, word))
+    lines.insert(draw.randint(0, len(lines)), odd_line(draw, word))
     return '\n'.join(lines).encode() + draw.choice((b'', b'\n'))
 
 
@@ -104,20 +91,17 @@ INPUTS = {noise: 13, good_script: 22, spoilt: 30, odd: 32, at_limit: 5}
 WRONG, STREAMED = 3, 8
 
 
-def drawn(draw, name):
-    word = draw.choice(list(STARTS))
-    words = draw.choice(WRONG_WORDS) if draw.chance(WRONG) else [word]
-    io = draw.choice(STREAMS) if draw.chance(STREAMED) else ''
-    return Case(name, words, draw.weighted(INPUTS)(draw, word), io)
-
-
-def hostile_case(seed, number):
+def hostile_case(number):
     """A case with what it must give, how it ends in a word or two, and its replies. Always the same one."""
-    draw = Draw(f'{seed}:{number}')
+    draw = Draw(f'{SEED}:{number}')
     while True:
-        case = drawn(draw, f'hostile_{seed}_{number}')
+        word = draw.choice(list(STARTS))
+        words = draw.choice(WRONG_WORDS) if draw.chance(WRONG) else [word]
+        io = draw.choice(STREAMS) if draw.chance(STREAMED) else ''
+        case = Case(f'hostile_{number}', words, draw.weighted(INPUTS)(draw, word), io)
         try:
-            return case, *answer(case)
+            ends, replies = answer(case)
+            return case, ends, *('char' if reply.startswith('char ') else reply for reply in replies)
         except Undecided:
             # what memory there is would decide: another one
             pass

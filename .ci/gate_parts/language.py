@@ -57,9 +57,9 @@ def command_of(line):
 class Text:
     """A list of characters, and where it lies. Each command answers its reply."""
 
-    def __init__(self, word):
-        self.limit, self.storage = STARTS[word]
-        self.chars, self.size = [], 0
+    def __init__(self, word, storage=None):
+        self.limit, starts = STARTS[word]
+        self.storage, self.chars, self.size = storage or starts, [], 0
 
     def obey(self, command):
         word, *arguments = command

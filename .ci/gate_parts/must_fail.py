@@ -1,8 +1,7 @@
 """The edits of `must-fail/`, which `rt ci` tries too, each by itself.
 
-`rt` wants no more of one than that something refuses it, and passes where one can't be applied. So the
-folder's `README.md` has a table with a row for each: its name, what is wrong with it, and the functions
-and goals that must refuse it. Behind these may stand what else it touches (`edit_files.py`).
+`rt` wants no more of one than that something refuses it. So the folder's `README.md` has a table with a row
+for each: its name, what is wrong with it, the functions and goals that must refuse it, and what it touches.
 """
 import os
 import re

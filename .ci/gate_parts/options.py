@@ -1,7 +1,6 @@
 """What may stand behind the name of a part of the gate: each word and option, once for all parts."""
 import argparse
 
-from floors import HOSTILE_INPUTS
 from gate_parts.tree import PROCESSORS
 
 # The seed of all that is drawn at random.
@@ -14,9 +13,7 @@ KNOWN = {
     '--only': {'default': '', 'metavar': 'PATH'},
     '--named': {'default': '', 'metavar': 'WORD'},
     '--jobs': {'type': int, 'default': PROCESSORS, 'metavar': 'N'},
-    '--seed': {'default': SEED},
     '--lines': {'type': int, 'default': 0, 'metavar': 'N'},
-    '--count': {'type': int, 'default': HOSTILE_INPUTS},
 }
 
 

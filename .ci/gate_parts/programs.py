@@ -4,11 +4,11 @@ import subprocess
 import threading
 import time
 from dataclasses import dataclass
-from multiprocessing import Pool
+from multiprocessing import get_context
 
 from gate_parts.tree import PROCESSORS, Failure, crate_folder
 
-# A program that does not end is killed.
+# A program that does not end in so many seconds is killed.
 SECONDS = 20
 # How the standard streams are, where they are not files in memory.
 STREAMS = ('stdin-dir', 'stdin-zero', 'stdin-pipe', 'stdout-full', 'stdout-closed')
@@ -40,7 +40,6 @@ def run(program, case):
     """The standard output and the exit status of one run; the status is in words where it did not end."""
     stdin, feed = input_of(case)
     output = os.memfd_create('output')
-    # a full device takes no byte; nobody reads the pipe
     stdout = os.open('/dev/full', os.O_WRONLY) if case.io == 'stdout-full' else os.dup(
         UNREAD if case.io == 'stdout-closed' else output)
     try:
@@ -85,7 +84,7 @@ def feed_in_parts(pipe, data):
 
 def all_runs(work, items, at_once=1):
     """What `work` answers of each item, in order."""
-    with Pool(PROCESSORS) as pool:
+    with get_context('fork').Pool(PROCESSORS) as pool:
         yield from pool.imap(work, items, at_once)
 
 

@@ -20,28 +20,21 @@ from gate_parts.tree import PROCESSORS, crate_folder, run_rt, text_of
 LIBRARY, PART, PROGRAM = 'inlinable_string', 'run', 'inline_script'
 PROVED = re.compile(r'^only=(\d+) proved=\1$', re.MULTILINE)
 HELD = 'this test needs the proved build'
-# Generated lists take long under the checks of `rt try`, and longer where others are at work.
-SECONDS = '600'
 
 
 def part_is_proved():
     """Whether the part of the library is proved, and how many functions."""
     said, status = run_rt(crate_folder(LIBRARY), 'check', '--only', PART)
     proved = int((PROVED.search(said) or [0, 0])[1])
-    return status == 0 and proved >= QUICK_PROVED, f'{LIBRARY}: {proved} functions of `{PART}` are proved', said
-
-
-def counted(said):
-    """How many tests passed, failed, and stopped since they need the proved build."""
-    found = [(how == 'ok', HELD in printed) for _, how, printed in TEST.findall(said)]
-    passed, held = sum(is_well for is_well, _ in found), found.count((False, True))
-    return passed, len(found) - passed - held + (not ENDED.search(said)), held
+    return status == 0 and proved >= QUICK_PROVED, f'{proved} functions of {LIBRARY}::{PART} are proved', said
 
 
 def tests_pass(crate):
     """Whether the tests of a crate pass without being proved, and in words how many did."""
-    said, _ = run_rt(crate_folder(crate), 'try', '--test', '--seconds', SECONDS)
-    passed, failed, held = counted(said)
+    said, _ = run_rt(crate_folder(crate), 'try', '--test', '--seconds', '600')
+    found = [(how == 'ok', HELD in printed) for _, how, printed in TEST.findall(said)]
+    passed, held = sum(is_well for is_well, _ in found), found.count((False, True))
+    failed = len(found) - passed - held + (not ENDED.search(said))
     least, most_held = TRIED[crate]
     told = f'{crate}: {passed} tests passed, {failed} failed, {held} need the proved build'
     return not failed and passed >= least and held <= most_held, told, said
@@ -70,7 +63,6 @@ def main(words):
             print(said * (not is_well), end='', flush=True)
     used = resource.getrusage(resource.RUSAGE_CHILDREN)
     print(f'{used.ru_utime + used.ru_stime:5.0f} s of processor')
-    print(f'Not tried: the rest of {LIBRARY}, the tests of other crates, the proofs of these and of all tests, and '
-          'whatever must be refused or answered. The whole gate is .ci/run.')
+    print('Not tried: all other proofs and tests, and what must be refused or answered. The gate is .ci/run.')
     print('PASSED quick' if all(found) else 'FAILED quick')
     return all(found)

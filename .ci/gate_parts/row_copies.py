@@ -2,13 +2,12 @@
 
 A row is a function that does nothing: its contract is the row, or the law. Its copy stands in a module
 of its own, `copied::rN`, with its answers beside it. The definitions and the lemma files that it reaches
-and that stand on a changed file are copied under names of their own (`E1Run` of `Run`), and all that
-the copy says cites these. What stands below the changed file, the types of the source and the lemmas of
-a library below stay as they are.
+and that stand on a changed file are copied under names of their own (`E1Run` of `Run`), which the copy
+cites. All else stays as it is.
 """
 import os
 import re
-from typing import NamedTuple
+from collections import namedtuple
 
 from gate_parts.tree import crate_folder, text_of
 
@@ -22,19 +21,10 @@ GIVEN = re.compile(r'\{([^}]*)\};$')
 WORD = re.compile(r'[^\s(){}\[\];,.→λ:]+')
 
 
-class File(NamedTuple):
-    """A file of definitions or of lemmas."""
-    crate: str
-    folder: str
-    name: str
-
-
-class Row(NamedTuple):
-    """A row with the imports that it needs, and its answers."""
-    crate: str
-    function: str
-    text: str
-    answers: str
+# A file of definitions or of lemmas.
+File = namedtuple('File', 'crate folder name')
+# A row with the imports that it needs, and its answers.
+Row = namedtuple('Row', 'function text answers')
 
 
 class Files:
@@ -83,14 +73,13 @@ def row_of(crate, function):
     if not modules or not os.path.exists(source):
         return None
     text = text_of(source)
-    found = re.search(ROW.format(re.escape(name)), text, re.MULTILINE | re.DOTALL)
+    found = re.search(ROW.format(name), text, re.MULTILINE | re.DOTALL)
     if not found or found[0].count('pub fn') != 1:
         return None
-    above = '::'.join(['crate', *modules[:-1]]) + '::'
+    above = '::'.join(['crate', *modules[:-1], ''])
     imports = '\n'.join(needed(IMPORT.findall(text), found[0])).replace('super::', above)
     answers = os.path.join(folder, 'proofs', *modules, name, 'Answers.antt')
-    return Row(crate, function, f'{imports}\n\n{found[0]}\n',
-               text_of(answers) if os.path.exists(answers) else '')
+    return Row(function, f'{imports}\n\n{found[0]}\n', text_of(answers) if os.path.exists(answers) else '')
 
 
 def needed(imports, row):
@@ -119,7 +108,7 @@ def add_row(room, files, row, at, number, copied):
     room.add('src/copied.rt', f'pub mod r{at};\n')
     room.add(f'src/copied/r{at}.rt', files.citing(row.text, number, copied))
     if row.answers:
-        own = f'Rattle.{row.crate}.proofs.{".".join(modules)}.{name}.'
-        answers = row.answers.replace(own, f'Rattle.{row.crate}.proofs.copied.r{at}.{name}.')
+        own = f'Rattle.{files.crate}.proofs.'
+        answers = row.answers.replace(f'{own}{".".join(modules)}.{name}.', f'{own}copied.r{at}.{name}.')
         room.add(f'proofs/copied/r{at}/{name}/Answers.antt', files.citing(answers, number, copied))
     return f'copied::r{at}::{name}'

@@ -1,8 +1,7 @@
 """What a check by `rt` says: which functions are proved, and which goals are left open.
 
-It is prose, made for people, so all that the gate looks for in it stands here, and `selftest` reads
-stored examples of it. Where the prose of another toolchain is another, no goal is found open, and
-each edit fails.
+It is prose, made for people, so all that the gate looks for in it stands here. Where the prose of another
+toolchain is another, no goal is found open, and each edit fails.
 """
 import re
 

@@ -1,127 +1,109 @@
-"""What `beside` and `hostile` must notice, shown on programs that stand in for the two: a part of `selftest`.
+"""What `beside` and `hostile` must notice where a program answers otherwise: a part of `selftest`.
 
-Each stand-in is right, or has one fault; each stored file is whole, or something in it is wrong or gone.
+What runs a program is shown on real ones. Else a function stands in for that, right or with a fault, and each
+stored file is whole, or something in it is wrong or gone.
 """
 import contextlib
 import io
 import os
-import sys
 import tempfile
-from collections import Counter
+from unittest import mock
 
 from gate_parts import beside, hostile
-from gate_parts.options import SEED
+from gate_parts.language import answer
+from gate_parts.programs import Case, run
 from gate_parts.selftest_reading import fails
-from gate_parts.tree import in_tree, text_of, write_text
+from gate_parts.tree import text_of, too_few, write_text
 
-# Answers lines in the form of `side_by_side`.
-LINES = '''import os, sys
-lines = open(3).read().split('\\n')[:-1]
-status = 0
-for line in lines:
-    words = line.split(' ')
-    answer = words[1] + ' h:none' * (len(words) - 2) + ' heap 0 '
-    FAULT
-    print(answer)
-sys.exit(status)
-'''
-LINE_FAULTS = (
-    'answer += "0" * (line is lines[-1])', 'if line is lines[-1]: break', 'status = 3',
-    'if line is lines[-1]: sys.stdout.flush(); os.abort()')
-# Does what the model of `inline_script` does.
-SCRIPT = '''import os, sys
-from gate_parts.language import MOST_BYTES, answer
-class Case:
-    words, io, input = sys.argv[1:], '', b''
-case = Case()
-try:
-    while len(case.input) <= MOST_BYTES:
-        part = os.read(3, MOST_BYTES + 1)
-        if not part:
-            break
-        case.input += part
-except OSError:
-    case.io = 'stdin-dir'
-answer(case)
-FAULT
-try:
-    os.write(1, case.output)
-except OSError:
-    case.status = case.status or 1
-sys.exit(case.status)
-'''
-SCRIPT_FAULTS = (
-    "case.output = case.output.replace(b'bad place', b'done')", "case.output = b''",
-    'case.status = case.status and 3 - case.status', 'case.status = case.status or 3',
-    'os.path.isfile("/dev/fd/1") or os.dup2(os.open("/dev/null", 1), 1)')
-HELD = {'calls': beside.STEP}
+# Scripts of the shell, the streams of their runs, and what comes of it.
+RUNS = (('cat', '', (b'input', 0)), ('cat', 'stdin-pipe', (b'input', 0)), ('exec cat', 'stdin-dir', (b'', 1)),
+        ('echo told; exit 3', '', (b'told\n', 3)), ('echo told; kill -6 $$', '', (b'told\n', -6)),
+        ('head -c 2', 'stdin-zero', (b'\0\0', 0)), ('exec cat', 'stdout-full', (b'', 1)),
+        ('exec cat', 'stdout-closed', (b'', -13)))
+# What a program may do otherwise than it must.
+LINE_FAULTS = {
+    'a wrong answer to one line': lambda output: (output[:-1] + b'0\n', 0),
+    'a wrong status': lambda output: (output, 3),
+    'no last line': lambda output: (output[:output.rindex(b'\n', 0, -1) + 1], 0)}
+SCRIPT_FAULTS = {
+    'a wrong reply': lambda output, status: (output.replace(b'bad place', b'done'), status),
+    'no output': lambda output, status: (b'', status),
+    'a wrong status of what is refused': lambda output, status: (output, status and 3 - status),
+    'a wrong status of what is accepted': lambda output, status: (output, status or 3)}
 INPUTS, CASES = 40, 16
 
 
-def program(folder, source, fault='pass'):
-    """A stand-in with a fault, and its path by a name."""
-    path = os.path.join(folder, 'program')
-    # Python does not start where its standard input is a directory
-    write_text(path, f'#!/bin/sh\nexec {sys.executable} -ISB {path}.py "$@" 3<&0 </dev/null\n')
-    os.chmod(path, 0o700)
-    write_text(path + '.py', f'import sys\nsys.path.insert(0, {in_tree(".ci")!r})\n'
-               + source.replace('FAULT', fault))
-    return {'stand-in': path}
+def played(_, case):
+    """Answers a case as the model of `inline_script`."""
+    own = Case('', case.words, case.input, case.io)
+    answer(own)
+    return own.output, own.status
+
+
+def answered(_, case):
+    """Answers lines in the form of `side_by_side`."""
+    lines = [line.split(' ') for line in case.input.decode().splitlines()]
+    return ''.join(f'{words[1]}{" h:none" * (len(words) - 2)} heap 0 \n' for words in lines).encode(), 0
+
+
+def with_fault(stand_in, fault):
+    return lambda program, case: fault(*stand_in(program, case))
 
 
 def on_digests(folder):
     """In words what is done, and whether `beside` says what it must."""
-    builds, path = program(folder, LINES), os.path.join(folder, 'digests')
-    lines, (answers,), tally = beside.answered(list(builds.values()), ('calls', 0))
-    right = f'calls 0 {lines} {answers}\n'
+    path = os.path.join(folder, 'digests')
 
-    def failed(text):
+    def failed(text, runner=answered):
         write_text(path, text)
-        return sum(beside.failed_digests(builds, beside.stored(path, HELD))[0].values())
+        with mock.patch.object(beside, 'run', runner):
+            failed, _ = beside.failed_digests({'one': ''}, beside.stored(path, {'calls': beside.STEP}))
+            return failed['one']
 
+    with mock.patch.object(beside, 'run', answered):
+        lines, (answers,), tally = beside.answered([''], ('calls', 0))
+    right = f'calls 0 {lines} {answers}\n'
     yield 'lines that are answered as is stored', failed(right) == 0
     yield 'another digest of answers', failed(f'calls 0 {lines} {"0" * 64}\n') == 1
     for text in (f'calls 0 {"0" * 16} {answers}\n', '', right * 2, f'calls 0 {lines}\n',
                  right.replace('calls 0', 'calls 1000')):
         yield f'digests {text}', fails(failed, text)
-    for fault in LINE_FAULTS:
-        program(folder, LINES, fault)
-        yield fault, failed(right) == 1
-    words = text_of(beside.WORDS)
+    for what, fault in LINE_FAULTS.items():
+        yield what, failed(right, with_fault(answered, lambda output, _: fault(output))) == 1
+    words, sort = text_of(beside.WORDS), 'pop none'
     yield 'the words of the commands', not fails(beside.check_words, words)
-    yield 'a word more', fails(beside.check_words, words.replace('"pop" =>', '"peek" => None,\n        "pop" =>'))
-    sort = 'pop none'
-    yield 'enough of each sort', not list(beside.shortfalls(tally, [sort], 10))
-    for names, of_each in (([sort], 10 ** 6), (['String flies'], 1), ([sort], 0), ([], 1)):
-        yield f'{of_each} of {names}', bool(list(beside.shortfalls(tally, names, of_each)))
+    yield 'another word', fails(beside.check_words, words.replace('"pop" =>', '"peek" =>'))
+    yield 'enough of a sort', not list(too_few(tally, {sort: 10}))
+    for floors in ({sort: 10 ** 6}, {'String flies': 1}, {sort: 0}, {}):
+        yield f'floors {floors}', bool(list(too_few(tally, floors)))
 
 
 def on_scripts(folder):
     """The same of `hostile`."""
-    # the last cases are of streams
-    builds, cases = program(folder, SCRIPT), hostile.named_cases()[-CASES:]
-    yield 'a program that is as the model', hostile.are_right(builds, cases, SEED, INPUTS)
-    yield 'no input', fails(hostile.main, [builds['stand-in'], '--count', '0'])
-    for fault in SCRIPT_FAULTS:
-        program(folder, SCRIPT, fault)
-        yield fault, not hostile.are_right(builds, cases, SEED, INPUTS)
-    program(folder, SCRIPT, 'case.status = 0 if case.status == 1 else case.status')
-    yield 'a wrong status on the stored cases alone', not hostile.are_right(builds, cases, SEED, 1)
+    cases = hostile.named_cases()
+
+    def is_right(runner, count=INPUTS):
+        with mock.patch.object(hostile, 'run', runner):
+            return hostile.are_right({'one': ''}, cases, count)
+
+    yield 'a program that is as the model', is_right(played)
+    for what, fault in SCRIPT_FAULTS.items():
+        yield what, not is_right(with_fault(played, fault))
+    yield 'a wrong status of a stored case', not is_right(
+        with_fault(played, lambda output, status: (output, status if status != 1 else 0)), 1)
     path = os.path.join(folder, 'cases.py')
     whole = "CASES = [('a', [], b'', '', b'', 2), ('b', [], b'', '', b'', 2)]\n"
-    for old, new, is_well in (('', '', True), ("('a', [], b'', '', b'', 2), ", '', False), ("'b'", "'a'", False),
-                              ('2)', 'None)', False), ("b'', ''", "b'', 'stdin-nought'", False)):
+    for old, new in (('', ''), ("('a', [], b'', '', b'', 2), ", ''), ("'b'", "'a'"), ('2)', 'None)'),
+                     ("b'', ''", "b'', 'stdin-nought'")):
         write_text(path, whole.replace(old, new))
-        yield f'cases with {new} for {old}', fails(hostile.named_cases, 2, path) != is_well
-    write_text(path, 'CASES = []\n')
-    yield 'no cases', fails(hostile.named_cases, 0, path)
-    enough = Counter({name: 50 for name in ('accepted', *hostile.HOSTILE_REPLIES, *hostile.HOSTILE_FAULTS)})
-    yield 'enough replies and faults', not list(hostile.shortfalls(enough, enough, 1, 1 / 100))
-    for ends, of_each, part in ((enough, 51, 1 / 100), (enough, 1, 1), (Counter(), 1, 1 / 100), (enough, 0, 0)):
-        yield f'{of_each} of each, and {part}', bool(list(hostile.shortfalls(ends, enough, of_each, part)))
+        yield f'cases with {new} for {old}', fails(hostile.named_cases, 2, path) == bool(old)
+    with mock.patch.multiple(hostile, HOSTILE_INPUTS=1, HOSTILE={'done': 10 ** 6}):
+        yield 'too few replies', not is_right(played)
 
 
 def shown():
     """All that is planted, in words, and whether it is noticed."""
+    runs = [(f'{script} {stream}', run('/bin/sh', Case('', ['-c', script], b'input', stream)) == wanted)
+            for script, stream, wanted in RUNS]
     with tempfile.TemporaryDirectory() as folder, contextlib.redirect_stdout(io.StringIO()):
-        return [*on_digests(folder), *on_scripts(folder)]
+        return [*runs, *on_digests(folder), *on_scripts(folder)]

@@ -29,16 +29,13 @@ def ticks(process):
     return sum(map(int, own)) + sum(map(ticks, started))
 
 
-def forget(folder):
-    """Has a check of a copied crate begin from nothing: its text is like no other's, and nothing is kept."""
+def timed(folder, words):
+    """By function of a copied crate, the seconds that its check takes of the processor."""
     root = next(path for path in (f'{folder}/src/lib.rt', f'{folder}/src/main.rt') if os.path.exists(path))
+    # so that it begins from nothing: a text that is like no other's, and nothing kept
     write_text(root, text_of(root) + '// timed\n')
     shutil.rmtree(f'{folder}/out', ignore_errors=True)
     os.makedirs(f'{folder}/out/incremental')
-
-
-def timed(folder, words):
-    """By function, the seconds of processor that its check takes; under BEFORE those before the first."""
     costs, last = {}, 0
     with subprocess.Popen(['rt', 'check', '--jobs', '1', '--progress', *words], cwd=folder, encoding='utf-8',
                           errors='replace', stdout=subprocess.PIPE, stderr=subprocess.STDOUT) as check:
@@ -53,9 +50,8 @@ def main(words):
     if given.crate not in crates_with('src'):
         raise Failure(f'there is no crate {given.crate}')
     with copies([given.crate], 1) as (room,):
-        folder = crate_folder(given.crate, room)
-        forget(folder)
-        costs = timed(folder, ['--test'] * given.test + ['--only', given.only] * bool(given.only))
+        costs = timed(crate_folder(given.crate, room),
+                      ['--test'] * given.test + ['--only', given.only] * bool(given.only))
     for function, seconds in sorted(costs.items(), key=lambda each: -each[1]):
         print(f'{seconds:7.1f} s  {function}')
     print(f'{sum(costs.values()):7.1f} s  in all')

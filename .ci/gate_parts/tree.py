@@ -10,6 +10,15 @@ class Failure(Exception):
     """A part can't be tried, or has tried less than it must: its message is for whoever runs it."""
 
 
+def too_few(counts, floors):
+    """In words, of what there is less than there must be."""
+    if min(floors.values(), default=0) < 1:
+        yield 'TOO FEW: no floor says how much there must be'
+    for name, least in floors.items():
+        if counts[name] < least:
+            yield f'TOO FEW: {counts[name]} are `{name}`, and at least {least} must be'
+
+
 def in_tree(*names):
     return os.path.join(TOP, *names)
 

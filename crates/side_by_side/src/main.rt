@@ -18,14 +18,12 @@ use std::io::{self, BufRead, BufReader, BufWriter, Write};
 use std::process::ExitCode;
 
 fn main(rt: HostRuntime) -> ExitCode {
-    match run_program(&rt) {
-        Ok(()) => ExitCode::SUCCESS,
-        Err(fault) => {
-            // A line that cannot be written leaves the status as it is.
-            let _ = println!(rt; "{fault}");
-            ExitCode::from(fault.status())
-        }
-    }
+    let Err(fault) = run_program(&rt) else {
+        return ExitCode::SUCCESS;
+    };
+    // The status tells of a fault that can't be written.
+    let _ = println!(rt; "{fault}");
+    ExitCode::from(fault.status())
 }
 
 /// Answers the lines of standard input, to standard output.

@@ -1,6 +1,6 @@
 //! The calls of `InlineString`.
 
-use crate::calls::views::{bytes, character, compare, done_or, truth, view};
+use crate::calls::views::{bytes, character, compare, done_or, edited, truth, view};
 use crate::calls::{Answer, Call, Played, first_of};
 use crate::fault::LineFault;
 use inlinable_string::{INLINE_STRING_CAPACITY, InlineString, Storage};
@@ -78,42 +78,31 @@ fn edit(
     call: Call,
     string: &str,
 ) -> Result<Answer, LineFault> {
-    let place = call.number;
+    edited!(
+        alloc,
+        text,
+        call,
+        string,
+        "full",
+        more(alloc, text, call, string)
+    )
+}
+
+/// The calls of this type alone, and those that look at the text.
+fn more(
+    alloc: Global,
+    text: &mut InlineString,
+    call: Call,
+    string: &str,
+) -> Result<Answer, LineFault> {
     match call.word {
-        "push" => done_or(text.push(first_of(string)?), "full"),
-        "push_str" => done_or(text.push_str(string), "full"),
         "write_char" => done_or(text.write_char(first_of(string)?), "write_fault"),
         "write_str" => done_or(text.write_str(string), "write_fault"),
-        "pop" => character(alloc, text.pop()),
-        "clear" => {
-            text.clear();
-            Ok(Answer::Word("done"))
-        }
         "into_bytes" => {
             let given = text.clone()?.into_bytes();
             text.clear();
             bytes(alloc, "bytes", &given)
         }
-        "insert" | "insert_str" | "truncate" if !text.is_char_boundary(place) => {
-            Ok(Answer::Word("bad_place"))
-        }
-        "insert" => done_or(text.insert(place, first_of(string)?), "full"),
-        "insert_str" => done_or(text.insert_str(place, string), "full"),
-        "truncate" => {
-            text.truncate(place);
-            Ok(Answer::Word("done"))
-        }
-        "remove" if place >= text.len() || !text.is_char_boundary(place) => {
-            Ok(Answer::Word("bad_place"))
-        }
-        "remove" => character(alloc, Some(text.remove(place))),
-        _ => look(alloc, text, call, string),
-    }
-}
-
-/// The calls that look at the text.
-fn look(alloc: Global, text: &InlineString, call: Call, string: &str) -> Result<Answer, LineFault> {
-    match call.word {
         "len" => Ok(Answer::Number(text.len())),
         "is_empty" => Ok(truth(text.is_empty())),
         "as_bytes" => bytes(alloc, "bytes", text.as_bytes()),

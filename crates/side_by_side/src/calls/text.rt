@@ -1,6 +1,6 @@
 //! The calls of the traits, which `InlinableStringN` and `String` both have.
 
-use crate::calls::views::{bytes, character, compare, done_or, truth, view};
+use crate::calls::views::{bytes, character, compare, done_or, edited, truth, view};
 use crate::calls::{Answer, Call, first_of};
 use crate::fault::LineFault;
 use inlinable_string::{Storage, StringExt, StringMake, Utf16Error};
@@ -123,32 +123,19 @@ fn edit<S: StringExt>(
     string: &str,
 ) -> Result<Answer, LineFault> {
     let place = call.number;
-    match call.word {
-        "push" => done_or(text.push(first_of(string)?), "no_memory"),
-        "push_str" => done_or(text.push_str(string), "no_memory"),
-        "insert" | "insert_str" | "truncate" if !text.is_char_boundary(place) => {
-            Ok(Answer::Word("bad_place"))
+    edited!(
+        alloc,
+        text,
+        call,
+        string,
+        "no_memory",
+        match call.word {
+            "reserve" => Ok(room(text.reserve(place), text, place)),
+            "reserve_exact" => Ok(room(text.reserve_exact(place), text, place)),
+            "shrink_to_fit" => done_or(text.shrink_to_fit(), "no_memory"),
+            _ => look(alloc, text, call.word, string),
         }
-        "insert" => done_or(text.insert(place, first_of(string)?), "no_memory"),
-        "insert_str" => done_or(text.insert_str(place, string), "no_memory"),
-        "truncate" => {
-            text.truncate(place);
-            Ok(Answer::Word("done"))
-        }
-        "remove" if place >= text.len() || !text.is_char_boundary(place) => {
-            Ok(Answer::Word("bad_place"))
-        }
-        "remove" => character(alloc, Some(text.remove(place))),
-        "pop" => character(alloc, text.pop()),
-        "clear" => {
-            text.clear();
-            Ok(Answer::Word("done"))
-        }
-        "reserve" => Ok(room(text.reserve(place), text, place)),
-        "reserve_exact" => Ok(room(text.reserve_exact(place), text, place)),
-        "shrink_to_fit" => done_or(text.shrink_to_fit(), "no_memory"),
-        _ => look(alloc, text, call.word, string),
-    }
+    )
 }
 
 /// Whether there is room for as many bytes more, where it was not refused.

@@ -7,6 +7,37 @@ use std::cmp::Ordering;
 use std::fmt::{Debug, Display};
 use std::hash::{DefaultHasher, Hash, Hasher};
 
+/// What an edit answers, where memory or room that is refused is the fault; else what `others` do.
+macro_rules! edited {
+    ($alloc:ident, $text:ident, $call:ident, $string:ident, $fault:literal, $others:expr) => {
+        match $call.word {
+            "push" => done_or($text.push(first_of($string)?), $fault),
+            "push_str" => done_or($text.push_str($string), $fault),
+            "insert" | "insert_str" | "truncate" if !$text.is_char_boundary($call.number) => {
+                Ok(Answer::Word("bad_place"))
+            }
+            "insert" => done_or($text.insert($call.number, first_of($string)?), $fault),
+            "insert_str" => done_or($text.insert_str($call.number, $string), $fault),
+            "truncate" => {
+                $text.truncate($call.number);
+                Ok(Answer::Word("done"))
+            }
+            "remove" if $call.number >= $text.len() || !$text.is_char_boundary($call.number) => {
+                Ok(Answer::Word("bad_place"))
+            }
+            "remove" => character($alloc, Some($text.remove($call.number))),
+            "pop" => character($alloc, $text.pop()),
+            "clear" => {
+                $text.clear();
+                Ok(Answer::Word("done"))
+            }
+            _ => $others,
+        }
+    };
+}
+
+pub(crate) use edited;
+
 /// How a text compares with another.
 pub fn compare<T: Ord>(text: &T, other: &T, word: &str) -> Result<Answer, LineFault> {
     match word {
