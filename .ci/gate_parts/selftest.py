@@ -96,10 +96,10 @@ STAND_IN = r'''#!/usr/bin/env python3
 import os, sys
 crate, words = os.path.basename(os.getcwd()), sys.argv[1:]
 if words[0] == 'try':
-    request, met = int(words[-1]), os.environ['MET'].split()
-    print('test refusals::first ... ' + os.environ.get('RESULT', 'ok'))
-    for _ in range(int(met[request - 1]) if request <= len(met) else 0):
-        print('    refused')
+    for name in ('first', 'second'):
+        print(f'test refusals::{name} ... ' + os.environ.get('RESULT', 'ok'))
+        for said in os.environ[name.upper()].split(',')[int(words[-1]) - 1:][:1]:
+            print('    {} refused of {} requests, {} unseen'.format(*said.split()))
     print('test result: ok.' if 'CUT_OFF' not in os.environ else '')
     sys.exit()
 text = ''
@@ -318,12 +318,16 @@ class Callers(InSmallRepository):
 
 
 class Refusals(InSmallRepository):
-    def test_tests_that_never_meet_a_refusal_or_fail(self):
-        self.assert_passes('refusals', MET='2 1')
-        for met in ('', '1 1', '3'):
-            self.assert_fails('TOO FEW', 'refusals', MET=met)
-        self.assert_fails('1 failed', 'refusals', MET='2 1', RESULT='FAILED')
-        self.assert_fails('1 failed', 'refusals', MET='2 1', CUT_OFF='')
+    def test_tests_that_meet_other_refusals_than_they_state_or_fail(self):
+        well = {'FIRST': 'one 2 0,one 2 0,last 2 0', 'SECOND': 'one 1 0,last 1 0,none 1 0'}
+        self.assert_passes('refusals', **well)
+        self.assert_passes('refusals', **{**well, 'SECOND': 'none 2 1,one 2 1,last 2 1'})
+        self.assert_fails('TOO FEW', 'refusals', **{**well, 'FIRST': well['SECOND']})
+        self.assert_fails('2 failed', 'refusals', RESULT='FAILED', **well)
+        self.assert_fails('1 failed', 'refusals', CUT_OFF='', **well)
+        for second in ('one 1 0,one 1 0', 'one 2 0,last 2 0', 'one 1 0,last 1 0,one 1 0', 'none 1 0',
+                       'none 2 1,none 2 1', 'one 1 1,last 1 1', 'one 1 0'):
+            self.assert_fails('second says', 'refusals', **{**well, 'SECOND': second})
 
 
 class Floors(unittest.TestCase):
