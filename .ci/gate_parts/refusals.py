@@ -1,9 +1,14 @@
 """gate refusals [CRATE ..]: fails each allocation of the tests in turn, from the first on.
 
-The tests of the modules `refusals` must pass each time, and say `refused` where they met the failure. A
-crate is done at the first allocation that none of them makes, and must have met as many by then as
-`.ci/floors.py` says: tests that never say `refused` show nothing. The crates are tried side by side; each
-allocation is one build of a crate's tests.
+The tests of the modules `refusals` must pass each time, and each says what its rows state: how many requests
+it makes, and how many of them are unseen, as std does without (`shrink_to_fit` and `collect` do so). One request
+more of each test is its last. A test must say `one refused` where one of its requests fails, except as often as
+it has unseen ones, `last refused` at the next, and `none refused` after it. So a call that allocates where it need
+not is found, even if it does without where that fails.
+
+A crate is done once the last request of each test was refused, and must have met as many refusals by then as
+`.ci/floors.py` says: tests that never meet one show nothing. The crates are tried side by side; each allocation
+is one build of a crate's tests.
 """
 import re
 from concurrent.futures import ThreadPoolExecutor
@@ -12,38 +17,58 @@ from floors import REFUSALS
 from gate_parts.options import options
 from gate_parts.tree import Failure, crate_folder, run_rt
 
-# More allocations than any of the tests may make.
-MOST_REQUESTS = 40
 # A test, and what it printed.
 TEST = re.compile(r'^test (?!result:)(\S+) [^\n]*?(\S+)$(.*?)(?=^test |\Z)', re.MULTILINE | re.DOTALL)
 OF_REFUSALS = re.compile(r'(^|::)refusals::')
-MET = re.compile(r'^ +refused$', re.MULTILINE)
+SAYING = re.compile(r'^ +(one|last|none) refused of (\d+) requests, (\d+) unseen$', re.MULTILINE)
 ENDED = re.compile(r'^test result:', re.MULTILINE)
 
 
-def counted(said):
-    """Of the tests of the modules `refusals`, how many ran, failed, and met the failure.
+def tests_of(said):
+    """Of the tests of the modules `refusals`, what each says, and how many failed.
 
     A run that ended early counts as a failed one.
     """
-    own = [(how, printed) for name, how, printed in TEST.findall(said) if OF_REFUSALS.search(name)]
-    failed = sum(how != 'ok' for how, _ in own) + (not ENDED.search(said))
-    return len(own), failed, sum(len(MET.findall(printed)) for _, printed in own)
+    own = [(name, how, SAYING.findall(printed)) for name, how, printed in TEST.findall(said)
+           if OF_REFUSALS.search(name)]
+    failed = sum(how != 'ok' for _, how, _ in own) + (not ENDED.search(said))
+    return {name: sayings for name, _, sayings in own}, failed
+
+
+def faults_of(request, sayings, unseen):
+    """In words, which tests say what they must not where this allocation fails.
+
+    How often each didn't see its refusal is brought up to date.
+    """
+    for name, said in sorted(sayings.items()):
+        if len(said) != 1:
+            yield f'{name} says {len(said)} times what it met'
+            continue
+        which, count, most_unseen = said[0][0], *map(int, said[0][1:])
+        wanted = 'one' if request <= count else 'last' if request == count + 1 else 'none'
+        is_unseen = wanted == 'one' and which == 'none'
+        unseen[name] = unseen.get(name, 0) + is_unseen
+        if which != wanted and not (is_unseen and unseen[name] <= most_unseen):
+            yield f'{name} says {which} refused of {count} requests where allocation {request} fails'
+        if wanted == 'last' and unseen[name] != most_unseen:
+            yield f'{name} says {most_unseen} unseen requests, and has {unseen[name]}'
 
 
 def swept(crate):
     """Fails each allocation of a crate in turn. Whether all was well, and what there is to print."""
-    lines, meetings = [], 0
-    for request in range(1, MOST_REQUESTS + 1):
+    lines, unseen, meetings, request, requests = [], {}, 0, 0, 0
+    while request <= requests:
+        request += 1
         said = run_rt(crate_folder(crate), 'try', '--test', '--fail-alloc', str(request))[0]
-        ran, failed, met = counted(said)
-        lines.append(f'{crate}: allocation {request} fails: {ran} tests, {failed} failed, {met} met it')
-        if not ran or failed:
-            return False, [*lines, said]
-        if not met:
-            return enough(crate, request - 1, meetings, lines)
+        sayings, failed = tests_of(said)
+        faults = list(faults_of(request, sayings, unseen))
+        met = sum(which == 'one' for each in sayings.values() for which, _, _ in each)
+        lines.append(f'{crate}: allocation {request} fails: {len(sayings)} tests, {failed} failed, {met} met it')
+        if not sayings or failed or faults:
+            return False, [*lines, said, *faults]
         meetings += met
-    return False, [*lines, f'{crate}: more than {MOST_REQUESTS} allocations']
+        requests = max(int(count) for each in sayings.values() for _, count, _ in each)
+    return enough(crate, requests, meetings, lines)
 
 
 def enough(crate, requests, meetings, lines):

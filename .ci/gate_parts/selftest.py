@@ -77,10 +77,10 @@ STAND_IN = r'''#!/usr/bin/env python3
 import os, sys
 crate, words = os.path.basename(os.getcwd()), sys.argv[1:]
 if words[0] == 'try':
-    request, met = int(words[-1]), os.environ['MET'].split()
-    print('test refusals::first ... ' + os.environ.get('RESULT', 'ok'))
-    for _ in range(int(met[request - 1]) if request <= len(met) else 0):
-        print('    refused')
+    for name in ('first', 'second'):
+        print(f'test refusals::{name} ... ' + os.environ.get('RESULT', 'ok'))
+        for said in os.environ[name.upper()].split(',')[int(words[-1]) - 1:][:1]:
+            print('    {} refused of {} requests, {} unseen'.format(*said.split()))
     print('test result: ok.' if 'CUT_OFF' not in os.environ else '')
     sys.exit()
 text = ''
@@ -120,7 +120,7 @@ IN_ORDER = {
     'edits': ('--jobs 2', {'WORD': '    2\n', 'REFUSED': 'toy/one toy/other'}),
     'definitions': ('--jobs 2', {'WORD': 'word = 2', 'REFUSED': 'toy/law above/row'}),
     'callers': ('', {'WORD': 'result ≡ result', 'REFUSED': 'callers/call'}),
-    'refusals': ('', {'MET': '2 1'}),
+    'refusals': ('', {'FIRST': 'one 2 0,one 2 0,last 2 0', 'SECOND': 'one 1 0,last 1 0,none 1 0'}),
     'bench': ('bin/program', {}),
     'counts': ('', {})}
 ILL = './specs/E0Word.antt:1:1: error: `word`: expected type `ℕ`'
@@ -153,10 +153,13 @@ BROKEN = (
     ('callers', 'there are 1 edits of clauses', '.ci/floors.py', '}, 1, 1\n', '}, 2, 1\n'),
     # (the folder stays)
     ('callers', 'a folder proofs', 'crates/callers/proofs/Lib.antt', '', 'one = 1\n'),
-    ('refusals', 'TOO FEW', {'MET': ''}),
-    ('refusals', 'TOO FEW', {'MET': '3'}),
-    ('refusals', '1 failed', {'RESULT': 'FAILED'}),
+    ('refusals', None, {'SECOND': 'none 2 1,one 2 1,last 2 1'}),
+    ('refusals', 'TOO FEW', {'FIRST': 'one 1 0,last 1 0,none 1 0'}),
+    ('refusals', '2 failed', {'RESULT': 'FAILED'}),
     ('refusals', '1 failed', {'CUT_OFF': ''}),
+    *(('refusals', 'second says', {'SECOND': said}) for said in (
+        'one 1 0,one 1 0', 'one 2 0,last 2 0', 'one 1 0,last 1 0,one 1 0', 'none 1 0', 'none 2 1,none 2 1',
+        'one 1 1,last 1 1', 'one 1 0')),
     ('bench', 'wanted 11, given 12', 'bin/program', 'echo 11', 'echo 12'),
     ('bench', '1 passed, 1 failed', 'bin/program', 'Two', 'Three'),
     ('bench', 'is not there', 'bin/program', '', None),

@@ -17,39 +17,32 @@ pub enum Kind {
     User,
 }
 
-/// What is wrong with a row, whose call may not fail where `is_free`.
+/// What is wrong with a row.
 pub fn wrong_row(
     rt: &impl Abort,
     alloc: Global,
     refusals: &mut Refusals,
     row: &Row,
-    is_free: bool,
 ) -> Option<Wrong> {
     match row.0 {
-        Kind::N30 => wrong_own_call::<30>(rt, alloc, refusals, row, is_free),
-        Kind::N8 => wrong_own_call::<8>(rt, alloc, refusals, row, is_free),
-        Kind::N0 => wrong_own_call::<0>(rt, alloc, refusals, row, is_free),
-        Kind::String => wrong_call::<String>(rt, alloc, refusals, row, is_free),
-        Kind::User => wrong_call::<HeapText>(rt, alloc, refusals, row, is_free),
+        Kind::N30 => wrong_own_call::<30>(rt, alloc, refusals, row),
+        Kind::N8 => wrong_own_call::<8>(rt, alloc, refusals, row),
+        Kind::N0 => wrong_own_call::<0>(rt, alloc, refusals, row),
+        Kind::String => wrong_call::<String>(rt, alloc, refusals, row),
+        Kind::User => wrong_call::<HeapText>(rt, alloc, refusals, row),
     }
 }
 
-/// Asserts that no row is wrong. Each call of `asking` makes one request, those of `free` make
-/// none.
-pub fn assert_rows(
-    rt: &(impl Abort + Print),
-    alloc: Global,
-    asking: &[Row],
-    free: &[Row],
-) -> Result<(), Fail> {
+/// Asserts that no row is wrong. A text that is made with room for more than 30 bytes requests it,
+/// and no other.
+pub fn assert_rows(rt: &(impl Abort + Print), alloc: Global, rows: &[Row]) -> Result<(), Fail> {
     let mut refusals = Refusals::none();
-    for (i, row) in asking.iter().enumerate() {
-        let wrong = wrong_row(rt, alloc, &mut refusals, row, false);
+    let mut requests = 0usize;
+    for (i, row) in rows.iter().enumerate() {
+        let of_start = usize::from(row.1.0 > 30);
+        requests = requests.saturating_add(of_start).saturating_add(row.3);
+        let wrong = wrong_row(rt, alloc, &mut refusals, row);
         assert!(rt; wrong.is_none(), "{wrong:?} in row {i}");
     }
-    for (i, row) in free.iter().enumerate() {
-        let wrong = wrong_row(rt, alloc, &mut refusals, row, true);
-        assert!(rt; wrong.is_none(), "{wrong:?} in free row {i}");
-    }
-    super::tell(rt, &refusals)
+    super::tell(rt, alloc, &refusals, (requests, 0))
 }

@@ -5,7 +5,6 @@ use super::row::{Call, Outcome, Row, Way, Wrong, outcome, started, wrong_made, w
 use Way::{Own, Refs, Std};
 use inlinable_string::inline_json::JsonError;
 use inlinable_string::{InlinableStringN, StringExt};
-use serde_json::Value;
 use std::alloc::{AllocError, Global};
 use std::fmt::Write;
 use std::process::Abort;
@@ -63,10 +62,10 @@ fn is_added<const N: usize>(text: &mut InlinableStringN<N>, call: Call, is_again
     requires { N ≤ 300 }
 {
     match call {
-        Call::Chars(way, items, _, rest) => {
+        Call::Chars(way, items, rest) => {
             add_chars(text, way, if is_again { rest } else { items }).is_ok()
         }
-        Call::Strs(way, items, _, rest) => {
+        Call::Strs(way, items, rest) => {
             add_strs(text, way, if is_again { rest } else { items }).is_ok()
         }
         Call::WriteStr(string) => text.write_str(string).is_ok(),
@@ -75,41 +74,9 @@ fn is_added<const N: usize>(text: &mut InlinableStringN<N>, call: Call, is_again
     }
 }
 
-/// The JSON string of the text, made again where a request is refused.
-fn json_of<const N: usize>(
-    refusals: &mut Refusals,
-    text: &InlinableStringN<N>,
-) -> Result<Value, AllocError>
-    requires { N ≤ 300 }
-{
-    match text.to_json() {
-        Err(AllocError) if refusals.meet() => text.to_json(),
-        made => made,
-    }
-}
-
-fn outcome_of_json<const N: usize>(
-    alloc: Global,
-    refusals: &mut Refusals,
-    text: InlinableStringN<N>,
-    row: &Row,
-) -> Outcome<InlinableStringN<N>>
-    requires { N ≤ 300 }
-{
-    let Ok(value) = json_of(refusals, &text) else {
-        return Ok(Some(Wrong::SecondRefusal));
-    };
-    match InlinableStringN::<N>::from_json(alloc, &value) {
-        Ok(made) => Ok(wrong_made(made.as_str(), made.storage(), row)),
-        Err(JsonError::NotString) => Ok(Some(Wrong::Answer)),
-        Err(JsonError::NoMemory) => Err(text),
-    }
-}
-
 /// Makes a call of this type or of its traits.
 fn own_outcome<const N: usize>(
     alloc: Global,
-    refusals: &mut Refusals,
     text: InlinableStringN<N>,
     row: &Row,
     is_again: bool,
@@ -130,24 +97,25 @@ fn own_outcome<const N: usize>(
                 Err(text)
             }
         }
-        Call::Add(string) => match text.add(string) {
-            Ok(sum) => Ok(wrong_made(sum.as_str(), sum.storage(), row)),
-            Err(kept) => Err(kept),
-        },
-        Call::ToLimit8 => match text.with_limit::<8>() {
-            Ok(moved) => Ok(wrong_made(moved.as_str(), moved.storage(), row)),
-            Err(kept) => Err(kept),
-        },
-        Call::ToLimit300 => match text.with_limit::<300>() {
-            Ok(moved) => Ok(wrong_made(moved.as_str(), moved.storage(), row)),
-            Err(kept) => Err(kept),
-        },
-        Call::ToJson => match text.to_json() {
-            Ok(value) if value.as_str() == Some(row.1.1) => Ok(None),
-            Ok(_) => Ok(Some(Wrong::Text)),
-            Err(AllocError) => Err(text),
-        },
-        Call::FromJson => outcome_of_json(alloc, refusals, text, row),
+        Call::Add(string) => text
+            .add(string)
+            .map(|sum| wrong_made(sum.as_str(), sum.storage(), row)),
+        Call::ToLimit8 => text
+            .with_limit::<8>()
+            .map(|moved| wrong_made(moved.as_str(), moved.storage(), row)),
+        Call::ToLimit300 => text
+            .with_limit::<300>()
+            .map(|moved| wrong_made(moved.as_str(), moved.storage(), row)),
+        Call::FromJson => {
+            let Ok(value) = text.to_json() else {
+                return Err(text);
+            };
+            match InlinableStringN::<N>::from_json(alloc, &value) {
+                Ok(made) => Ok(wrong_made(made.as_str(), made.storage(), row)),
+                Err(JsonError::NotString) => Ok(Some(Wrong::Answer)),
+                Err(JsonError::NoMemory) => Err(text),
+            }
+        }
         _ => outcome(alloc, text, row),
     }
 }
@@ -158,19 +126,16 @@ pub fn wrong_own_call<const N: usize>(
     alloc: Global,
     refusals: &mut Refusals,
     row: &Row,
-    is_free: bool,
 ) -> Option<Wrong>
     requires { N ≤ 300 }
 {
     let text: InlinableStringN<N> = started(rt, alloc, refusals, row.1);
     let place = (text.storage(), text.capacity());
-    match own_outcome(alloc, refusals, text, row, false) {
+    match own_outcome(alloc, text, row, false) {
         Ok(wrong) => wrong,
-        Err(kept) => match wrong_refusal(refusals, is_free, &kept, row, place) {
+        Err(kept) => match wrong_refusal(refusals, &kept, row, place) {
             Some(wrong) => Some(wrong),
-            None => own_outcome(alloc, refusals, kept, row, true).unwrap_or(Some(
-                Wrong::SecondRefusal,
-            )),
+            None => own_outcome(alloc, kept, row, true).unwrap_or(Some(Wrong::SecondRefusal)),
         },
     }
 }

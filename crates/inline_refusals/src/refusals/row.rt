@@ -1,5 +1,6 @@
 //! A row: a text, a call that may fail for memory, and what it leaves.
 use super::kind::Kind;
+use super::made;
 use inlinable_string::{Storage, StringExt, StringMake, Utf16Error};
 use std::alloc::{AllocError, Global};
 use std::borrow::CowStr;
@@ -21,9 +22,9 @@ pub enum Way {
 #[derive(Clone, Copy)]
 pub enum Call {
     Push(char),
-    PushStr(&'static str),
+    PushStr(Text),
     InsertFirst(char),
-    InsertStrFirst(&'static str),
+    InsertStrFirst(Text),
     Reserve(usize),
     ReserveExact(usize),
     ShrinkToFit,
@@ -32,36 +33,38 @@ pub enum Call {
     Unpaired(&'static [u16]),
     FromUtf16Lossy(&'static [u16]),
     FromUtf8Lossy(&'static [u8]),
+    /// And makes a text of them again.
     IntoBytes,
 
-    From(&'static str),
-    FromStr(&'static str),
-    /// Items, the string of those before the one that fails, and the items from that one on.
-    Chars(Way, &'static [char], &'static str, &'static [char]),
-    Strs(Way, &'static [&'static str], &'static str, &'static [&'static str]),
+    From(Text),
+    FromStr(Text),
+    /// Items, of which `b` comes first, and those from the one on that may fail.
+    Chars(Way, &'static [char], &'static [char]),
+    Strs(Way, &'static [Text], &'static [Text]),
     FromChars(Way, &'static [char]),
-    FromStrs(Way, &'static [&'static str]),
+    FromStrs(Way, &'static [Text]),
     Clone,
-    Add(&'static str),
-    WriteStr(&'static str),
-    WriteFormatted(&'static str),
+    Add(Text),
+    WriteStr(Text),
+    WriteFormatted(Text),
     ToLimit8,
     ToLimit300,
-    ToJson,
     FromJson,
 }
 
-/// The room that a text is made with, and its content.
-pub type Start = (usize, &'static str);
+pub type Text = &'static str;
 
-/// A kind of text, its start, a call, what the call puts before the content and after it, and where
-/// the text is stored then.
-pub type Row = (Kind, Start, Call, &'static str, &'static str, Storage);
+/// The room that a text is made with, and its content.
+pub type Start = (usize, Text);
+
+/// A kind of text, its start, a call, how many requests the call makes, what it puts before the
+/// content and after it, and where the text is stored then.
+pub type Row = (Kind, Start, Call, usize, Text, Text, Storage);
 
 /// What is wrong after a call.
 #[derive(Clone, Copy, Debug, PartialEq)]
 pub enum Wrong {
-    /// It fails, and so did another one before it, or it may not fail.
+    /// It fails, and so did another one before it.
     SecondRefusal,
     /// It fails, and the text, its storage or its room is not as before.
     Change,
@@ -80,15 +83,7 @@ pub fn started<S: StringMake + Drop>(
     refusals: &mut Refusals,
     (room, content): Start,
 ) -> S {
-    let mut made = S::with_capacity(alloc, room);
-    if made.is_err() {
-        assert!(rt;
-            refusals.meet(),
-            "allocation failure with no request refused"
-        );
-        made = S::with_capacity(alloc, room);
-    }
-    let mut text = made.expect(rt, "one request is refused at most");
+    let mut text: S = made(rt, refusals, || S::with_capacity(alloc, room));
     assert!(rt; text.capacity() >= room);
     text.push_str(content).expect(rt, "the text has the room");
     text
@@ -96,7 +91,7 @@ pub fn started<S: StringMake + Drop>(
 
 /// What is wrong with a string, stored so, that a row's call makes.
 pub fn wrong_made(string: &str, storage: Storage, row: &Row) -> Option<Wrong> {
-    let (_, (_, content), _, before, after, wanted) = *row;
+    let (_, (_, content), _, _, before, after, wanted) = *row;
     let between = string
         .strip_prefix(before)
         .and_then(|rest| rest.strip_suffix(after));
@@ -115,16 +110,15 @@ pub type Place = (Storage, usize);
 /// What is wrong with a text whose call failed, or with the failure itself.
 pub fn wrong_refusal<S: StringExt>(
     refusals: &mut Refusals,
-    is_free: bool,
     kept: &S,
     row: &Row,
     place: Place,
 ) -> Option<Wrong> {
     let added = match row.2 {
-        Call::Chars(_, _, added, _) | Call::Strs(_, _, added, _) => added,
+        Call::Chars(..) | Call::Strs(..) => "b",
         _ => "",
     };
-    if is_free || !refusals.meet() {
+    if !refusals.meet() {
         Some(Wrong::SecondRefusal)
     } else if kept.as_str().strip_suffix(added) != Some(row.1.1) {
         Some(Wrong::Change)
@@ -135,6 +129,17 @@ pub fn wrong_refusal<S: StringExt>(
     }
 }
 
+/// Shrinks, and fails where the text stays on the heap with the room that it had, which is more
+/// than it needs: std's `shrink_to_fit` doesn't say that its request was refused.
+fn shrink<S: StringExt>(text: &mut S) -> Result<(), AllocError> {
+    let room = text.capacity();
+    text.shrink_to_fit()?;
+    if text.storage() == Storage::Heap && text.capacity() == room {
+        return Err(AllocError);
+    }
+    Ok(())
+}
+
 fn grow<S: StringExt>(text: &mut S, call: Call) -> Result<(), AllocError> {
     match call {
         Call::Push(ch) => text.push(ch),
@@ -143,54 +148,46 @@ fn grow<S: StringExt>(text: &mut S, call: Call) -> Result<(), AllocError> {
         Call::InsertStrFirst(string) => text.insert_str(0, string),
         Call::Reserve(additional) => text.reserve(additional),
         Call::ReserveExact(additional) => text.reserve_exact(additional),
-        _ => text.shrink_to_fit(),
+        _ => shrink(text),
     }
 }
 
-fn outcome_of_utf16<S: StringMake + Drop>(
-    alloc: Global,
-    text: S,
-    units: &[u16],
-    is_paired: bool,
-    row: &Row,
-) -> Outcome<S> {
-    match S::from_utf16(alloc, units) {
-        Ok(made) if is_paired => Ok(wrong_made(made.as_str(), made.storage(), row)),
-        Err(Utf16Error::Unpaired) if !is_paired => Ok(None),
-        Err(Utf16Error::NoMemory) => Err(text),
-        _ => Ok(Some(Wrong::Answer)),
-    }
-}
-
-/// The bytes are borrowed where they are the text.
-fn outcome_of_utf8<S: StringMake + Drop>(
-    alloc: Global,
-    text: S,
-    bytes: &[u8],
-    row: &Row,
-) -> Outcome<S> {
-    let is_borrowed = bytes == row.4.as_bytes();
-    match S::from_utf8_lossy(alloc, bytes) {
-        Ok(CowStr::Borrowed(read)) if is_borrowed => Ok(wrong_made(read, row.5, row)),
-        Ok(CowStr::Owned(read)) if !is_borrowed => Ok(wrong_made(read.as_str(), row.5, row)),
-        Ok(_) => Ok(Some(Wrong::Answer)),
-        Err(AllocError) => Err(text),
+/// What is wrong with bytes read as a row says: they are borrowed where they are the text.
+fn wrong_read(read: CowStr, bytes: &[u8], row: &Row) -> Option<Wrong> {
+    let is_borrowed = bytes == row.5.as_bytes();
+    match read {
+        CowStr::Borrowed(text) if is_borrowed => wrong_made(text, row.6, row),
+        CowStr::Owned(text) if !is_borrowed => wrong_made(text.as_str(), row.6, row),
+        _ => Some(Wrong::Answer),
     }
 }
 
 /// Makes a call of the traits.
 pub fn outcome<S: StringMake + Drop>(alloc: Global, text: S, row: &Row) -> Outcome<S> {
     match row.2 {
-        Call::FromUtf16(units) => outcome_of_utf16(alloc, text, units, true, row),
-        Call::Unpaired(units) => outcome_of_utf16(alloc, text, units, false, row),
-        Call::FromUtf8Lossy(bytes) => outcome_of_utf8(alloc, text, bytes, row),
+        Call::FromUtf16(units) => match S::from_utf16(alloc, units) {
+            Ok(made) => Ok(wrong_made(made.as_str(), made.storage(), row)),
+            Err(Utf16Error::Unpaired) => Ok(Some(Wrong::Answer)),
+            Err(Utf16Error::NoMemory) => Err(text),
+        },
+        Call::Unpaired(units) => match S::from_utf16(alloc, units) {
+            Ok(_) => Ok(Some(Wrong::Answer)),
+            Err(Utf16Error::Unpaired) => Ok(None),
+            Err(Utf16Error::NoMemory) => Err(text),
+        },
+        Call::FromUtf8Lossy(bytes) => match S::from_utf8_lossy(alloc, bytes) {
+            Ok(read) => Ok(wrong_read(read, bytes, row)),
+            Err(AllocError) => Err(text),
+        },
         Call::FromUtf16Lossy(units) => match S::from_utf16_lossy(alloc, units) {
             Ok(made) => Ok(wrong_made(made.as_str(), made.storage(), row)),
             Err(AllocError) => Err(text),
         },
         Call::IntoBytes => match text.into_bytes() {
-            Ok(bytes) if bytes.as_slice() == row.1.1.as_bytes() => Ok(None),
-            Ok(_) => Ok(Some(Wrong::Text)),
+            Ok(bytes) => match S::from_utf8(alloc, bytes) {
+                Ok(made) => Ok(wrong_made(made.as_str(), made.storage(), row)),
+                Err(_) => Ok(Some(Wrong::Answer)),
+            },
             Err(kept) => Err(kept),
         },
         growth => {
@@ -209,13 +206,12 @@ pub fn wrong_call<S: StringMake + Drop>(
     alloc: Global,
     refusals: &mut Refusals,
     row: &Row,
-    is_free: bool,
 ) -> Option<Wrong> {
     let text: S = started(rt, alloc, refusals, row.1);
     let place = (text.storage(), text.capacity());
     match outcome(alloc, text, row) {
         Ok(wrong) => wrong,
-        Err(kept) => match wrong_refusal(refusals, is_free, &kept, row, place) {
+        Err(kept) => match wrong_refusal(refusals, &kept, row, place) {
             Some(wrong) => Some(wrong),
             None => outcome(alloc, kept, row).unwrap_or(Some(Wrong::SecondRefusal)),
         },

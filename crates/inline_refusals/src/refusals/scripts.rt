@@ -1,4 +1,5 @@
 //! Scripts, and the arguments of the program that runs them.
+use super::{Requests, assert_first, made, tell};
 use script_language::ScriptFault;
 use script_language::arguments::words_of;
 use script_language::script::script;
@@ -7,22 +8,6 @@ use std::env::{Env, FillError};
 use std::process::Abort;
 use std::test::Fail;
 use test_support::Refusals;
-
-fn assert_first(rt: &impl Abort, refusals: &mut Refusals) {
-    assert!(rt;
-        refusals.meet(),
-        "allocation failure with no request refused"
-    );
-}
-
-/// The argument word.
-fn word_of(rt: &impl Abort, alloc: Global, word: &str, refusals: &mut Refusals) -> String {
-    if let Ok(word) = String::from_str(alloc, word) {
-        return word;
-    }
-    assert_first(rt, refusals);
-    String::from_str(alloc, word).expect(rt, "one request is refused at most")
-}
 
 /// The answer to a script, and how many bytes of the room it wrote.
 fn answer_to(
@@ -47,7 +32,7 @@ fn answer_again(
     room: &mut [u8],
     refusals: &mut Refusals,
 ) -> (Result<(), ScriptFault>, usize) {
-    let words = [word_of(rt, alloc, word, refusals)];
+    let words = [made(rt, refusals, || String::from_str(alloc, word))];
     let answer = answer_to(alloc, &words, lines, room);
     if answer.0 != Err(ScriptFault::NoMemory) {
         return answer;
@@ -57,13 +42,14 @@ fn answer_again(
     answer_to(alloc, &words, lines, room)
 }
 
-/// Runs a script. What it prints comes first of the outputs, and then what it prints where a
-/// request of its run is refused.
+/// Runs a script that makes so many requests. What it prints comes first of the outputs, and then
+/// what it prints where a request of its run is refused.
 fn assert_prints(
     rt: &(impl Abort + Print),
     alloc: Global,
     script: (&str, &[u8]),
     outputs: &[&str],
+    requests: usize,
 ) -> Result<(), Fail> {
     let mut refusals = Refusals::none();
     let mut cells = [0; 128];
@@ -77,7 +63,7 @@ fn assert_prints(
     if place != Some(0) {
         assert_first(rt, &mut refusals);
     }
-    super::tell(rt, &refusals)
+    tell(rt, alloc, &refusals, (requests, 0))
 }
 
 #[test]
@@ -90,21 +76,17 @@ fn the_stored_run_goes_on_after_a_refused_promotion(rt: HostRuntime) -> Result<(
         "done\ndone\nchar o\nbad place\nno memory\nchar l\n\
             text hel\nlength 3\nstorage inline\n",
     ];
-    assert_prints(&rt, rt.alloc(), ("inline", lines), &outputs)
+    assert_prints(&rt, rt.alloc(), ("inline", lines), &outputs, 6)
 }
 
 #[test]
 fn a_refused_push_leaves_a_text_without_inline_room_empty(rt: HostRuntime) -> Result<(), Fail> {
+    let lines = b"push a\npop\nshrink_to_fit\n";
     let outputs = [
         "done\nchar a\ndone\ntext \nlength 0\nstorage inline\n",
         "no memory\nnone\ndone\ntext \nlength 0\nstorage inline\n",
     ];
-    assert_prints(
-        &rt,
-        rt.alloc(),
-        ("inline0", b"push a\npop\nshrink_to_fit\n"),
-        &outputs,
-    )
+    assert_prints(&rt, rt.alloc(), ("inline0", lines), &outputs, 6)
 }
 
 #[test]
@@ -114,7 +96,7 @@ fn a_refused_push_keeps_eight_bytes_inline(rt: HostRuntime) -> Result<(), Fail> 
         "done\ndone\ndone\ntext 987654321\nlength 9\nstorage heap\n",
         "done\nno memory\nwrong length\ntext 12345678\nlength 8\nstorage inline\n",
     ];
-    assert_prints(&rt, rt.alloc(), ("inline8", lines), &outputs)
+    assert_prints(&rt, rt.alloc(), ("inline8", lines), &outputs, 6)
 }
 
 #[test]
@@ -124,22 +106,18 @@ fn a_refused_reservation_lets_a_heap_text_shrink_inline(rt: HostRuntime) -> Resu
         "done\ndone\ndone\ntext 0123456789\nlength 10\nstorage inline\n",
         "done\nno memory\ndone\ntext 0123456789\nlength 10\nstorage inline\n",
     ];
-    assert_prints(&rt, rt.alloc(), ("heap", lines), &outputs)
+    assert_prints(&rt, rt.alloc(), ("heap", lines), &outputs, 7)
 }
 
 #[test]
 fn a_refused_growth_leaves_a_string_as_it_was(rt: HostRuntime) -> Result<(), Fail> {
+    let lines = b"push_str abc\nreserve_exact 100\npop\n";
     let outputs = [
         "done\ndone\nchar c\ntext ab\nlength 2\nstorage heap\n",
         "no memory\ndone\nnone\ntext \nlength 0\nstorage heap\n",
         "done\nno memory\nchar c\ntext ab\nlength 2\nstorage heap\n",
     ];
-    assert_prints(
-        &rt,
-        rt.alloc(),
-        ("string", b"push_str abc\nreserve_exact 100\npop\n"),
-        &outputs,
-    )
+    assert_prints(&rt, rt.alloc(), ("string", lines), &outputs, 7)
 }
 
 #[test]
@@ -153,7 +131,7 @@ fn a_fault_is_named_once_memory_is_there(rt: HostRuntime) -> Result<(), Fail> {
         let answer = answer_again(&rt, alloc, script, &mut [0; 64], &mut refusals);
         assert_eq!(rt; answer, (Err(fault), 0));
     }
-    super::tell(&rt, &refusals)
+    tell(&rt, alloc, &refusals, (7, 0))
 }
 
 /// The arguments of a program, its own name first.
@@ -162,9 +140,7 @@ struct Arguments(&'static [&'static [u8]]);
 
 impl Env for Arguments {
     fn arg(&self, i: usize, buf: &mut [u8]) -> Result<usize, FillError> {
-        let Some(argument) = self.0.get(i) else {
-            return Err(FillError::NotPresent);
-        };
+        let argument = self.0.get(i).ok_or(FillError::NotPresent)?;
         let count = argument.len();
         if buf.len() < count {
             return Err(FillError::TooLong);
@@ -187,6 +163,7 @@ fn words_given(
     rt: &(impl Abort + Print),
     alloc: Global,
     arguments: &'static [&'static [u8]],
+    requests: Requests,
 ) -> Result<Result<Vec<String>, ScriptFault>, Fail> {
     let mut refusals = Refusals::none();
     let mut given = words_of(&(Arguments(arguments), alloc));
@@ -194,13 +171,13 @@ fn words_given(
         assert_first(rt, &mut refusals);
         given = words_of(&(Arguments(arguments), alloc));
     }
-    super::tell(rt, &refusals)?;
+    tell(rt, alloc, &refusals, requests)?;
     Ok(given)
 }
 
 #[test]
 fn the_words_are_those_after_the_name(rt: HostRuntime) -> Result<(), Fail> {
-    let words = words_given(&rt, rt.alloc(), &[b"inline_script", b"heap"])?;
+    let words = words_given(&rt, rt.alloc(), &[b"inline_script", b"heap"], (5, 1))?;
     let words = words.ok().expect(&rt, "two arguments are read");
     assert!(&rt; words.len() == 1 && words.iter().all(|word| word.as_str() == "heap"));
     Ok(())
@@ -208,7 +185,7 @@ fn the_words_are_those_after_the_name(rt: HostRuntime) -> Result<(), Fail> {
 
 #[test]
 fn a_word_that_is_no_text_is_a_bad_argument(rt: HostRuntime) -> Result<(), Fail> {
-    let words = words_given(&rt, rt.alloc(), &[b"inline_script", b"heap\xFF"])?;
+    let words = words_given(&rt, rt.alloc(), &[b"inline_script", b"heap\xFF"], (3, 0))?;
     assert!(&rt; words.err() == Some(ScriptFault::BadArgument));
     Ok(())
 }

@@ -3,30 +3,32 @@
 use super::kind::Kind::{N8, N30};
 use super::kind::wrong_row;
 use super::row::Call::{From, FromUtf16, PushStr, ToLimit300, Unpaired};
-use super::row::{Row, Wrong};
-use super::runs::refused_in;
+use super::row::Row;
+use super::row::Wrong::{self, Answer, Storage, Text};
+use super::runs::count_no_memory;
+use super::tell;
 use inlinable_string::Storage::{Heap, Inline};
 use inlinable_string::run::Reply::{Char, Done, NoMemory};
+use std::test::Fail;
 use test_support::Refusals;
 
 const WRONG: &[(Row, Wrong)] = &[
-    ((N30, (0, "a"), PushStr("b"), "b", "", Inline), Wrong::Text),
-    ((N30, (0, "a"), PushStr(""), "", "", Heap), Wrong::Storage),
-    ((N30, (0, "a"), ToLimit300, "", "", Heap), Wrong::Storage),
-    ((N8, (0, ""), From("a"), "", "a", Heap), Wrong::Storage),
-    ((N8, (0, ""), Unpaired(&[97]), "", "", Heap), Wrong::Answer),
-    ((N8, (0, ""), FromUtf16(&[97]), "", "b", Heap), Wrong::Text),
+    ((N30, (0, "a"), PushStr("b"), 0, "b", "", Inline), Text),
+    ((N30, (0, "a"), PushStr(""), 0, "", "", Heap), Storage),
+    ((N30, (0, "a"), ToLimit300, 0, "", "", Heap), Storage),
+    ((N8, (0, ""), From("a"), 0, "", "a", Heap), Storage),
+    ((N8, (0, ""), Unpaired(&[97]), 1, "", "", Heap), Answer),
+    ((N8, (0, ""), FromUtf16(&[97]), 1, "", "b", Heap), Text),
 ];
 
 #[test]
-fn a_row_that_is_wrong_is_found(rt: HostRuntime) {
-    let mut refusals = Refusals::none();
+fn a_row_that_is_wrong_is_found(rt: HostRuntime) -> Result<(), Fail> {
+    let (mut refusals, mut requests) = (Refusals::none(), 0usize);
     for (row, wanted) in WRONG {
-        let wrong = wrong_row(&rt, rt.alloc(), &mut refusals, row, false);
+        requests = requests.saturating_add(row.3);
+        let wrong = wrong_row(&rt, rt.alloc(), &mut refusals, row);
         assert!(rt; wrong == Some(*wanted), "{wrong:?}");
     }
-    assert!(rt; refused_in(&[Done, NoMemory], &[Done, NoMemory]) == Some(false));
-    assert!(rt; refused_in(&[NoMemory, NoMemory], &[Done, NoMemory]) == Some(true));
-    assert!(rt; refused_in(&[NoMemory, NoMemory], &[Done, Done]).is_none());
-    assert!(rt; refused_in(&[Char('a'), Done], &[Done, Done]).is_none());
+    assert!(rt; count_no_memory(&[NoMemory, Done, Char('a'), NoMemory]) == 2);
+    tell(&rt, rt.alloc(), &refusals, (requests, 0))
 }
