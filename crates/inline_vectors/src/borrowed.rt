@@ -1,23 +1,16 @@
 //! Texts in the place of a `str`, and of a slice of bytes.
 use crate::ways::{array_texts, inlinable_texts};
-use inlinable_string::{InlineString, StringExt};
-use std::alloc::Global;
+use inlinable_string::InlineString;
 use std::convert::{AsSlice, AsStr};
-use std::process::Abort;
 
 /// A text, how many words it has, its last character, and the sum of its bytes.
 type Row<'a> = (&'a str, usize, Option<char>, usize);
 
-const ROWS: &[Row] = &[
+const ROWS: &[Row] = rows! {
     ("", 1, None, 0),
     ("he", 1, Some('e'), 0x68 + 0x65),
-    (
-        "a é €",
-        3,
-        Some('€'),
-        0x61 + 0x20 + 0xC3 + 0xA9 + 0x20 + 0xE2 + 0x82 + 0xAC,
-    ),
-];
+    ("a é €", 3, Some('€'), 0x61 + 0x20 + 0xC3 + 0xA9 + 0x20 + 0xE2 + 0x82 + 0xAC),
+};
 
 /// A function over `&str`.
 fn words_in(string: &str) -> usize {
@@ -47,34 +40,23 @@ fn last_of(text: &InlineString) -> Option<char> {
     last
 }
 
-/// Whether a text is seen so by what takes a `str`.
-fn is_seen(string: &str, &(content, words, last, _): &Row) -> bool {
-    string == content && words_in(string) == words && string.chars().last() == last
-}
-
-/// The first row that is wrong, of texts wherever they lie and of those in arrays.
-fn wrong_row(rt: &impl Abort, alloc: Global, rows: &[Row]) -> Option<usize> {
-    for (i, row) in rows.iter().enumerate() {
-        for text in &inlinable_texts(rt, alloc, row.0) {
-            let is_right = text.ends_with(row.0) && sum_of(text) == row.3;
-            if !is_right || !is_seen(text, row) {
-                return Some(i);
-            }
-        }
-        for text in &array_texts(rt, alloc, row.0) {
-            let is_right = text.ends_with(row.0) && sum_of(text) == row.3;
-            if !is_right || !is_seen(text, row) || !is_lent(text, row.0) || last_of(text) != row.2 {
-                return Some(i);
-            }
-        }
-    }
-    None
+/// Whether a text is seen so by what takes a `str`, and its bytes by what takes a slice.
+fn is_seen(string: &str, sum_of_bytes: usize, &(content, words, last, sum): &Row) -> bool {
+    let is_same = string == content && string.ends_with(content) && sum_of_bytes == sum;
+    is_same && words_in(string) == words && string.chars().last() == last
 }
 
 #[test]
 fn a_text_is_used_in_the_place_of_a_str(rt: HostRuntime) {
-    let wrong = wrong_row(&rt, rt.alloc(), ROWS);
-    assert!(&rt; wrong.is_none(), "{wrong:?}");
+    for row in ROWS {
+        for text in &inlinable_texts(&rt, rt.alloc(), row.0) {
+            assert!(rt; is_seen(text, sum_of(text), row));
+        }
+        for text in &array_texts(&rt, rt.alloc(), row.0) {
+            assert!(rt; is_seen(text, sum_of(text), row));
+            assert!(rt; is_lent(text, row.0) && last_of(text) == row.2);
+        }
+    }
 }
 
 #[test]

@@ -2,7 +2,7 @@
 use crate::held::Memory::{self, Ample, Held};
 use crate::held::hold;
 use crate::makers::grants;
-use crate::texts::is_lying;
+use crate::texts::{assert_none_wrong, is_lying};
 use crate::ways::{array_texts, inlinable_texts};
 use inlinable_string::{InlinableString, InlineString, Storage, StringExt, StringMake};
 use std::alloc::{AllocError, Global};
@@ -16,26 +16,15 @@ pub type OrderRow<'a> = (&'a str, &'a str, Ordering);
 
 /// By the bytes, as numbers. That is by the characters too, but not by UTF-16, where a clef comes
 /// before U+FFFD.
-const ORDERS: &[OrderRow] = &[
-    ("", "", Equal),
-    ("", "a", Less),
-    ("he", "he", Equal),
-    ("fo", "foo", Less),
+const ORDERS: &[OrderRow] = rows! {
+    ("", "", Equal), ("", "a", Less), ("he", "he", Equal), ("fo", "foo", Less),
     ("fop", "foo", Greater),
-    ("foo", "bar", Greater),
-    ("foo", "foo", Equal),
-    ("é", "z", Greater),
-    ("é", "é", Equal),
-    ("é", "€", Less),
-    ("\u{FFFD}", "𝄞", Less),
-    ("a\0", "a", Greater),
-    ("B", "a", Less),
+    ("foo", "bar", Greater), ("é", "z", Greater), ("é", "é", Equal), ("é", "€", Less),
+    ("\u{FFFD}", "𝄞", Less), ("a\0", "a", Greater), ("B", "a", Less),
     (LETTERS_30, LETTERS_30, Equal),
-    (LETTERS_30, LETTERS_31, Less),
-    (LETTERS_31, LETTERS_31, Equal),
-    (LETTERS_31, "b", Less),
+    (LETTERS_30, LETTERS_31, Less), (LETTERS_31, LETTERS_31, Equal), (LETTERS_31, "b", Less),
     ("", LETTERS_31, Less),
-];
+};
 
 /// Whether two values are ordered so, by each call and operator.
 fn is_ordered<T: Ord>(a: &T, b: &T, order: Ordering) -> bool {
@@ -76,26 +65,25 @@ fn are_ordered<T: Ord + Hash>(
     true
 }
 
-/// The first row that is wrong, of texts wherever they are stored and of those in arrays.
+/// Whether a row is right, of texts wherever they are stored and of those in arrays.
+fn is_row_right(rt: &impl Abort, alloc: Global, row: &OrderRow) -> bool {
+    let texts = (
+        inlinable_texts(rt, alloc, row.0),
+        inlinable_texts(rt, alloc, row.1),
+    );
+    let arrays = (array_texts(rt, alloc, row.0), array_texts(rt, alloc, row.1));
+    are_ordered(texts.0.as_slice(), texts.1.as_slice(), row)
+        && are_ordered(arrays.0.as_slice(), arrays.1.as_slice(), row)
+}
+
+/// The first row that is wrong.
 pub fn wrong_order(rt: &impl Abort, alloc: Global, rows: &[OrderRow]) -> Option<usize> {
-    for (i, row) in rows.iter().enumerate() {
-        let left_texts = inlinable_texts(rt, alloc, row.0);
-        let right_texts = inlinable_texts(rt, alloc, row.1);
-        let left_arrays = array_texts(rt, alloc, row.0);
-        let right_arrays = array_texts(rt, alloc, row.1);
-        let is_right = are_ordered(left_texts.as_slice(), right_texts.as_slice(), row)
-            && are_ordered(left_arrays.as_slice(), right_arrays.as_slice(), row);
-        if !is_right {
-            return Some(i);
-        }
-    }
-    None
+    rows.iter().position(|row| !is_row_right(rt, alloc, row))
 }
 
 #[test]
 fn texts_are_ordered_and_hash_as_their_str_does_wherever_they_are_stored(rt: HostRuntime) {
-    let wrong = wrong_order(&rt, rt.alloc(), ORDERS);
-    assert!(&rt; wrong.is_none(), "{wrong:?}");
+    assert_none_wrong(&rt, wrong_order(&rt, rt.alloc(), ORDERS));
 }
 
 /// Whether a copy is the text with its storage, and a value of its own. Inline it requests no

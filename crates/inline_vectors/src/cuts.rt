@@ -43,7 +43,7 @@ const REPLACED: &[List] = rows! {
 };
 
 #[test]
-fn bytes_are_replaced_by_as_many_that_are_utf_8(rt: HostRuntime) {
+fn bytes_are_replaced_by_the_same_number_that_are_utf_8(rt: HostRuntime) {
     assert_each(&rt, rt.alloc(), REPLACED);
 }
 

@@ -25,12 +25,10 @@ type Boxed = Box<dyn StringExt + Drop>;
 
 /// A boxed text: its kind, the capacity that it is made with or `None` where it is new, its start,
 /// and for each list its replies, its text and its storage then.
-pub type BoxedRow<'a> = (
-    Kind,
-    Option<usize>,
-    &'a str,
-    &'a [(&'a [Reply], &'a str, Storage)],
-);
+pub type BoxedRow<'a> = (Kind, Option<usize>, &'a str, &'a [End<'a>]);
+
+/// The replies to a list, and the text and its storage then.
+type End<'a> = (&'a [Reply], &'a str, Storage);
 
 /// What memory is left to a list, and its commands.
 pub type Given<'a> = (Memory, &'a [Command<'a>]);
@@ -163,8 +161,6 @@ const COMMANDS: &[Command<'static>] = &[PushStr("y"), Remove(0), Pop, Pop];
 const REPLIES: &[Reply] = &[Done, Char('x'), Char('y'), NoChar];
 
 /// What "x" is after no commands, and after these.
-type End<'a> = (&'a [Reply], &'a str, Storage);
-
 const INLINE: &[End] = &[(&[], "x", Inline), (REPLIES, "", Inline)];
 
 const HEAP: &[End] = &[(&[], "x", Heap), (REPLIES, "", Heap)];
@@ -209,10 +205,7 @@ fn unlike_texts_have_unlike_replies(rt: HostRuntime) {
 
 const A29_E: &str = "aaaaaaaaaaaaaaaaaaaaaaaaaaaaaé";
 
-const FULL: &[End] = &[
-    (&[NoMemory, Char('a')], A29, Inline),
-    (&[Done], A29_E, Heap),
-];
+const FULL: &[End] = rows! { (&[NoMemory, Char('a')], A29, Inline), (&[Done], A29_E, Heap), };
 
 const EMPTY: &[End] = &[(&[NoMemory, NoChar], "", Heap), (&[Done], "é", Heap)];
 

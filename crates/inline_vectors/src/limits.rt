@@ -70,7 +70,7 @@ fn assert_limit(rt: &impl Abort, alloc: Global, limit: usize) {
 }
 
 #[test]
-fn as_many_letters_as_the_limit_are_inline_and_no_more(rt: HostRuntime) {
+fn letters_up_to_the_limit_are_inline_and_no_more(rt: HostRuntime) {
     for &limit in LIMITS {
         assert_limit(&rt, rt.alloc(), limit);
     }
@@ -205,7 +205,7 @@ fn assert_filled(rt: &impl Abort, alloc: Global, kinds: Kinds) {
 }
 
 #[test]
-fn as_many_bytes_as_the_limit_take_no_memory(rt: HostRuntime) {
+fn bytes_up_to_the_limit_take_no_memory(rt: HostRuntime) {
     assert_filled(&rt, rt.alloc(), (&[Inlinable, Boxable], 30, &[None]));
     assert_filled(&rt, rt.alloc(), (&[Inlinable], 300, &[None]));
 }

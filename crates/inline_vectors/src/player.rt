@@ -128,7 +128,7 @@ fn wrong_state<T: Played>(text: &T, made: Made, content: &str, place: Where) -> 
     }
 }
 
-/// Makes a step, and tells what is wrong after it.
+/// Makes a step, and returns what is wrong after it.
 fn wrong_after<T: Played>(text: &mut T, made: Made, way: Way, step: Step) -> Option<Wrong> {
     let (command, reply, content, place) = step;
     let old_capacity = text.seen().capacity;
@@ -407,8 +407,8 @@ pub fn assert_each_alone(rt: &impl Abort, alloc: Global, lists: &[List]) {
     assert_right(rt, play_each_alone(rt, alloc, EVERYWHERE, lists));
 }
 
-/// The steps of a command that is given this many times to the empty text. Each makes it longer by
-/// as much, up to `whole`, and past `limit` bytes it is on the heap.
+/// The steps of a command that is given this many times to the empty text. Each adds the same
+/// length, up to `whole`, and past `limit` bytes it is on the heap.
 pub fn repeated<'a>(
     rt: &impl Abort,
     alloc: Global,

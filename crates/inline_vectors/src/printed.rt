@@ -1,86 +1,63 @@
 //! Texts printed, and values that hold texts.
-use crate::texts::text_of;
+use crate::texts::{assert_none_wrong, text_of};
 use crate::ways::{array_texts, inlinable_texts};
 use inlinable_string::{InlinableString, InlineString, StringExt, StringMake};
-use std::alloc::{AllocError, Global};
+use std::alloc::Global;
 use std::fmt::{self, Debug, Display, Write};
 use std::process::Abort;
+use test_support::letters::LETTERS_31;
 
 /// A text, what it is printed as in each style with a bar after it, and as `Debug` prints it.
 pub type PrintRow<'a> = (&'a str, &'a str, &'a str);
 
 /// A width counts characters, not bytes.
-const PRINTED: &[PrintRow] = &[
+const PRINTED: &[PrintRow] = rows! {
     ("", "|        |    |******|   |", "\"\""),
     ("he", "he|      he|he  |**he**| he|", "\"he\""),
-    (
-        "hello world",
-        "hello world|hello world|hello world|hello world|hello world|",
-        "\"hello world\"",
-    ),
-    (
-        "hello world hello world hello world",
-        "hello world hello world hello world|hello world hello world hello world|\
-            hello world hello world hello world|hello world hello world hello world|\
-            hello world hello world hello world|",
-        "\"hello world hello world hello world\"",
-    ),
+    ("hello world", "hello world|hello world|hello world|hello world|hello world|",
+        "\"hello world\""),
+    (LETTERS_31, LETTERS_31_IN_EACH_STYLE, "\"aaaaaaaaaaaaaaaaaaaaaaaaaaaaaaa\""),
     ("é", "é|       é|é   |**é***|  é|", "\"é\""),
     ("a€𝄞", "a€𝄞|     a€𝄞|a€𝄞 |*a€𝄞**|a€𝄞|", "\"a€𝄞\""),
-    (
-        "\"\\'",
-        "\"\\'|     \"\\'|\"\\' |*\"\\'**|\"\\'|",
-        r#""\"\\'""#,
-    ),
-    (
-        "\0\t\n\r\u{1b}",
+    ("\"\\'", "\"\\'|     \"\\'|\"\\' |*\"\\'**|\"\\'|", r#""\"\\'""#),
+    ("\0\t\n\r\u{1b}",
         "\0\t\n\r\u{1b}|   \0\t\n\r\u{1b}|\0\t\n\r\u{1b}|\0\t\n\r\u{1b}*|\0\t\n\r\u{1b}|",
-        r#""\0\t\n\r\u{1b}""#,
-    ),
-];
+        r#""\0\t\n\r\u{1b}""#),
+};
 
-/// A text as it is printed in each style, and by `Debug`.
-fn printed<T: Display + Debug>(alloc: Global, text: &T) -> Result<(String, String), AllocError> {
-    let styled = format!(in alloc; "{text}|{text:>8}|{text:<4}|{text:*^6}|{text:>3}|")?;
-    let debugged = format!(in alloc; "{text:?}")?;
-    Ok((styled, debugged))
-}
+const LETTERS_31_IN_EACH_STYLE: &str = "aaaaaaaaaaaaaaaaaaaaaaaaaaaaaaa|\
+    aaaaaaaaaaaaaaaaaaaaaaaaaaaaaaa|aaaaaaaaaaaaaaaaaaaaaaaaaaaaaaa|\
+    aaaaaaaaaaaaaaaaaaaaaaaaaaaaaaa|aaaaaaaaaaaaaaaaaaaaaaaaaaaaaaa|";
 
-/// Whether each text is printed as its row says.
-fn are_printed<T: Display + Debug>(
+/// Whether a text is printed in each style, and by `Debug`, as its row says.
+fn is_printed<T: Display + Debug>(
     rt: &impl Abort,
     alloc: Global,
-    texts: &[T],
+    text: &T,
     &(_, styled, debugged): &PrintRow,
 ) -> bool {
-    for text in texts {
-        let (given, shown) = printed(alloc, text).expect(rt, "memory");
-        if given.as_str() != styled || shown.as_str() != debugged {
-            return false;
-        }
-    }
-    true
+    let given = format!(in alloc; "{text}|{text:>8}|{text:<4}|{text:*^6}|{text:>3}|");
+    let shown = format!(in alloc; "{text:?}");
+    given.expect(rt, "memory").as_str() == styled && shown.expect(rt, "memory").as_str() == debugged
 }
 
-/// The first row that is wrong, of texts of both types and of the `str` itself.
+/// Whether a row is right, of texts of both types and of the `str` itself.
+fn is_row_right(rt: &impl Abort, alloc: Global, row: &PrintRow) -> bool {
+    let texts = inlinable_texts(rt, alloc, row.0);
+    let arrays = array_texts(rt, alloc, row.0);
+    texts.iter().all(|text| is_printed(rt, alloc, text, row))
+        && arrays.iter().all(|text| is_printed(rt, alloc, text, row))
+        && is_printed(rt, alloc, &row.0, row)
+}
+
+/// The first row that is wrong.
 pub fn wrong_print(rt: &impl Abort, alloc: Global, rows: &[PrintRow]) -> Option<usize> {
-    for (i, row) in rows.iter().enumerate() {
-        let texts = inlinable_texts(rt, alloc, row.0);
-        let arrays = array_texts(rt, alloc, row.0);
-        let is_right = are_printed(rt, alloc, texts.as_slice(), row)
-            && are_printed(rt, alloc, arrays.as_slice(), row)
-            && are_printed(rt, alloc, &[row.0], row);
-        if !is_right {
-            return Some(i);
-        }
-    }
-    None
+    rows.iter().position(|row| !is_row_right(rt, alloc, row))
 }
 
 #[test]
-fn texts_are_printed_as_their_str_is_wherever_they_lie(rt: HostRuntime) {
-    let wrong = wrong_print(&rt, rt.alloc(), PRINTED);
-    assert!(&rt; wrong.is_none(), "{wrong:?}");
+fn texts_are_printed_as_their_str_is_in_each_storage(rt: HostRuntime) {
+    assert_none_wrong(&rt, wrong_print(&rt, rt.alloc(), PRINTED));
 }
 
 /// An entry of a list, with its text in it.

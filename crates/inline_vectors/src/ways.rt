@@ -12,10 +12,10 @@ use test_support::{ArrayText, EmptyText};
 pub const HEAP_ROOM: Option<usize> = Some(31);
 
 /// The capacity that a text is made with, or `None` for a new one; what is before it at first and
-/// is removed; and what is behind it at first and is cut off.
+/// is removed; and what is after it at first and is cut off.
 type Way = (Option<usize>, &'static str, &'static str);
 
-/// Inline ones, which start at different bytes of the array and have other bytes behind them, and
+/// Inline ones, which start at different bytes of the array and have other bytes after them, and
 /// two on the heap.
 const WAYS: &[Way] = &[
     (None, "", ""),

@@ -6,8 +6,8 @@ use inlinable_string::inline_string::{NotEnoughSpaceError, ReplaceError};
 use inlinable_string::{InlineStringN, Storage, StringExt};
 use std::alloc::AllocError;
 
-/// An `InlineStringN` under the trait. It lies inline always, and answers want of memory where the
-/// array answers `NotEnoughSpaceError`.
+/// An `InlineStringN` under the trait. It is always inline, and returns `AllocError` where the
+/// array returns `NotEnoughSpaceError`.
 #[derive(Drop)]
 pub struct ArrayText<const N: usize>(pub InlineStringN<N>);
 

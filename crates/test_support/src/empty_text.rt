@@ -8,7 +8,7 @@ use std::alloc::{AllocError, Global};
 /// A text that can be made empty. An array is one, and yet no `StringMake`: that makes texts on the
 /// heap too, of bytes that it takes over.
 pub trait EmptyText: StringExt {
-    /// The empty text, with room for so many bytes where a number is given.
+    /// The empty text, with this capacity where one is given.
     fn empty(alloc: Global, room: Option<usize>) -> Result<Self, AllocError>
         ensures { IfOk result (λ made. (Self.state made).text ≡ []) };
 }

@@ -6,11 +6,11 @@ use inlinable_string::{Storage, StringExt, StringMake};
 use std::alloc::{AllocError, Global};
 use std::string::FromUtf8Error;
 
-/// A text that lies on the heap always, and that shrinking does not bring back.
+/// A text that is always on the heap, also after it is shrunk.
 #[derive(Drop)]
 pub struct HeapText {
     pub string: String,
-    /// Whether it can be shrunk: where it can't, it answers want of memory.
+    /// Whether it can be shrunk: where it can't, that returns `AllocError`.
     pub can_shrink: bool,
 }
 

@@ -5,16 +5,16 @@ use std::alloc::Global;
 /// up with so few.
 const MOST_BLOCKS: usize = 20_000;
 
-/// The first size that is asked for is 2 to this power.
+/// The first size that is requested is 2 to this power.
 const LARGEST_SHIFT: u32 = 46;
 
-/// The C library keeps freed blocks of up to so many bytes for requests of about their own size.
+/// The C library keeps freed blocks of up to this size for requests of about their own size.
 const MOST_KEPT: usize = 1040;
 
 /// How often a block is looked for that serves one request of its size.
 const MOST_TRIES: usize = 10;
 
-/// So many blocks more are set aside at each further try, and so another one is given back.
+/// How many blocks more each further try sets aside, so that another one is given back.
 const SET_ASIDE: usize = 50;
 
 /// What a test says that cannot hold all memory. It fails by that, since it has not checked
@@ -22,7 +22,7 @@ const SET_ASIDE: usize = 50;
 pub const NEEDS_THE_PROVED_BUILD: &str =
     "all memory cannot be held here: this test needs the proved build";
 
-/// All memory that can be had. While it stands, each request is refused.
+/// All memory that can be had. Until it is dropped, each request is refused.
 ///
 /// `rt try` has too much memory to be held, so tests with a hoard run in the gate alone, and say so
 /// elsewhere ([`NEEDS_THE_PROVED_BUILD`]).
@@ -38,9 +38,9 @@ impl Hoard {
         Hoard::rest(alloc, Vec::with_capacity(alloc, MOST_BLOCKS).ok()?)
     }
 
-    /// All memory but one block, which serves one request of so many bytes. The C library gives a
-    /// longer one at times, as its free blocks happen to lie, and keeps that for requests of its
-    /// own length; so it is asked whether the block that was given back serves.
+    /// All memory but one block, which serves one request of this size. The C library gives a
+    /// longer one at times and keeps that for requests of its own length, so this tries whether the
+    /// block that was given back serves.
     pub fn take_but_one(alloc: Global, size: usize) -> Option<Hoard> {
         for tries in 0..MOST_TRIES {
             let mut blocks = Vec::with_capacity(alloc, MOST_BLOCKS).ok()?;
@@ -56,7 +56,7 @@ impl Hoard {
         None
     }
 
-    /// All memory that is left, beside these blocks.
+    /// All memory that is left, in addition to these blocks.
     fn rest(alloc: Global, mut blocks: Vec<Vec<u8>>) -> Option<Hoard> {
         for smaller in 0..=LARGEST_SHIFT {
             take_all(alloc, &mut blocks, 1usize << (LARGEST_SHIFT - smaller));
@@ -78,7 +78,7 @@ fn take_all(alloc: Global, blocks: &mut Vec<Vec<u8>>, size: usize) {
     take_some(alloc, blocks, size, MOST_BLOCKS);
 }
 
-/// The same, and no more than so many.
+/// The same, and no more than `count` of them.
 fn take_some(alloc: Global, blocks: &mut Vec<Vec<u8>>, size: usize, count: usize) {
     for _ in 0..count {
         let Ok(block) = Vec::with_capacity(alloc, size) else {
