@@ -1,5 +1,6 @@
 -- Texts to which the items of an iterator are added one by one.
 use Rattle.inlinable_string.proofs.Common.{common_steps, ◌≡◌, ℕ, ◌+◌, ◌≤◌, ◌<◌, true, false, List, [], ◌∷◌, ◌++◌, sym, ap, ◌∙◌, arith, subst, append_assoc, Option, Some, None, Result, Ok, Err, OnErr, rules, flat_map_more, map-append, chars, Inline, size, TextState, IsSameText, HasRoom, storage_with_room, storage_when_made, inlinable_policy, inlinable_state, text_of_strs, text_of_char_refs, IsExtended, IsRefusedLast}
+use Rattle.std.proofs.Common.{IsErr}
 use Rattle.std.proofs.iter.runs.Made.{run_of_turn, run_of_exit}
 use Rattle.std.specs.Borrow.{Bor}
 use Rattle.std.specs.Iterator.{Yields}
@@ -105,6 +106,10 @@ module _ {A S : Type 0} (text_of : List A → List ℕ) (gives : S → Option A 
 pub refused : {T E P : Type 0} (r : Result T E) → P → OnErr r P
 refused (Ok x) p = tt
 refused (Err x) p = p
+
+pub refusal : {T E P : Type 0} (r : Result T E) → IsErr r → OnErr r P → P
+refusal (Ok x) e p = cc
+refusal (Err x) e p = p
 
 -- where all fits, nothing is refused
 pub all_fit : {A S : Type 0} (text_of : List A → List ℕ) (gives : S → Option A → S → Type 0)
