@@ -117,6 +117,11 @@ pub at_refusal : {T E P : Type 0} (r : Result T E) (Q : T → Type 0) → IsErr 
 at_refusal (Ok x) Q e p = absurd (clash e)
 at_refusal (Err x) Q e p = p
 
+-- and what it says there
+pub refusal : {T E P : Type 0} (r : Result T E) → IsErr r → OnErr r P → P
+refusal (Ok x) e p = absurd (clash e)
+refusal (Err x) e p = p
+
 -- where all fits, nothing is refused
 pub all_fit : {A S : Type 0} (text_of : List A → List ℕ) (gives : S → Option A → S → Type 0)
     (it : S) (old new : TextState)

@@ -1,5 +1,5 @@
 -- Texts and their bytes.
-use Rattle.inlinable_string.proofs.Common.{common_steps, ◌≡◌, ℕ, ◌+◌, ◌≤◌, true, List, [], ◌∷◌, ◌++◌, length, take, drop, take_at, drop_at, insert_slice, refl, sym, ap, ◌∙◌, arith, subst, length-append, take-append-drop, length-take-le, append-nil, Result, Ok, Err, is_ok, if◌then◌else◌, OnOk, OnErr, IsOk, Option, Some, None, MatchOption, IfSome, IfNone, IsTrue, ◌↔◌, nat_eq, rules, nil_from_length, and_parts, eqb-true, ltb-true, String, string_bytes, string_len, IsUtf8-string_bytes, length-le-encodes, length-encode, len_utf8_bounds, encode_utf8, chars, chars-IsAscii, all_scalars, IsAscii, IsUtf8, IsCharBoundary, chars-nil, encodes-chars, scalars-chars, chars-append, chars_from_encodes, encodes-append, encodes_same, IsUtf8-take, IsCharBoundary-at_seam, bytes_of, size, IsCut, IsPlace, IsSplice, IsRemoval}
+use Rattle.inlinable_string.proofs.Common.{common_steps, ◌≡◌, ℕ, ◌+◌, ◌≤◌, true, List, [], ◌∷◌, ◌++◌, length, take, drop, refl, sym, ap, ◌∙◌, arith, subst, length-append, take-append-drop, length-take-le, append-nil, Result, Ok, Err, is_ok, if◌then◌else◌, OnOk, OnErr, IsOk, Option, Some, None, MatchOption, IfSome, IfNone, IsTrue, ◌↔◌, nat_eq, rules, nil_from_length, and_parts, eqb-true, ltb-true, String, string_bytes, string_len, IsUtf8-string_bytes, length-le-encodes, length-encode, len_utf8_bounds, encode_utf8, chars, chars-IsAscii, all_scalars, IsAscii, IsUtf8, IsCharBoundary, chars-nil, encodes-chars, scalars-chars, chars-append, chars_from_encodes, encodes-append, encodes_same, IsUtf8-take, IsCharBoundary-at_seam, bytes_of, size, IsCut, IsPlace, IsSplice, IsRemoval}
 use Rattle.std.proofs.lemmas.Str.Ascii.{IsAscii-nil, IsAscii-cons}
 use Rattle.std.specs.Char.{is_ascii}
 use Rattle.std.specs.List.{list_all}
@@ -161,21 +161,6 @@ module _ {bs : List ℕ} (u : IsUtf8 bs) where
 
   pub bytes-pushed_str : (t v : List ℕ) → v ≡ t ++ chars bs → bytes_of v ≡ bytes_of t ++ bs
   bytes-pushed_str t v e = rw e (rw (encodes-chars bs u) at (encodes-append t (chars bs)))
-
-  pub bytes-spliced_str : {t v : List ℕ} {p : ℕ} → IsSplice t p (chars bs) v
-      → bytes_of v ≡ insert_slice (bytes_of t) p bs
-  bytes-spliced_str s =
-      let f = s.front in
-      let b = s.back in
-      let parts = ap bytes_of s.cut.joined ∙ encodes-append f b in
-      ap bytes_of s.joined ∙ encodes-append (f ++ chars bs) b
-      ∙ rw (
-        encodes-append f (chars bs),
-        encodes-chars bs u,
-        parts,
-        take_at (bytes_of f) (bytes_of b) _ s.cut.before,
-        drop_at (bytes_of f) (bytes_of b) _ s.cut.before,
-      ) refl
 
   pub size-spliced_str : {t v : List ℕ} {p : ℕ} → IsSplice t p (chars bs) v
       → size v ≡ size t + length bs

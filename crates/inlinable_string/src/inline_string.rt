@@ -5,7 +5,7 @@
 ghost use Rattle.std.specs.Prelude.{◌≡◌, ⊤, ℕ, ◌+◌, ◌-◌, ◌≤◌, ◌<◌, ◌↔◌, List, ◌++◌, [], ◌∷◌, length, drop, replicate, encode_utf8, IsTrue, true, OnOk, OnErr, Err, Some, MatchOption, MatchResult, IsUtf8, if◌then◌else◌, codes};
 ghost use Rattle.std.specs.Bool.{OnTrue, OnFalse};
 ghost use Rattle.std.specs.Char.{is_ascii};
-ghost use Rattle.std.specs.List.{insert_slice, list_all};
+ghost use Rattle.std.specs.List.{list_all};
 ghost use Rattle.std.specs.Str.{all_scalars, chars, IsCharBoundary};
 ghost use Rattle.inlinable_string.specs.Text.{bytes_of, size, IsCut, IsPlace, IsSplice, IsRemoval};
 
@@ -246,8 +246,6 @@ impl<const N: usize> InlineStringN<N> {
             (λ _. size self.old + length string.now ≤ N)
             (λ _. N < size self.old + length string.now) }
         ensures ok { OnOk result (IsSplice self.old idx (chars string.now) self.new) }
-        ensures bytes { OnOk result
-            (bytes_of self.new ≡ insert_slice (bytes_of self.old) idx string.now) }
         ensures ascii { list_all is_ascii string.now ≡ true
             → OnOk result (IsSplice self.old idx string.now self.new) }
         ensures len { OnOk result (size self.new ≡ size self.old + length string.now) }

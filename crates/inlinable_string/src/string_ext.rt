@@ -2,7 +2,7 @@
 //! [`crate::InlinableStringN`] and for a type of one's own.
 ghost use Rattle.std.specs.Prelude.{◌≡◌, ℕ, ◌+◌, ◌≤◌, ◌<◌, ◌↔◌, List, ◌++◌, [], ◌∷◌, length, drop, IsTrue, true, OnOk, OnErr, IsOk, Err, MatchOption, IsUtf8};
 ghost use Rattle.std.specs.Char.{is_ascii};
-ghost use Rattle.std.specs.List.{insert_slice, list_all};
+ghost use Rattle.std.specs.List.{list_all};
 ghost use Rattle.std.specs.Str.{chars, IsCharBoundary};
 ghost use Rattle.inlinable_string.specs.Text.{bytes_of, size, IsCut, IsPlace, IsSplice, IsRemoval};
 ghost use Rattle.inlinable_string.specs.declared.string_ext.Storage.TheVariants.{Heap};
@@ -105,8 +105,6 @@ pub trait StringExt {
         requires { IsPlace (state self.old).text idx }
         ensures text { OnOk result
             (IsSplice (state self.old).text idx (chars string.now) (state self.new).text) }
-        ensures bytes { OnOk result (bytes_of (state self.new).text
-            ≡ insert_slice (bytes_of (state self.old).text) idx string.now) }
         ensures ascii { list_all is_ascii string.now ≡ true
             → OnOk result (IsSplice (state self.old).text idx string.now (state self.new).text) }
         ensures len { OnOk result

@@ -10,8 +10,7 @@ use super::{InlineStringN, NotEnoughSpaceError};
 use crate::well_formed::assume_utf8_param;
 
 impl<const N: usize> InlineStringN<N> {
-    /// Appends the characters of an iterator that ends, one by one. What it says of how many will
-    /// come is not asked for.
+    /// Appends the characters of an iterator that ends, one by one.
     ///
     /// Fails at the first character with which the text would have more than `N` bytes; then those
     /// before it have been appended, and it is lost.
@@ -35,8 +34,7 @@ impl<const N: usize> InlineStringN<N> {
         Ok(())
     }
 
-    /// Appends the strings of an iterator that ends, one by one. What it says of how many will come
-    /// is not asked for.
+    /// Appends the strings of an iterator that ends, one by one.
     ///
     /// Fails at the first string with which the text would have more than `N` bytes; then those
     /// before it have been appended, and nothing of it.

@@ -1,5 +1,5 @@
 use Rattle.inlinable_string.proofs.Common.{refl, text_of_chars}
-use Rattle.inlinable_string.proofs.Extended.{grown_more, finished, stopped, refused, all_fit}
+use Rattle.inlinable_string.proofs.Extended.{grown_more, finished, stopped, refused, refusal, all_fit}
 use Rattle.inlinable_string.proofs.inlinable_string.InlinableStringN.extend_chars.Goals as goal
 
 pub loop-ch-preserved : goal.loop-ch-preserved
@@ -16,11 +16,8 @@ returns-in_err-push-clause-err g c =
 
 pub returns-in_err-push-clause-granted : goal.returns-in_err-push-clause-granted
 returns-in_err-push-clause-granted g c fits =
-    let led = rw c.into_iter-ch-iterator.ensures.into_iter_gives at c.loop-ch.yielded_by in
     absurd (all_fit text_of_chars _ _ _ _
-    (stopped text_of_chars _ _ _ c.next.new.self _ _ _ _ c.in-Some.ch _ _ c.loop-ch.invariant
-    refl refl c.in_err-push.ensures.granted c.in_err-push.ensures.err led c.in-Some.ensures.steps)
-    fits)
+    (refusal _ c.from_residual.ensures.0 (returns-in_err-push-clause-err g c)) fits)
 
 pub returns-clause-ok : goal.returns-clause-ok
 returns-clause-ok g c =

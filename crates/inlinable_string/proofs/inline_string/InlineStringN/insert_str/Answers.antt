@@ -1,5 +1,5 @@
 use Rattle.std.proofs.Common.{arith}
-use Rattle.inlinable_string.proofs.Text.{holds_chars, size_of, size-spliced_str, bytes-spliced_str, ascii-spliced_str, place_within, place_behind_str}
+use Rattle.inlinable_string.proofs.Text.{holds_chars, size_of, size-spliced_str, ascii-spliced_str, place_within, place_behind_str}
 use Rattle.inlinable_string.proofs.Window.{held, inserted}
 use Rattle.inlinable_string.proofs.inline_string.InlineStringN.insert_str.Goals as goal
 
@@ -31,7 +31,6 @@ returns g c =
     record {
       fits = omega (arith, size_of h);
       ok = ok;
-      bytes = bytes-spliced_str c.utf8.string ok;
       ascii = λ a. ascii-spliced_str _ a ok;
       len = size-spliced_str c.utf8.string ok;
       err = tt;

@@ -1,5 +1,5 @@
 use Rattle.inlinable_string.proofs.Common.{on_ok_weaker, IsUtf8-string_bytes}
-use Rattle.inlinable_string.proofs.Text.{holds_chars, split_point, size-spliced_str, bytes-spliced_str, ascii-spliced_str, place_within, place_behind_str}
+use Rattle.inlinable_string.proofs.Text.{holds_chars, split_point, size-spliced_str, ascii-spliced_str, place_within, place_behind_str}
 use Rattle.inlinable_string.proofs.Window.{inserted}
 use Rattle.inlinable_string.proofs.string_ext.std_string.StringStringExt.insert_str.Goals as goal
 
@@ -23,10 +23,6 @@ returns-clause-within c = place_within _ _ c.requires
 pub returns-clause-behind : goal.returns-clause-behind
 returns-clause-behind c =
     on_ok_weaker c.insert_str.result (place_behind_str c.utf8.string) (returns-clause-text c)
-
-pub returns-clause-bytes : goal.returns-clause-bytes
-returns-clause-bytes c =
-    on_ok_weaker c.insert_str.result (bytes-spliced_str c.utf8.string) (returns-clause-text c)
 
 pub returns-clause-ascii : goal.returns-clause-ascii
 returns-clause-ascii c a =
