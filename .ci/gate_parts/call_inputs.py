@@ -127,14 +127,11 @@ def given_to(draw, played, word):
 
 
 def joined(draw, played, word):
-    written, added = given_to(draw, played, word)
-    played.obey(['push_str', added])
-    return token(word, written)
-
-
-def made(draw, played, word):
     written, string = given_to(draw, played, word)
-    played.becomes(string)
+    if word in f'write_str write_char {JOINS}'.split():
+        played.obey(['push_str', string])
+    else:
+        played.becomes(string)
     return token(word, written)
 
 
@@ -190,7 +187,7 @@ def printed(draw, played, word):
 # The words that are not SCRIPTED; any other is a call alone.
 SORTS = {
     slide: 'slide', emptied: 'new default into_bytes', with_capacity: 'with_capacity', read: READERS,
-    made: f'from {OWN_MAKERS} collect', joined: f'write_str write_char {JOINS}',
+    joined: f'from {OWN_MAKERS} collect write_str write_char {JOINS}',
     compared: 'eq eq_str cmp partial_cmp', printed: 'padded cut'}
 DRAWN = {word: sort for sort, words in SORTS.items() for word in words.split()}
 

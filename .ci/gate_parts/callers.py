@@ -12,8 +12,7 @@ from time import monotonic
 
 from floors import CALLERS, WRONG_CLAUSES
 from gate_parts.edit_files import edits_of, texts_with
-from gate_parts.edits import are_refused, functions_of
-from gate_parts.enclosing import sources
+from gate_parts.edits import are_refused, functions_of, sources
 from gate_parts.options import options
 from gate_parts.rooms import Room, copies, require_proof, said_of
 from gate_parts.tree import Failure, crate_folder, crates_with

@@ -123,10 +123,9 @@ def too_long(texts):
 
 def cited_in(text):
     """The paths and the names in backticks of a document, its fences aside."""
-    for span in SPAN.findall(FENCE.sub('', text)):
-        word = re.sub(r'(\(\))?;?/?$', '', span)
-        if (PATH.fullmatch(word) or NAME.fullmatch(word)) and not FOREIGN.match(word):
-            yield word
+    spans = [re.sub(r'(\(\))?;?/?$', '', span) for span in SPAN.findall(FENCE.sub('', text))]
+    return [word for word in spans
+            if (PATH.fullmatch(word) or NAME.fullmatch(word)) and not FOREIGN.match(word)]
 
 
 def is_path(word, document, texts):

@@ -73,9 +73,8 @@ def a_replacement(draw, text):
 
 def in_digits(draw, data):
     """Pairs of digits of either case."""
-    digits = data.hex()
-    cases = draw.randbytes(len(digits))
-    return ''.join(digit.upper() if case % 2 else digit for digit, case in zip(digits, cases))
+    cases = draw.randbytes(2 * len(data))
+    return ''.join(digit.upper() if case % 2 else digit for digit, case in zip(data.hex(), cases))
 
 
 # By the word of a line: how often it comes beside the others, and what draws each part that follows it.

@@ -44,9 +44,9 @@ def program_runs():
     """Whether the program prints what is stored of its own script."""
     folder = crate_folder(PROGRAM)
     words = text_of(os.path.join(folder, 'args')).split()
-    with open(os.path.join(folder, 'stdin'), 'rb') as script:
-        ran = subprocess.run(['rt', 'try', '--', *words], cwd=folder, stdin=script, encoding='utf-8',
-                             stdout=subprocess.PIPE, stderr=subprocess.PIPE)
+    script = text_of(os.path.join(folder, 'stdin'))
+    ran = subprocess.run(['rt', 'try', '--', *words], cwd=folder, input=script, encoding='utf-8',
+                         stdout=subprocess.PIPE, stderr=subprocess.PIPE)
     is_well = ran.returncode == 0 and ran.stdout == text_of(os.path.join(folder, 'stdout')) != ''
     return is_well, f'{PROGRAM} runs its script', ran.stdout + ran.stderr
 
