@@ -3,12 +3,11 @@
 They stand in `wrong-definitions`. With --named only those are tried whose name has the word in it.
 
 A wrong definition changes a file of `specs/`, and a law or a worked row must refuse it, of the same crate
-or of one above, named with a goal that must stay open: a function that does nothing, whose contract is the
-row. Each is tried over copies, so that one check tries many: of the row in a module of its own, `copied::rN`,
-with its answers, and of the definitions and lemmas that it reaches and that stand on the changed one, under
-names of their own (`E1Run` of `Run`). Each row must also be proved over copies of all definitions as they
-are. Where a row reaches no changed file by its own words (it names an `impl`, or is no row), the change is
-made in the files themselves, in a check of its own.
+or of one above: a function that does nothing, whose contract is the row. Each is tried over copies, so that
+one check tries many: of the row with its answers, in a module `copied::rN`, and of the definitions and lemmas
+that it reaches and that stand on the changed one (`E1Run` of `Run`). Each row must also be proved over copies
+of all definitions as they are. Where a row reaches no changed file by its own words (it names an `impl`, or
+is no row), the change is made in the files themselves, in a check of its own.
 
 It is no refusal where a definition is not well formed, nor where a name has gone: either would refuse
 whatever stands on it, true or not.
@@ -23,7 +22,7 @@ from gate_parts.edit_files import edits_of, texts_with
 from gate_parts.edits import listed
 from gate_parts.options import options
 from gate_parts.rooms import Room, require_proof, said_of, tried_in_copies
-from gate_parts.said import ill_formed, is_proved, open_goals
+from gate_parts.said import ill_formed, open_goals
 from gate_parts.tree import TOP, Failure, crate_folder, crates_with, text_of, with_those_below
 
 FOLDER = 'wrong-definitions'
@@ -168,7 +167,7 @@ def require_rows(top, files, trials):
                  for at, (function, row) in enumerate(sorted(rows.items(), key=lambda each: not each[1]))}
         said, _ = said_of(top, files.crate, 1, named.values())
     for function, copy in named.items():
-        if not is_proved(files.crate, copy, said):
+        if f'fn {files.crate}::{copy}: proved' not in said.splitlines():
             raise Failure(f'{files.crate}/{function} is not proved as it is:\n{said}')
     return set()
 

@@ -31,8 +31,7 @@ Body = namedtuple('Body', 'kind name first opened closed')
 
 
 def must_fail_edits(crate):
-    """The edits of `must-fail/`, which `rt ci` tries too, where anything may refuse them: each is a row of the
-    table, and each row an edit."""
+    """The edits of `must-fail/`, which `rt ci` tries too: each is a row of the table, each row an edit."""
     folder = os.path.join(crate_folder(crate), ALONE)
     if not os.path.isdir(folder):
         return []
@@ -72,14 +71,11 @@ def body_at(lines, first):
     indent, kind, name = HEAD.match(lines[first]).groups()
     # the lines as far in as the first: a brace, or the end of what is said before it
     beside = [at for at in range(first, len(lines)) if re.match(indent + r'\S', lines[at])]
-    for number, at in enumerate(beside):
+    for at, end in zip(beside, [*beside[1:], None]):
         if at > first and lines[at].lstrip()[0] not in '){w':
             return
-        if lines[at].endswith('{}'):
-            yield Body(kind, name, first, at, at)
-            return
-        if lines[at].endswith('{'):
-            yield Body(kind, name, first, at, beside[number + 1])
+        if lines[at].endswith(('{', '{}')):
+            yield Body(kind, name, first, at, at if lines[at].endswith('}') else end)
             return
 
 

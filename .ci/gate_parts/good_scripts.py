@@ -36,8 +36,7 @@ def a_place(draw, text):
     elif kind < 85:
         place = draw.randint(0, text.size + 4)
     else:
-        wraps = [cut + 2 ** bits for bits in (8, 16, 31, 32, 63)]
-        place = draw.choice((GREATEST, GREATEST - cut, *wraps))
+        place = draw.choice((GREATEST, GREATEST - cut, *(cut + 2 ** bits for bits in (8, 16, 31, 32, 63))))
     return written(draw, place)
 
 

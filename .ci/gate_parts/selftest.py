@@ -157,7 +157,6 @@ BROKEN = (
     ('refusals', '1 failed', {'RESULT': 'FAILED'}),
     ('refusals', '1 failed', {'CUT_OFF': ''}),
     ('bench', 'wanted 11, given 12', 'bin/program', 'echo 11', 'echo 12'),
-    ('bench', '1 passed, 1 failed', 'bin/program', 'Two', 'Three'),
     ('bench', 'is not there', 'bin/program', '', None),
     ('bench', '0 are `Two`, and at least 1 must be', 'bench/workloads.py', "'One', 'Two'", "'One',"),
     ('bench', 'missing, or of no workload: from 6', 'bench/sums', '11 from 6\n', ''),
@@ -165,8 +164,8 @@ BROKEN = (
     ('counts', 'there is no toy/src/other.rt', 'README.md', 'lib.rt', 'other.rt'),
     ('counts', 'there is no rows::law', 'README.md', 'rows::row', 'rows::law'),
     ('counts', 'does not have the program', 'README.md', '() {}', '() { }'),
-    ('counts', '1 names, and must be 2', 'README.md', '`rows::row`', 'a row'),
-    ('counts', '2 proofs were looked at', PROOF, '', None),
+    ('counts', '1 are `names`, and at least 2 must be', 'README.md', '`rows::row`', 'a row'),
+    ('counts', '2 are `proofs`, and at least 3 must be', PROOF, '', None),
     ('counts', 'more than 100 columns', LIB, '    1\n', '    1 + ' + '1' * 93 + '\n'),
     ('counts', 'more than 500 lines', LIB, '    1\n', '    1\n' * 500),
     ('counts', 'one has 31 lines', PROOF, '1\n', '1\n' + '    1\n' * 30))

@@ -85,8 +85,9 @@ SCRIPT_FAULTS = {
     'a wrong reply': lambda output, status: (output.replace(b'bad place', b'done'), status),
     'no output': lambda output, status: (b'', status),
     'a wrong status of what is refused': lambda output, status: (output, status and 3 - status),
-    'a wrong status of what is accepted': lambda output, status: (output, status or 3)}
-INPUTS, CASES = 40, 16
+    'a wrong status of what is accepted': lambda output, status: (output, status or 3),
+    'a fault of a stream that is no status': lambda output, status: (output, status if status != 1 else 0)}
+INPUTS = 40
 
 
 def fails(call, *given):
@@ -157,10 +158,6 @@ def answered(_, case):
     return ''.join(f'{words[1]}{" h:none" * (len(words) - 2)} heap 0 \n' for words in lines).encode(), 0
 
 
-def with_fault(stand_in, fault):
-    return lambda program, case: fault(*stand_in(program, case))
-
-
 def on_digests(folder):
     """In words what is done, and whether `beside` says what it must."""
     path = os.path.join(folder, 'digests')
@@ -180,7 +177,7 @@ def on_digests(folder):
                  right.replace('calls 0', 'calls 1000')):
         yield f'digests {text}', fails(failed, text)
     for what, fault in LINE_FAULTS.items():
-        yield what, failed(right, with_fault(answered, lambda output, _: fault(output))) == 1
+        yield what, failed(right, lambda *given: fault(answered(*given)[0])) == 1
     words, sort = text_of(beside.WORDS), 'pop none'
     yield 'the words of the commands', not fails(beside.check_words, words)
     yield 'another word', fails(beside.check_words, words.replace('"pop" =>', '"peek" =>'))
@@ -193,15 +190,13 @@ def on_scripts(folder):
     """The same of `hostile`."""
     cases = hostile.named_cases()
 
-    def is_right(runner, count=INPUTS):
+    def is_right(runner):
         with mock.patch.object(hostile, 'run', runner):
-            return hostile.are_right({'one': ''}, cases, count)
+            return hostile.are_right({'one': ''}, cases, INPUTS)
 
     yield 'a program that is as the model', is_right(played)
     for what, fault in SCRIPT_FAULTS.items():
-        yield what, not is_right(with_fault(played, fault))
-    yield 'a wrong status of a stored case', not is_right(
-        with_fault(played, lambda output, status: (output, status if status != 1 else 0)), 1)
+        yield what, not is_right(lambda *given: fault(*played(*given)))
     path = os.path.join(folder, 'cases.py')
     whole = "CASES = [('a', [], b'', '', b'', 2), ('b', [], b'', '', b'', 2)]\n"
     for old, new in (('', ''), ("('a', [], b'', '', b'', 2), ", ''), ("'b'", "'a'"), ('2)', 'None)'),
