@@ -53,21 +53,15 @@ HOSTILE = {'accepted': 1_200, **dict.fromkeys((
 WRONG_DEFINITIONS = {'inlinable_string': 140, 'script_language': 90}
 
 # Edits in `wrong-clauses/`, and public functions of `callers` that promise something.
-WRONG_CLAUSES = 5
-CALLERS = 112
+WRONG_CLAUSES, CALLERS = 5, 112
 
-# Lemmas and answers to goals, in the proofs of the crates and among the words of their definitions.
-PROOFS = 1_300
+# Lemmas, answers to goals and definitions, and paths and names in backticks that the documents cite.
+PROOFS, CITED = 1_300, 400
 
-# Paths and names in backticks that the documents cite.
-CITED = 400
-
-# Functions of the library that `gate quick` proves.
+# For `gate quick`: functions of the library that are proved, and by crate, tests that must pass without being
+# proved, and how many at most may say that they need the proved build.
 QUICK_PROVED = 14
-
-# By crate, for `gate quick`: tests that must pass without being proved, and how many at most may say
-# that they need the proved build.
-TRIED = {'inline_vectors': (50, 29)}
+TRIED = {'inline_vectors': (47, 26)}
 
 # Workloads of the bench, and on how many of them each type of text is run.
 BENCH_WORKLOADS = 74

@@ -1,7 +1,6 @@
 """Runs of `inline_script` with the outputs and statuses that they must have, by hand from the rules.
 
-Each is named for what it shows: its words, its input, its streams where they are not files, what it must
-print, and the status that it must end with.
+Each is named for what it shows: words, input, streams where they are not files, output, and status.
 """
 
 

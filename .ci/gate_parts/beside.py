@@ -1,9 +1,8 @@
 """gate beside [PROGRAM ..]: lines of calls and of scripts, answered as by the original crate and Rust's std.
 
-Without PROGRAM they are the two builds of `side_by_side` that `rt ci` leaves. Each answers the generated
-lines, a thousand in one run. `replay/digests` has a line for each thousand: its kind, the number of its
-first line, a digest of the lines, and a digest of what the judge of `replay/judge` answered. There must be
-as many lines of each kind, and as many answers of each sort, as `.ci/floors.py` says.
+Without PROGRAM they are the two builds of `side_by_side` that `rt ci` leaves. `replay/digests` has a line for
+each thousand of lines: their kind, the number of the first, their digest, and that of what the judge of
+`replay/judge` answered. There must be as many answers of each sort as `.ci/floors.py` says.
 
     .ci/gate beside JUDGE --store >replay/digests   makes the digests
     .ci/gate beside --lines 7                       prints the lines of the digest that stands there seventh

@@ -1,15 +1,9 @@
-"""Lines of calls on one text, one after the other, and lines of scripts.
-
-    calls InlinableString from:6162 insert@1:c3a9 reserve@28 push_str:63 shrink_to_fit
-    script inline 707573682061
-
-`replay/README.md` says what stands where, and `crates/side_by_side/src` what each word calls.
-"""
+"""Lines of calls on one text, one after the other, and lines of scripts, as `replay/README.md` has them."""
 from contextlib import suppress
 
 from gate_parts.draw import ESCAPED, MARKS, Draw, is_alike
 from gate_parts.encodings import nearly_utf8, nearly_utf16
-from gate_parts.good_scripts import a_growth, at_the_ends, good_script, line_of, way_back
+from gate_parts.good_scripts import LINES, a_growth, at_the_ends, good_script, line_of, way_back
 from gate_parts.language import GREATEST, STARTS, Text, Undecided, answer, command_of, width
 from gate_parts.programs import Case
 
@@ -34,8 +28,7 @@ KINDS = {
     'views': (1, 'len is_empty as_bytes as_str into_bytes clone capacity'),
 }
 # What `good_scripts.py` draws, and what is drawn between the words of a kind.
-SCRIPTED = frozenset('push push_str insert insert_str truncate pop remove clear reserve reserve_exact '
-                     'shrink_to_fit'.split())
+SCRIPTED = LINES.keys() - {'replace_bytes'}
 BETWEEN = 'push push_str insert insert_str pop remove truncate slide'.split()
 # What a type lacks.
 LACKING = {
@@ -47,11 +40,9 @@ FEWEST, LONGEST = 3, 40
 # How many calls there are at most, behind the one that a text begins with.
 TURNS = (3, 6, 6, 6, 20)
 SIZES = (0, 1, 2, 7, 8, 9, 26, 27, 28, 28, 29, 29, 30, 30, 31, 32)
-# How a text that is compared comes about, with how many bytes more it had, or where it lies on the heap.
-WAYS = {0: 0, 1: 4, 3: 4}
-ON_HEAP = 2
-# So many scripts of a hundred have one byte wrong.
-SPOILT = 10
+# How a text that is compared comes about, with how many bytes more it had; or on the heap. How many scripts
+# of a hundred have one byte wrong.
+WAYS, ON_HEAP, SPOILT = {0: 0, 1: 4, 3: 4}, 2, 10
 
 
 class Played:
@@ -104,8 +95,8 @@ def scripted(played, line):
 
 def slide(draw, played, _):
     """At the ends of an inline text; of a text on the heap, the way back."""
-    is_inline = played.text.storage == 'inline'
-    return scripted(played, (at_the_ends if is_inline else way_back)(draw, played.text))
+    line_of_ends = at_the_ends if played.text.storage == 'inline' else way_back
+    return scripted(played, line_of_ends(draw, played.text))
 
 
 def some_strings(draw, text):
@@ -127,14 +118,11 @@ def given_to(draw, played, word):
 
 
 def joined(draw, played, word):
-    written, added = given_to(draw, played, word)
-    played.obey(['push_str', added])
-    return token(word, written)
-
-
-def made(draw, played, word):
     written, string = given_to(draw, played, word)
-    played.becomes(string)
+    if word in f'write_str write_char {JOINS}'.split():
+        played.obey(['push_str', string])
+    else:
+        played.becomes(string)
     return token(word, written)
 
 
@@ -190,7 +178,7 @@ def printed(draw, played, word):
 # The words that are not SCRIPTED; any other is a call alone.
 SORTS = {
     slide: 'slide', emptied: 'new default into_bytes', with_capacity: 'with_capacity', read: READERS,
-    made: f'from {OWN_MAKERS} collect', joined: f'write_str write_char {JOINS}',
+    joined: f'from {OWN_MAKERS} collect write_str write_char {JOINS}',
     compared: 'eq eq_str cmp partial_cmp', printed: 'padded cut'}
 DRAWN = {word: sort for sort, words in SORTS.items() for word in words.split()}
 

@@ -1,10 +1,9 @@
 """gate callers [--jobs N]: shows that the callers of a library need the clauses of its contracts.
 
 The crate `callers` has functions with contracts and no proof of its own: all that they promise
-follows from the library's contracts. The edits of `wrong-clauses` weaken or drop clauses of these,
-each named with the callers that must then be refused. They are all applied at once, the library is
-proved anew, since a weaker promise is kept all the more, and then the named callers must be refused,
-each by the goals that are named, once the same check has shown that they are proved as things are.
+follows from the library's contracts. The edits of `wrong-clauses` weaken or drop clauses of these. They
+are all applied at once: the library must still be proved, since a weaker promise is kept all the more, and
+the named callers must be refused, which are proved as things are.
 """
 import os
 import re
@@ -12,8 +11,7 @@ from time import monotonic
 
 from floors import CALLERS, WRONG_CLAUSES
 from gate_parts.edit_files import edits_of, texts_with
-from gate_parts.edits import are_refused, functions_of
-from gate_parts.enclosing import sources
+from gate_parts.edits import are_refused, functions_of, sources
 from gate_parts.options import options
 from gate_parts.rooms import Room, copies, require_proof, said_of
 from gate_parts.tree import Failure, crate_folder, crates_with

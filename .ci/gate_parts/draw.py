@@ -1,7 +1,4 @@
-"""Random draws that are the same on every version of Python: SplitMix64, by whole numbers alone.
-
-Characters and texts are drawn from those at an edge of something.
-"""
+"""Random draws that are the same on every version of Python: SplitMix64, by whole numbers alone."""
 import hashlib
 from itertools import accumulate
 

@@ -58,7 +58,8 @@ def read_edit(path, crate, text):
     found = EDIT.fullmatch(text)
     if not found:
         raise Failure(f'{path}: this is no edit: {text}')
-    goals = [goal_of(crate, *line.split()[1:]) for line in found[2].splitlines()]
+    goals = [Goal(other or crate, function, name)
+             for other, function, name in re.findall(r'refused: (?:(\w+)/)?(\S+) (\S+)\n', found[2])]
     if len(set(goals)) < len(goals):
         raise Failure(f'{path}: {found[1]} names a goal twice')
     changes, file = [], ''
@@ -66,11 +67,6 @@ def read_edit(path, crate, text):
         file = own or file
         changes.append(Change(file, old, new, after))
     return Edit(found[1], goals, changes, tuple(found[3].replace('touches:', '').split()))
-
-
-def goal_of(crate, function, name):
-    other, slash, below = function.partition('/')
-    return Goal(other, below, name) if slash else Goal(crate, function, name)
 
 
 def texts_with(folder, edits):

@@ -3,24 +3,50 @@
 It stands in `must-fail-together` and in `must-fail`. With --named only those edits are tried whose name
 has the word in it. Edits go together of which no two break the same function; docs/TESTING.md says why
 that is as strict as to try each alone. Only the functions that the edits name are checked.
+
+Which functions a change breaks is told by the layout of `rt fmt`, which `rt ci` requires, and by their last
+names: an edit that names another of the same name leaves that one proved, and fails.
 """
 import os
 import re
-from collections import Counter
+from collections import Counter, namedtuple
 from functools import lru_cache
 from time import monotonic
 
 from floors import EDITS, MUST_FAIL
-from gate_parts.edit_files import edits_of, refuse_repetitions, texts_with
-from gate_parts.enclosing import functions_broken, text_of_function
-from gate_parts.must_fail import FOLDER as ALONE
-from gate_parts.must_fail import must_fail_edits
+from gate_parts.edit_files import edits_of, place_of, read_edit, refuse_repetitions, texts_with
 from gate_parts.options import options
 from gate_parts.rooms import Room, require_proofs, said_of, tried_in_copies
-from gate_parts.said import refused_in
-from gate_parts.tree import Failure, crate_folder, crates_with
+from gate_parts.said import answers_of, refused_in
+from gate_parts.tree import Failure, crate_folder, crates_with, text_of
 
-FOLDER = 'must-fail-together'
+FOLDER, ALONE = 'must-fail-together', 'must-fail'
+# A row of the README of `must-fail/`: a name, what is wrong, what refuses it and what it touches.
+ROW = re.compile(r'^\| `(\w+)` \| [^|]+ \| ([^|]+) \|$', re.MULTILINE)
+REFUSAL = re.compile(r'`([\w:]+)` `([\w-]+)`')
+TOUCHED = re.compile(r'touches `(\w+)`')
+HEAD = re.compile(r'( *)(?:[a-z]\S* )*(fn|macro_rules!) (\w+)')
+# A function or a macro, and the lines on which it begins, its body begins, and it ends.
+Body = namedtuple('Body', 'kind name first opened closed')
+
+
+def must_fail_edits(crate):
+    """The edits of `must-fail/`, which `rt ci` tries too: each is a row of the table, each row an edit."""
+    folder = os.path.join(crate_folder(crate), ALONE)
+    if not os.path.isdir(folder):
+        return []
+    rows = ROW.findall(text_of(os.path.join(folder, 'README.md')))
+    names, told = sorted(os.listdir(folder)), sorted(['README.md', *(f'{name}.edit' for name, _ in rows)])
+    if names != told:
+        odd = sorted(set(names) ^ set(told)) or 'a row stands twice'
+        raise Failure(f'{crate}: must-fail/ and the table of its README differ: {odd}')
+    return [alone_edit(crate, os.path.join(folder, f'{name}.edit'), name, refused) for name, refused in rows]
+
+
+def alone_edit(crate, path, name, refused):
+    lines = [f'edit {name}', *(f'refused: {function} {goal}' for function, goal in REFUSAL.findall(refused)),
+             *(f'touches: {word}' for word in TOUCHED.findall(refused))]
+    return read_edit(path, crate, '\n'.join([*lines, *filter(None, text_of(path).split('\n'))]) + '\n')
 
 
 def own_edits(crate):
@@ -32,6 +58,63 @@ def own_edits(crate):
             raise Failure(f'{crate} has {len(edits)} edits in {folder}, and floors.py says {said.get(crate)}')
     refuse_repetitions(crate, together + alone)
     return together + alone
+
+
+@lru_cache(maxsize=None)
+def bodies(text):
+    lines = text.split('\n')
+    return [body for first, line in enumerate(lines) if HEAD.match(line) for body in body_at(lines, first)]
+
+
+def body_at(lines, first):
+    """The body of what begins at a line; none where it has only a contract."""
+    indent, kind, name = HEAD.match(lines[first]).groups()
+    # the lines as far in as the first: a brace, or the end of what is said before it
+    beside = [at for at in range(first, len(lines)) if re.match(indent + r'\S', lines[at])]
+    for at, end in zip(beside, [*beside[1:], None]):
+        if at > first and lines[at].lstrip()[0] not in '){w':
+            return
+        if lines[at].endswith(('{', '{}')):
+            yield Body(kind, name, first, at, at if lines[at].endswith('}') else end)
+            return
+
+
+def body_changed(text, change):
+    """The body that the change stays in; None where it is in none, or leaves it."""
+    line = text.count('\n', 0, place_of(change, text))
+    # what is put in behind the brace that begins the body is in it
+    around = [body for body in bodies(text) if body.opened < line < body.closed
+              or line == body.opened and change.new.startswith(change.old)]
+    depths = [part.count('{') - part.count('}') for part in (change.old, change.new)]
+    return max(around, key=lambda body: body.opened) if around and depths[0] == depths[1] else None
+
+
+def functions_broken(folder, change, named):
+    """Those of the named functions in whose bodies or answers the change stands: all, where it is in a macro
+    that is used for as many. None, where it may break others."""
+    if change.path.startswith('proofs/'):
+        return named & {answers_of(change.path)}
+    body = body_changed(text_of(os.path.join(folder, change.path)), change)
+    if body and body.kind != 'fn':
+        uses = sum(len(re.findall(rf'\b{body.name}!', text)) for text in sources(folder))
+        return named if uses == len(named) else set()
+    return {function for function in named if body and function.split('::')[-1] == body.name}
+
+
+@lru_cache(maxsize=None)
+def text_of_function(crate, function):
+    """The functions of its name, with contracts, and its answers; None where none is found."""
+    folder = crate_folder(crate)
+    found = ['\n'.join(text.split('\n')[body.first:body.closed + 1]) for text in sources(folder)
+             for body in bodies(text) if body.kind == 'fn' and body.name == function.split('::')[-1]]
+    answers = os.path.join(folder, 'proofs', *function.split('::'), 'Answers.antt')
+    return '\n'.join(found + ([text_of(answers)] if os.path.exists(answers) else [])) if found else None
+
+
+def sources(folder):
+    """The text of each source file of the crate."""
+    return [text_of(os.path.join(place, name))
+            for place, _, names in os.walk(os.path.join(folder, 'src')) for name in names]
 
 
 def stays_in_its_functions(crate, edit):
@@ -46,12 +129,7 @@ def are_apart(edit, other):
     have no name that the other touches."""
     return edit.functions().isdisjoint(other.functions()) and not any(
         text is None or name in re.findall(r'\w+', text) for one, of in ((edit, other), (other, edit))
-        for name in of.touches for text in map(function_text, one.functions()))
-
-
-@lru_cache(maxsize=None)
-def function_text(function):
-    return text_of_function(crate_folder(function[0]), function[1])
+        for name in of.touches for text in (text_of_function(*function) for function in one.functions()))
 
 
 def groups_of(crate, edits):
@@ -71,7 +149,6 @@ def groups_of(crate, edits):
 
 
 def functions_of(group):
-    """The functions that the group names."""
     return sorted({goal.function for edit in group for goal in edit.goals})
 
 

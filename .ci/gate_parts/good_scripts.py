@@ -36,8 +36,7 @@ def a_place(draw, text):
     elif kind < 85:
         place = draw.randint(0, text.size + 4)
     else:
-        wraps = [cut + 2 ** bits for bits in (8, 16, 31, 32, 63)]
-        place = draw.choice((GREATEST, GREATEST - cut, *wraps))
+        place = draw.choice((GREATEST, GREATEST - cut, *(cut + 2 ** bits for bits in (8, 16, 31, 32, 63))))
     return written(draw, place)
 
 
@@ -73,9 +72,8 @@ def a_replacement(draw, text):
 
 def in_digits(draw, data):
     """Pairs of digits of either case."""
-    digits = data.hex()
-    cases = draw.randbytes(len(digits))
-    return ''.join(digit.upper() if case % 2 else digit for digit, case in zip(digits, cases))
+    cases = draw.randbytes(2 * len(data))
+    return ''.join(digit.upper() if case % 2 else digit for digit, case in zip(data.hex(), cases))
 
 
 # By the word of a line: how often it comes beside the others, and what draws each part that follows it.

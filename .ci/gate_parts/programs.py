@@ -26,8 +26,7 @@ class Case:
 
 
 def chosen(words, crate):
-    """The programs that these words name, by name, or else what `rt ci` builds of a crate: by LLVM, and by
-    Rattle's own compiler. Each with its path."""
+    """The paths of the programs that these words name, by name, or else of the two that `rt ci` builds."""
     made = os.path.join(crate_folder(crate), 'out', crate)
     named = {word: os.path.abspath(word) for word in words} or {'llvm': made, 'rattle': made + '.by-rattle'}
     for path in named.values():

@@ -1,8 +1,8 @@
 """gate quick: a newcomer's check, under three minutes on two processors. The gate is `.ci/run`.
 
 One part of the library is proved, lists of commands; the main tests run unproved, by `rt try`; and the
-program prints what is stored of its own script. All go side by side. A test that holds all memory can't
-do so under `rt try`, and stops: it says that it needs the proved build, and is counted apart.
+program prints what is stored of its own script. A test that holds all memory stops under `rt try`: it says
+that it needs the proved build, and is counted apart.
 """
 import os
 import re
@@ -44,9 +44,9 @@ def program_runs():
     """Whether the program prints what is stored of its own script."""
     folder = crate_folder(PROGRAM)
     words = text_of(os.path.join(folder, 'args')).split()
-    with open(os.path.join(folder, 'stdin'), 'rb') as script:
-        ran = subprocess.run(['rt', 'try', '--', *words], cwd=folder, stdin=script, encoding='utf-8',
-                             stdout=subprocess.PIPE, stderr=subprocess.PIPE)
+    script = text_of(os.path.join(folder, 'stdin'))
+    ran = subprocess.run(['rt', 'try', '--', *words], cwd=folder, input=script, encoding='utf-8',
+                         stdout=subprocess.PIPE, stderr=subprocess.PIPE)
     is_well = ran.returncode == 0 and ran.stdout == text_of(os.path.join(folder, 'stdout')) != ''
     return is_well, f'{PROGRAM} runs its script', ran.stdout + ran.stderr
 
@@ -59,8 +59,8 @@ def main(words):
         for step in as_completed([pool.submit(step) for step in steps]):
             is_well, told, said = step.result()
             found.append(is_well)
-            print(f'{time.monotonic() - start:5.0f} s  {"well" if is_well else "NOT WELL"}: {told}')
-            print(said * (not is_well), end='', flush=True)
+            how = 'well' if is_well else f'NOT WELL:\n{said}'
+            print(f'{time.monotonic() - start:5.0f} s  {told}: {how}', flush=True)
     used = resource.getrusage(resource.RUSAGE_CHILDREN)
     print(f'{used.ru_utime + used.ru_stime:5.0f} s of processor')
     print('Not tried: all other proofs and tests, and what must be refused or answered. The gate is .ci/run.')

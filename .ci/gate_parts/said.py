@@ -55,10 +55,6 @@ def refused_in(crate, said):
     return refused
 
 
-def is_proved(crate, function, said):
-    return f'fn {crate}::{function}: proved' in said.splitlines()
-
-
 def ill_formed(said):
     """The errors that refuse nothing: in a definition or in the source, or of a name gone."""
     return [line for line, path, wrong in errors_in(said)

@@ -1,8 +1,7 @@
 """gate selftest: shows that the parts of the gate fail where they must, in a small repository of their own.
 
 There a stand-in for `rt` says what a check would. Each part passes on what is in order, and has to fail, and
-to say why, where one thing is broken: a row of BROKEN each. `selftest_reading.py` has what is read without a
-run, and `selftest_programs.py` the parts that run programs.
+to say why, where one thing is broken: a row of BROKEN. `selftest_cases.py` has what needs no run of a part.
 """
 import os
 import re
@@ -10,7 +9,7 @@ import shutil
 import subprocess
 import tempfile
 
-from gate_parts import selftest_programs, selftest_reading
+from gate_parts import selftest_cases
 from gate_parts.options import options
 from gate_parts.tree import in_tree, text_of, write_text
 
@@ -161,7 +160,6 @@ BROKEN = (
         'one 1 0,one 1 0', 'one 2 0,last 2 0', 'one 1 0,last 1 0,one 1 0', 'none 1 0', 'none 2 1,none 2 1',
         'one 1 1,last 1 1', 'one 1 0')),
     ('bench', 'wanted 11, given 12', 'bin/program', 'echo 11', 'echo 12'),
-    ('bench', '1 passed, 1 failed', 'bin/program', 'Two', 'Three'),
     ('bench', 'is not there', 'bin/program', '', None),
     ('bench', '0 are `Two`, and at least 1 must be', 'bench/workloads.py', "'One', 'Two'", "'One',"),
     ('bench', 'missing, or of no workload: from 6', 'bench/sums', '11 from 6\n', ''),
@@ -169,8 +167,8 @@ BROKEN = (
     ('counts', 'there is no toy/src/other.rt', 'README.md', 'lib.rt', 'other.rt'),
     ('counts', 'there is no rows::law', 'README.md', 'rows::row', 'rows::law'),
     ('counts', 'does not have the program', 'README.md', '() {}', '() { }'),
-    ('counts', '1 names, and must be 2', 'README.md', '`rows::row`', 'a row'),
-    ('counts', '2 proofs were looked at', PROOF, '', None),
+    ('counts', '1 are `names`, and at least 2 must be', 'README.md', '`rows::row`', 'a row'),
+    ('counts', '2 are `proofs`, and at least 3 must be', PROOF, '', None),
     ('counts', 'more than 100 columns', LIB, '    1\n', '    1 + ' + '1' * 93 + '\n'),
     ('counts', 'more than 500 lines', LIB, '    1\n', '    1\n' * 500),
     ('counts', 'one has 31 lines', PROOF, '1\n', '1\n' + '    1\n' * 30))
@@ -178,8 +176,6 @@ PARTS = '#!/bin/sh\necho part "$@"\n[ "$1" != "$FAILING" ]\n'
 
 
 class Repository:
-    """A small repository with a copy of the gate, and with the stand-in in the place of `rt`."""
-
     def __init__(self, place):
         self.place = place
         shutil.copytree(in_tree('.ci'), self.path('.ci'), ignore=shutil.ignore_patterns('__pycache__'))
@@ -226,18 +222,17 @@ def on_options(repository):
 
 
 def on_run(repository):
-    """The same of `.ci/run`, which ends at the first part that fails."""
+    """The same of `.ci/run`, which ends at the first part that fails, and keeps what parts print."""
     parts = len(re.findall('^part ', text_of(repository.path('.ci/run')), re.MULTILINE))
-    for path in ('.ci/gate', 'bin/rt'):
-        repository.write(path, PARTS)
-    for failing, last in (('none', f'PASSED: all {parts} parts'), ('ci', 'FAILED in rt ci, after'),
-                          ('edits', 'FAILED in .ci/gate edits, '),
+    repository.write('.ci/gate', PARTS)
+    repository.write('bin/rt', PARTS)
+    for failing, last in (('none', f'PASSED: all {parts} parts'), ('ci', 'FAILED in rt ci, '),
                           ('hostile', 'FAILED in .ci/gate hostile, ')):
         status, printed = repository.ran('.ci/run', FAILING=failing)
-        passed, well = printed.count(' .. passed, in '), failing == 'none'
+        is_kept = 'part bench\n' in text_of(repository.path('out/gate.log'))
+        found = [status == 0, printed.count(' .. passed, in ') == parts, is_kept]
         yield f'.ci/run, where {failing} fails', (
-            printed.splitlines()[-1].startswith(last) and status == (not well) and (passed == parts) == well)
-        yield 'what parts print is kept', ('part bench\n' in text_of(repository.path('out/gate.log'))) == well
+            printed.splitlines()[-1].startswith(last) and found == [failing == 'none'] * 3)
 
 
 def main(words):
@@ -248,7 +243,7 @@ def main(words):
         rows = [*((part, None) for part in IN_ORDER), *BROKEN]
         shown = [(' '.join(map(str, row)), repository.is_noticed(*row)) for row in rows]
         shown += [*on_options(repository), *on_run(repository)]
-    shown += [*selftest_reading.shown(), *selftest_programs.shown()]
+    shown += selftest_cases.shown()
     unnoticed = [f'NOT NOTICED: {what}' for what, is_noticed in shown if not is_noticed]
     print(*unnoticed, f'{len(shown)} things shown, {len(unnoticed)} not', sep='\n')
     return not unnoticed

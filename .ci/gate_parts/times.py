@@ -1,8 +1,7 @@
 """gate times CRATE [--test] [--only PATH]: what each function of a crate costs to prove, from nothing.
 
-The crate is checked in a copy by one job, and for each function that the check names as done, the
-processor time since the one before is printed, the dearest first. With --test its tests are checked too;
---only takes one function, or the functions of a module or a type.
+The crate is checked in a copy by one job, and for each function the processor time since the one before is
+printed, the dearest first. --test checks its tests too; --only takes a function, a module or a type.
 """
 import os
 import re
@@ -16,7 +15,6 @@ from gate_parts.tree import Failure, crate_folder, crates_with, text_of, write_t
 
 # A function that is done, and the line before the first.
 CHECKED = re.compile(r'^checked (\S+), \d+ of \d+$|^so far: 0 of')
-BEFORE = 'before the first function'
 
 
 def ticks(process):
@@ -41,7 +39,7 @@ def timed(folder, words):
                           errors='replace', stdout=subprocess.PIPE, stderr=subprocess.STDOUT) as check:
         for found in filter(None, map(CHECKED.match, check.stdout)):
             now = ticks(check.pid) / os.sysconf('SC_CLK_TCK')
-            costs[found[1] or BEFORE], last = now - last, now
+            costs[found[1] or 'before the first function'], last = now - last, now
     return costs
 
 

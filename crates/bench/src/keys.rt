@@ -49,13 +49,7 @@ fn order_of<T: Text>(a: &T, b: &T) -> u64 {
 #[inline(never)]
 pub fn hashed<T: Text>(task: &Task) -> Result<u64, AllocError> {
     let texts: Vec<T> = texts_of(task)?;
-    let mut sum = 0u64;
-    for _ in 0..task.rounds {
-        for text in texts.iter() {
-            sum = sum.wrapping_add(hash_of(text));
-        }
-    }
-    Ok(sum)
+    summed!(texts, task.rounds, |text, _round| hash_of(text))
 }
 
 #[inline(never)]

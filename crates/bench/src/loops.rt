@@ -1,7 +1,7 @@
 //! Workloads on texts that are made, edited and read.
 ghost use Rattle.std.specs.Prelude.{◌≤◌};
 
-use crate::pieces::{sink, summed, texts_of, words_of};
+use crate::pieces::{sink, summed, summed_rounds, texts_of, words_of};
 use crate::task::Task;
 use crate::text::Text;
 use crate::{keys, lists, readers};
@@ -65,12 +65,10 @@ fn from<T: Text>(task: &Task) -> Result<u64, AllocError> {
 
 #[inline(never)]
 fn from_literal<T: Text>(task: &Task) -> Result<u64, AllocError> {
-    let mut sum = 0u64;
-    for round in 0..task.rounds {
+    summed_rounds!(task.rounds, |round| {
         let text = T::made(task.alloc, "foobar")?;
-        sum = sum.wrapping_add(sink(&text, round));
-    }
-    Ok(sum)
+        sink(&text, round)
+    })
 }
 
 #[inline(never)]
@@ -95,13 +93,11 @@ fn from_push_str<T: Text>(task: &Task) -> Result<u64, AllocError> {
 
 #[inline(never)]
 fn push_literal<T: Text>(task: &Task) -> Result<u64, AllocError> {
-    let mut sum = 0u64;
-    for round in 0..task.rounds {
+    summed_rounds!(task.rounds, |round| {
         let mut text = T::made(task.alloc, "foobar")?;
         text.push_str("foobar")?;
-        sum = sum.wrapping_add(sink(&text, round));
-    }
-    Ok(sum)
+        sink(&text, round)
+    })
 }
 
 #[inline(never)]

@@ -17,7 +17,19 @@ macro_rules! summed {
     }};
 }
 
+/// The sum of what the body gives, round after round.
+macro_rules! summed_rounds {
+    ($rounds:expr, |$round:ident| $body:expr) => {{
+        let mut sum = 0u64;
+        for $round in 0..$rounds {
+            sum = sum.wrapping_add($body);
+        }
+        Ok(sum)
+    }};
+}
+
 pub(crate) use summed;
+pub(crate) use summed_rounds;
 
 /// The input cut into pieces of the task's width, or at spaces.
 pub fn pieces_of<'a>(task: &Task<'a>) -> Result<Vec<&'a [u8]>, AllocError> {

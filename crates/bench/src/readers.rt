@@ -22,8 +22,7 @@ pub fn from_utf8<T: Text>(task: &Task) -> Result<u64, AllocError> {
 pub fn from_utf8_lossy<T: Text>(task: &Task) -> Result<u64, AllocError> {
     let pieces = pieces_of(task)?;
     summed!(pieces, task.rounds, |piece, round| {
-        let read = T::from_utf8_lossy(task.alloc, piece)?;
-        sink_of_read(&read, round)
+        sink_of_read(&T::from_utf8_lossy(task.alloc, piece)?, round)
     })
 }
 
