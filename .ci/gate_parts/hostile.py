@@ -124,11 +124,9 @@ def hostile_case(number):
 def named_cases(count=NAMED_CASES, path=NAMED):
     """Those of a file: so many, each with a name of its own, a status and a known stream."""
     cases = [Case(*each) for each in runpy.run_path(path)['CASES']]
-    if len(cases) != count or len({case.name for case in cases}) != count or not count:
-        raise Failure(f'{path} has not {count} cases of different names, but {len(cases)} in all')
-    for case in cases:
-        if not isinstance(case.status, int) or case.io not in ('', *STREAMS):
-            raise Failure(f'{path}: {case.name} has no status, or an unknown stream')
+    whole = {case.name for case in cases if isinstance(case.status, int) and case.io in ('', *STREAMS)}
+    if not len(whole) == len(cases) == count:
+        raise Failure(f'{path} has not {count} cases of different names, with a status and a known stream')
     return cases
 
 

@@ -71,9 +71,8 @@ class Room:
     """A crate of a copy, whose files are changed for a while: `with` gives them their own texts again."""
 
     def __init__(self, top, crate):
-        self.folder = crate_folder(crate, top)
         # what each file had before; None where there was none
-        self.before = {}
+        self.folder, self.before = crate_folder(crate, top), {}
 
     def __enter__(self):
         return self
