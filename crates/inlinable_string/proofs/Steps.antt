@@ -1,7 +1,7 @@
 -- One step of a value, by its command and its reply.
 use Rattle.inlinable_string.proofs.Common.{common_steps, ◌≡◌, ℕ, ◌+◌, ◌-◌, ◌≤◌, inl, true, false, List, [], ◌∷◌, ◌++◌, length, refl, sym, ap, ◌∙◌, arith, Bor, rules, chars_from_encodes, chars, IsUtf8, bytes_of, size, IsCut, IsPlace, IsSplice, IsRemoval, cut, TextState, IsLawful, IsSameText, HasRoom, HasInlineRoom, storage_with_room, becomes, has_no_place, reply_of, text_left, edit, insertion, text_after_step, need_of, storage_after_step, credit_after_step, AsksMemory, IsMet, IsCounted, IsStep, Command, PushStr, Insert, InsertStr, Truncate, Pop, Remove, ReplaceBytes, Reply, Done, Char, BadPlace, NotUtf8, NoMemory}
 use Rattle.inlinable_string.proofs.Text.{size-append, size-chars, nil_from_size}
-use Rattle.inlinable_string.proofs.Cut.{cut_is, no_cut, not_from_test}
+use Rattle.inlinable_string.proofs.Cut.{cut_is, no_cut}
 use Rattle.inlinable_string.proofs.Edits.{insertion_is, pop_is, removal_is, replacement_is, not_utf8}
 
 clash : false ≡ true → ⊥
@@ -179,7 +179,4 @@ pub ruleset outcomes = (
   remove_char,
   replace_done,
   replace_not_utf8,
-  not_from_test,
-  remove_misplaced,
-  remove_at_end,
 )
