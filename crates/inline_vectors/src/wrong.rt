@@ -133,7 +133,7 @@ const MADE: &[Row] = &[
 
 const STAYS: MoveRow = (30, 8, "hi", None, Held, Ok(Inline));
 
-const NOTHING: JoinRow = (None, "", Strs(&[]), "", Inline);
+const NOTHING: JoinRow = (None, "", Strs(&[]), "", Inline, true);
 
 const BOXED: BoxedRow = (OfString, None, "x", &[(&[Char('x')], "x", Heap)]);
 
@@ -150,7 +150,7 @@ fn a_wrong_row_of_another_player_is_found(rt: HostRuntime) {
     assert!(rt; wrong_move(&rt, alloc, &moved) == Some(1));
     let json = [("5", None), ("\"he\"", Some(("he", Heap)))];
     assert!(rt; wrong_read(&rt, alloc, Ample, &json) == Some(1));
-    let joined: [JoinRow; 2] = [NOTHING, (None, "a", Chars(&['b']), "a", Inline)];
+    let joined: [JoinRow; 2] = [NOTHING, (None, "a", Chars(&['b']), "a", Inline, true)];
     assert!(rt; wrong_join(&rt, alloc, Ample, &joined) == Some(1));
     assert!(rt; wrong_order(&rt, alloc, &[("", "", Equal), ("b", "a", Less)]) == Some(1));
     let empty = ("", "|        |    |******|   |", "\"\"");

@@ -4,7 +4,7 @@ ghost use Rattle.std.specs.Prelude.{◌≤◌};
 use super::{grants, is_made};
 use crate::held::Memory::{self, Ample, Held, OneBlock};
 use crate::held::hold;
-use crate::texts::is_lying;
+use crate::texts::{TEN_CLEFS, assert_none_wrong, is_lying};
 use Storage::{Heap, Inline};
 use inlinable_string::inline_json::JsonError;
 use inlinable_string::inline_string::NotEnoughSpaceError;
@@ -19,44 +19,19 @@ use test_support::letters::{LETTERS_30, LETTERS_31};
 /// A limit, a text, and where one is that is made of it: inline where it fits an array.
 pub type TextRow<'a> = (usize, &'a str, Storage);
 
-/// 40 bytes.
-const TEN_CLEFS: &str = "𝄞𝄞𝄞𝄞𝄞𝄞𝄞𝄞𝄞𝄞";
-
-const TEXTS: &[TextRow] = &[
-    (0, "", Inline),
-    (0, "a", Heap),
-    (0, "𝄞", Heap),
-    (0, LETTERS_31, Heap),
-    (4, "", Inline),
-    (4, "a", Inline),
-    (4, "abcd", Inline),
-    (4, "abcde", Heap),
-    (4, "𝄞", Inline),
-    (4, "a€", Inline),
-    (4, "ab€", Heap),
-    (4, "a𝄞", Heap),
-    (8, "", Inline),
-    (8, "hello", Inline),
-    (8, "12345678", Inline),
-    (8, "123456789", Heap),
-    (8, "aaaaa€", Inline),
+const TEXTS: &[TextRow] = rows! {
+    (0, "", Inline), (0, "a", Heap), (0, "𝄞", Heap), (0, LETTERS_31, Heap),
+    (4, "", Inline), (4, "a", Inline), (4, "abcd", Inline), (4, "abcde", Heap), (4, "𝄞", Inline),
+    (4, "a€", Inline), (4, "ab€", Heap), (4, "a𝄞", Heap),
+    (8, "", Inline), (8, "12345678", Inline), (8, "123456789", Heap), (8, "aaaaa€", Inline),
     (8, "aaaaaa€", Heap),
-    (30, "", Inline),
-    (30, "foo", Inline),
-    (30, "hello", Inline),
-    (30, "small", Inline),
-    (30, "𝄞", Inline),
-    (30, LETTERS_30, Inline),
+    (30, "", Inline), (30, "hello", Inline), (30, "𝄞", Inline), (30, LETTERS_30, Inline),
     (30, LETTERS_31, Heap),
-    (30, "aaaaaaaaaaaaaaaaaaaaaaaaaa𝄞", Inline),
-    (30, "aaaaaaaaaaaaaaaaaaaaaaaaaaa𝄞", Heap),
-];
+    (30, "aaaaaaaaaaaaaaaaaaaaaaaaaa𝄞", Inline), (30, "aaaaaaaaaaaaaaaaaaaaaaaaaaa𝄞", Heap),
+};
 
-const OF_40_BYTES: &[TextRow] = &[
-    (0, TEN_CLEFS, Heap),
-    (8, TEN_CLEFS, Heap),
-    (30, TEN_CLEFS, Heap),
-];
+const OF_40_BYTES: &[TextRow] =
+    rows! { (0, TEN_CLEFS, Heap), (8, TEN_CLEFS, Heap), (30, TEN_CLEFS, Heap), };
 
 /// Whether this text was made in an array, or none where it does not fit.
 fn is_made_or_none<const N: usize>(
@@ -84,7 +59,7 @@ fn is_made_in_an_array<const N: usize>(content: &str, fits: bool) -> bool
     is_parsed && is_made_or_none::<N>(InlineStringN::try_from(content), content, fits)
 }
 
-/// Whether the text goes into an array where it fits, and else comes back as it was.
+/// Whether the text goes into an array where it fits, and else is returned unchanged.
 fn is_settled<const N: usize>(text: InlinableStringN<N>, content: &str, fits: bool) -> bool {
     let storage = text.storage();
     match InlineStringN::try_from(text) {
@@ -93,28 +68,9 @@ fn is_settled<const N: usize>(text: InlinableStringN<N>, content: &str, fits: bo
     }
 }
 
-/// Whether `from` and `from_str` answer so. A text that is not inline requests memory once.
+/// Whether `from`, `from_str` and `from_json`, of the text between quotes, answer so. A text that
+/// is not inline requests memory once.
 fn is_made_of<const N: usize>(
-    rt: &impl Abort,
-    alloc: Global,
-    memory: Memory,
-    content: &str,
-    storage: Storage,
-) -> bool
-    requires { N ≤ 300 }
-{
-    let is_granted = storage == Inline || grants(memory, content.len());
-    let hoard = hold(rt, alloc, memory);
-    let first = InlinableStringN::<N>::from(alloc, content);
-    let is_first = is_made(first, content, storage, is_granted);
-    let second = InlinableStringN::<N>::from_str(alloc, content);
-    let is_second = is_made(second, content, storage, is_granted);
-    drop(hoard);
-    is_first && is_second
-}
-
-/// The same of `from_json`, of the text between quotes.
-fn is_made_of_json<const N: usize>(
     rt: &impl Abort,
     alloc: Global,
     memory: Memory,
@@ -127,14 +83,16 @@ fn is_made_of_json<const N: usize>(
     let value = Value::from_str(alloc, &json).expect(rt, "JSON");
     let is_granted = storage == Inline || grants(memory, content.len());
     let hoard = hold(rt, alloc, memory);
-    let made = InlinableStringN::<N>::from_json(alloc, &value);
-    let is_right = match made {
+    let first = InlinableStringN::<N>::from(alloc, content);
+    let is_first = is_made(first, content, storage, is_granted);
+    let second = InlinableStringN::<N>::from_str(alloc, content);
+    let is_second = is_made(second, content, storage, is_granted);
+    let is_third = match InlinableStringN::<N>::from_json(alloc, &value) {
         Ok(text) => is_granted && is_lying(&text, content, storage),
-        Err(JsonError::NotString) => false,
-        Err(JsonError::NoMemory) => !is_granted,
+        Err(error) => error == JsonError::NoMemory && !is_granted,
     };
     drop(hoard);
-    is_right
+    is_first && is_second && is_third
 }
 
 /// Whether `from_string` takes a `String` over, and each text then goes into an array where it
@@ -173,7 +131,6 @@ fn is_row_right<const N: usize>(
     is_lying(&InlinableStringN::<N>::default(alloc), "", Inline)
         && is_made_in_an_array::<N>(content, storage == Inline)
         && is_made_of::<N>(rt, alloc, memory, content, storage)
-        && is_made_of_json::<N>(rt, alloc, memory, content, storage)
         && is_taken_over::<N>(rt, alloc, memory, content, storage)
 }
 
@@ -190,27 +147,20 @@ pub fn wrong_text(
     memory: Memory,
     rows: &[TextRow],
 ) -> Option<usize> {
-    for (i, &(limit, content, storage)) in rows.iter().enumerate() {
-        let is_right = match limit {
-            0 => is_row_right::<0>(rt, alloc, memory, content, storage),
-            4 => is_row_right::<4>(rt, alloc, memory, content, storage),
-            8 => is_row_right::<8>(rt, alloc, memory, content, storage),
-            30 => {
-                is_boxed(rt, alloc, content, storage)
-                    && is_row_right::<30>(rt, alloc, memory, content, storage)
-            }
-            _ => false,
-        };
-        if !is_right {
-            return Some(i);
+    rows.iter().position(|&(limit, content, storage)| match limit {
+        0 => !is_row_right::<0>(rt, alloc, memory, content, storage),
+        4 => !is_row_right::<4>(rt, alloc, memory, content, storage),
+        8 => !is_row_right::<8>(rt, alloc, memory, content, storage),
+        30 => {
+            !is_boxed(rt, alloc, content, storage)
+                || !is_row_right::<30>(rt, alloc, memory, content, storage)
         }
-    }
-    None
+        _ => true,
+    })
 }
 
 fn assert_texts(rt: &impl Abort, alloc: Global, memory: Memory, rows: &[TextRow]) {
-    let wrong = wrong_text(rt, alloc, memory, rows);
-    assert!(rt; wrong.is_none(), "{wrong:?}");
+    assert_none_wrong(rt, wrong_text(rt, alloc, memory, rows));
 }
 
 #[test]
