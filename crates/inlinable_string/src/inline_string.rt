@@ -20,6 +20,8 @@ mod borrowed;
 mod compared;
 mod joins;
 mod printed;
+#[cfg(test)]
+mod tests;
 
 /// The capacity of an [`InlineString`] in bytes, as in the crate `inlinable_string`.
 pub const INLINE_STRING_CAPACITY: usize = 30;
