@@ -10,6 +10,7 @@ use test_support::letters::{
 
 const CUT: &[List] = rows! {
     ("", &[]),
+    ("hello", &[(Truncate(2), Done, "he", AsMade)]),
     ("foo", &[(Truncate(1), Done, "f", AsMade), (Clear, Done, "", AsMade),
         (Pop, NoChar, "", AsMade)]),
     ("foo", &[(Pop, Char('o'), "fo", AsMade), (Pop, Char('o'), "f", AsMade),
@@ -18,6 +19,9 @@ const CUT: &[List] = rows! {
         (Remove(0), Char('o'), "", AsMade)]),
     // The end is no place to remove from.
     ("aé", &[(Remove(1), Char('é'), "a", AsMade), (Remove(1), BadPlace, "a", AsMade)]),
+    // The middle of a character is no place.
+    ("é", &[(Insert(1, 'x'), BadPlace, "é", AsMade), (Truncate(1), BadPlace, "é", AsMade),
+        (Truncate(3), BadPlace, "é", AsMade), (Truncate(2), Done, "é", AsMade)]),
     // What is put in is taken out whole.
     ("aé", &[(Insert(1, '€'), Done, "a€é", AsMade), (Remove(2), BadPlace, "a€é", AsMade),
         (Remove(1), Char('€'), "aé", AsMade)]),
@@ -36,6 +40,7 @@ const REPLACED: &[List] = rows! {
         (ReplaceBytes(&[]), WrongLength, "é", AsMade),
         (ReplaceBytes(&[0xC3, 0x61]), NotUtf8, "é", AsMade),
         (ReplaceBytes(b"ab"), Done, "ab", AsMade)]),
+    ("hello", &[(ReplaceBytes(b"olleh"), Done, "olleh", AsMade)]),
     ("a", &[(ReplaceBytes(b""), WrongLength, "a", AsMade),
         (ReplaceBytes(b"\xC3\xA9"), WrongLength, "a", AsMade)]),
     ("", &[(ReplaceBytes(b"a"), WrongLength, "", AsMade),

@@ -63,7 +63,8 @@ fn units_are_a_text_where_no_surrogate_is_unpaired(rt: HostRuntime) {
 }
 
 const BYTES: &[Row] = rows! {
-    Bytes(b"", ""), Bytes(b"he", "he"), Bytes(b"aaaaaaaaaaaaaaaaaaaaaaaaaaaaaaa", LETTERS_31),
+    Bytes(b"", ""), Bytes(b"he", "he"), Bytes(&[104, 101, 108, 108, 111], "hello"),
+    Bytes(b"\xF0\x9F\x92", "\u{FFFD}"), Bytes(b"aaaaaaaaaaaaaaaaaaaaaaaaaaaaaaa", LETTERS_31),
     Bytes(b"a\xC3\xA9\xE2\x82\xAC\xF0\x9D\x84\x9E", "aé€𝄞"), Bytes(&[240, 144, 128], "\u{FFFD}"),
     Bytes(b"Hello \xF0\x90\x80World", "Hello \u{FFFD}World"), Bytes(b"hello\xFF", "hello\u{FFFD}"),
     Bytes(b"aaaaaaaaaaaaaaaaaaaaaaaaaaaaaaa\xC3", "aaaaaaaaaaaaaaaaaaaaaaaaaaaaaaa\u{FFFD}"),

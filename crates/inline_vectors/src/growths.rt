@@ -52,7 +52,14 @@ const ADDED_IN_FOO: &str = "f0123456789012345678901234567oo";
 
 const ADDED_TWICE: &str = "f0123456789012345678901234567o0123456789012345678901234567o";
 
+const HI_WORLD_AND_LONG: &str = "hi worldthis is a really long string that is much larger than
+                        INLINE_STRING_CAPACITY and so cannot be stored inline.";
+
 const GROWN: &[List] = rows! {
+    ("", &[(Push('a'), Done, "a", AsMade)]),
+    ("hello", &[(PushStr(" world"), Done, "hello world", AsMade)]),
+    ("abc", &[(Push('1'), Done, "abc1", AsMade), (Push('2'), Done, "abc12", AsMade),
+        (Push('3'), Done, "abc123", AsMade)]),
     ("foo", &[(PushStr("bar"), Done, "foobar", AsMade)]),
     ("foo", &[(Insert(2, 'f'), Done, "fofo", AsMade)]),
     ("foo", &[(InsertStr(2, "bar"), Done, "fobaro", AsMade)]),
@@ -62,7 +69,9 @@ const GROWN: &[List] = rows! {
     // Past the capacity, too.
     ("foo", &[(InsertStr(1, ADDED), Done, ADDED_IN_FOO, OnHeap),
         (InsertStr(30, ADDED), Done, ADDED_TWICE, OnHeap)]),
-    ("small", &[(PushStr(LONG), Done, SMALL_AND_LONG, OnHeap)]),
+    ("", &[(PushStr("small"), Done, "small", AsMade),
+        (PushStr(LONG), Done, SMALL_AND_LONG, OnHeap)]),
+    ("hi world", &[(PushStr(LONG), Done, HI_WORLD_AND_LONG, OnHeap)]),
 };
 
 #[test]

@@ -180,6 +180,7 @@ const JOINED: &[JoinRow] = rows! {
     (None, LETTERS_28, Strs(&["é"]), A_AND_E_ACUTE, Inline, true),
     (None, LETTERS_28, Strs(&["€"]), A_AND_EURO, Heap, true),
     (None, LETTERS_29, Strs(&["a"]), LETTERS_30, Inline, true),
+    (None, LETTERS_29, Strs(&["bc"]), "aaaaaaaaaaaaaaaaaaaaaaaaaaaaabc", Heap, true),
     (None, LETTERS_30, Strs(&[""]), LETTERS_30, Inline, true),
     (None, LETTERS_30, Strs(&["a"]), LETTERS_31, Heap, true),
     // On the heap, where a text stays.
@@ -205,6 +206,7 @@ const WITHOUT_MEMORY: &[JoinRow] = rows! {
     (None, LETTERS_30, Strs(&[""]), LETTERS_30, Inline, true),
     (None, LETTERS_29, Strs(&["a"]), LETTERS_30, Inline, true),
     (None, LETTERS_28, Strs(&["€"]), LETTERS_28, Inline, false),
+    (None, LETTERS_29, Strs(&["bc"]), LETTERS_29, Inline, false),
     // On the heap, up to the capacity there.
     (HEAP_ROOM, LETTERS_29, Chars(&['a', 'a', 'b']), LETTERS_31, Heap, false),
     (HEAP_ROOM, LETTERS_29, Strs(&["aa"]), LETTERS_31, Heap, true),
@@ -245,6 +247,43 @@ fn what_is_written_into_an_array_is_added_or_refused_whole(rt: HostRuntime) {
             is_written(&rt, false, row) && is_written(&rt, true, row),
             "{i}"
         );
+    }
+}
+
+/// Whether a text that stays inline is joined in an array, too, as far as its items fit.
+fn is_joined_in_an_array(
+    rt: &impl Abort,
+    &(room, start, items, whole, storage, is_joined): &JoinRow,
+) -> bool {
+    if room.is_some() || storage == Heap {
+        return true;
+    }
+    let made: Result<InlineString, NotEnoughSpaceError> = start.parse();
+    let mut text = made.expect(rt, "at most 30 bytes");
+    let (answer, new) = match items {
+        Chars(items) => (
+            text.extend_chars(items.iter().copied()),
+            InlineString::from_chars(items.iter().copied()),
+        ),
+        Strs(items) => (
+            text.extend_strs(items.iter().copied()),
+            InlineString::from_strs(items.iter().copied()),
+        ),
+    };
+    let is_made = match new {
+        Ok(new) => is_joined && new.as_str() == whole,
+        Err(NotEnoughSpaceError) => !is_joined,
+    };
+    answer.is_ok() == is_joined && text.as_str() == whole && (is_made || !start.is_empty())
+}
+
+#[test]
+fn items_are_joined_in_an_array_up_to_the_first_that_does_not_fit(rt: HostRuntime) {
+    for row in JOINED {
+        assert!(rt; is_joined_in_an_array(&rt, row));
+    }
+    for row in WITHOUT_MEMORY {
+        assert!(rt; is_joined_in_an_array(&rt, row));
     }
 }
 

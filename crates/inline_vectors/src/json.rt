@@ -18,6 +18,7 @@ pub type JsonRow<'a> = (&'a str, Option<(&'a str, Storage)>);
 
 const READ: &[JsonRow] = rows! {
     ("\"small\"", Some(("small", Inline))), ("\"\"", Some(("", Inline))),
+    ("\"hi\"", Some(("hi", Inline))),
     ("\"\\u00e9\\ud834\\udd1e\\n\"", Some(("é𝄞\n", Inline))),
     ("\"aaaaaaaaaaaaaaaaaaaaaaaaaaaaaaa\"", Some((LETTERS_31, Heap))),
     ("5", None), ("-5", None), ("1.5", None), ("12345678", None), ("null", None), ("true", None),

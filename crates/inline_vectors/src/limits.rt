@@ -193,7 +193,7 @@ fn a_character_takes_no_memory_where_it_fills_the_room_on_the_heap(rt: HostRunti
 fn assert_filled(rt: &impl Abort, alloc: Global, kinds: Kinds) {
     let longer = whole_of(rt, alloc, "a", kinds.1.saturating_add(1));
     let (longer, full) = (longer.as_str(), longer.get(1..).unwrap_or(""));
-    let mut steps = repeated(rt, alloc, Push('a'), full.len(), full, kinds.1);
+    let mut steps = repeated(rt, alloc, Push('a'), full.len(), (0, full), kinds.1);
     steps
         .push((Push('a'), NoMemory, full, AsMade))
         .expect(rt, "memory");

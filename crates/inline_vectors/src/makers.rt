@@ -274,7 +274,8 @@ fn assert_with_and_without(rt: &impl Abort, alloc: Global, kinds: &[Kind], rows:
 const MAX: usize = usize::MAX;
 
 const CAPACITIES: &[Row] =
-    rows! { Capacity(0, Heap), Capacity(30, Heap), Capacity(100_000, Heap), Capacity(MAX, Heap), };
+    rows! { Capacity(0, Heap), Capacity(10, Heap), Capacity(30, Heap), Capacity(100, Heap),
+        Capacity(100_000, Heap), Capacity(MAX, Heap), };
 
 const CAPACITIES_AT_0: &[Row] =
     rows! { Capacity(0, Inline), Capacity(1, Heap), Capacity(100, Heap), Capacity(MAX, Heap), };
@@ -284,7 +285,7 @@ const CAPACITIES_AT_8: &[Row] =
 
 const CAPACITIES_AT_30: &[Row] = rows! {
     Capacity(0, Inline), Capacity(10, Inline), Capacity(30, Inline), Capacity(31, Heap),
-    Capacity(100_000, Heap), Capacity(MAX, Heap),
+    Capacity(100, Heap), Capacity(100_000, Heap), Capacity(MAX, Heap),
 };
 
 #[test]

@@ -407,20 +407,22 @@ pub fn assert_each_alone(rt: &impl Abort, alloc: Global, lists: &[List]) {
     assert_right(rt, play_each_alone(rt, alloc, EVERYWHERE, lists));
 }
 
-/// The steps of a command that is given this many times to the empty text. Each adds the same
-/// length, up to `whole`, and past `limit` bytes it is on the heap.
+/// The steps of a command that is given this many times to a text of `start` bytes. Each adds the
+/// same length, up to `whole`, and past `limit` bytes it is on the heap.
 pub fn repeated<'a>(
     rt: &impl Abort,
     alloc: Global,
     command: Command<'a>,
     times: usize,
-    whole: &'a str,
+    (start, whole): (usize, &'a str),
     limit: usize,
 ) -> Vec<Step<'a>> {
-    let size = whole.len().checked_div(times).unwrap_or(0);
+    let added = whole.len().saturating_sub(start);
+    let size = added.checked_div(times).unwrap_or(0);
     let mut steps = Vec::new(alloc);
     for count in 1..=times {
-        let content = whole.get(..size.saturating_mul(count)).unwrap_or(whole);
+        let end = start.saturating_add(size.saturating_mul(count));
+        let content = whole.get(..end).unwrap_or(whole);
         let step = (command, Done, content, where_at(content.len(), limit));
         steps.push(step).expect(rt, "memory");
     }
@@ -437,6 +439,6 @@ pub fn assert_repeated(
     times: usize,
 ) {
     let whole = whole_of(rt, alloc, part, times);
-    let steps = repeated(rt, alloc, command, times, whole.as_str(), kinds.1);
+    let steps = repeated(rt, alloc, command, times, (0, whole.as_str()), kinds.1);
     assert_right(rt, play(rt, alloc, kinds, 0, ample("", &steps)));
 }

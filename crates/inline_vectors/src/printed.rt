@@ -5,7 +5,6 @@ use inlinable_string::{InlinableString, InlineString, StringExt, StringMake};
 use std::alloc::Global;
 use std::fmt::{self, Debug, Display, Write};
 use std::process::Abort;
-use test_support::letters::LETTERS_31;
 
 /// A text, what it is printed as in each style with a bar after it, and as `Debug` prints it.
 pub type PrintRow<'a> = (&'a str, &'a str, &'a str);
@@ -16,7 +15,7 @@ const PRINTED: &[PrintRow] = rows! {
     ("he", "he|      he|he  |**he**| he|", "\"he\""),
     ("hello world", "hello world|hello world|hello world|hello world|hello world|",
         "\"hello world\""),
-    (LETTERS_31, LETTERS_31_IN_EACH_STYLE, "\"aaaaaaaaaaaaaaaaaaaaaaaaaaaaaaa\""),
+    (HELLO_WORLDS, HELLO_WORLDS_IN_EACH_STYLE, "\"hello world hello world hello world\""),
     ("é", "é|       é|é   |**é***|  é|", "\"é\""),
     ("a€𝄞", "a€𝄞|     a€𝄞|a€𝄞 |*a€𝄞**|a€𝄞|", "\"a€𝄞\""),
     ("\"\\'", "\"\\'|     \"\\'|\"\\' |*\"\\'**|\"\\'|", r#""\"\\'""#),
@@ -25,9 +24,11 @@ const PRINTED: &[PrintRow] = rows! {
         r#""\0\t\n\r\u{1b}""#),
 };
 
-const LETTERS_31_IN_EACH_STYLE: &str = "aaaaaaaaaaaaaaaaaaaaaaaaaaaaaaa|\
-    aaaaaaaaaaaaaaaaaaaaaaaaaaaaaaa|aaaaaaaaaaaaaaaaaaaaaaaaaaaaaaa|\
-    aaaaaaaaaaaaaaaaaaaaaaaaaaaaaaa|aaaaaaaaaaaaaaaaaaaaaaaaaaaaaaa|";
+const HELLO_WORLDS: &str = "hello world hello world hello world";
+
+const HELLO_WORLDS_IN_EACH_STYLE: &str = "hello world hello world hello world|\
+    hello world hello world hello world|hello world hello world hello world|\
+    hello world hello world hello world|hello world hello world hello world|";
 
 /// Whether a text is printed in each style, and by `Debug`, as its row says.
 fn is_printed<T: Display + Debug>(

@@ -35,17 +35,18 @@ fn a_reservation_stays_inline_up_to_a_sum_of_30(rt: HostRuntime) {
     assert_each_alone(&rt, rt.alloc(), RESERVED);
 }
 
-/// Reserves capacity for 100 bytes, fills it with this memory, and shrinks the text.
+/// Reserves capacity for 100 bytes after "foo", fills it with this memory, and shrinks the text.
 pub fn assert_hundred(rt: &impl Abort, alloc: Global, reserve: Command, memory: Memory) {
-    let whole = whole_of(rt, alloc, "0123456789", 10);
+    let tens = whole_of(rt, alloc, "0123456789", 10);
+    let whole = format!(in alloc; "foo{tens}").expect(rt, "memory");
     let whole = whole.as_str();
-    let during = repeated(rt, alloc, PushStr("0123456789"), 10, whole, 0);
-    let before = one_step(reserve, Done, "", OnHeap);
+    let during = repeated(rt, alloc, PushStr("0123456789"), 10, (3, whole), 0);
+    let before = one_step(reserve, Done, "foo", OnHeap);
     let after = one_step(ShrinkToFit, Done, whole, OnHeap);
     let row = Row {
         before: &before,
         memory,
-        ..held("", &during, &after)
+        ..held("foo", &during, &after)
     };
     assert_right(rt, play(rt, alloc, NOT_ARRAYS, 0, row));
 }
