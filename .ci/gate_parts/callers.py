@@ -1,9 +1,7 @@
 """gate callers [--jobs N]: shows that the callers of a library need the clauses of its contracts.
 
-The crate `callers` has functions with contracts and no proof of its own: all that they promise
-follows from the library's contracts. The edits of `wrong-clauses` weaken or drop clauses of these. They
-are all applied at once: the library must still be proved, since a weaker promise is kept all the more, and
-the named callers must be refused, which are proved as things are.
+The edits of `wrong-clauses` are all applied at once: the library must still be proved, and the callers that
+they name must be refused, which are proved as things are, with no proof of their own.
 """
 import os
 import re

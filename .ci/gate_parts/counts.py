@@ -1,9 +1,8 @@
 """gate counts: prints how long the tree is, and finds what is too long or is cited and not there.
 
-It prints the lines by kind, and the `unsafe` blocks. A line of a crate has at most 100 columns, unless it
-imports; a file at most 500 lines; a proof, a lemma with its type or an answer to a goal, at most 30 lines,
-comments aside. Each path or name that a document has in backticks is in the tree. The README has the program
-of the crate `tour`, which `rt ci` proves and runs.
+A line of a crate has at most 100 columns, unless it imports; a file at most 500 lines; a lemma with its type or
+an answer to a goal at most 30, comments aside. Each path or name that a document has in backticks is in the
+tree. The README has the program of the crate `tour`, which `rt ci` proves and runs.
 """
 import os
 import re

@@ -1,16 +1,10 @@
-"""gate definitions [CRATE ..] [--named WORD] [--jobs N]: tries the wrong definitions.
+"""gate definitions [CRATE ..] [--named WORD] [--jobs N]: tries the wrong definitions, which a row must refuse.
 
-They stand in `wrong-definitions`. With --named only those are tried whose name has the word in it.
-
-A wrong definition changes a file of `specs/`, and a law or a worked row must refuse it, of the same crate
-or of one above: a function that does nothing, whose contract is the row. Each is tried over copies, so that
-one check tries many: of the row with its answers, in a module `copied::rN`, and of the definitions and lemmas
-that it reaches and that stand on the changed one (`E1Run` of `Run`). Each row must also be proved over copies
-of all definitions as they are. Where a row reaches no changed file by its own words (it names an `impl`, or
-is no row), the change is made in the files themselves, in a check of its own.
-
-It is no refusal where a definition is not well formed, nor where a name has gone: either would refuse
-whatever stands on it, true or not.
+With --named only those are tried whose name has the word in it. A row is a function that does nothing, whose
+contract it is. Each is tried over copies: of the row with its answers, in a module `copied::rN`, and of the
+definitions and lemmas that it reaches and that stand on the changed one (`E1Run` of `Run`). Each row must also
+be proved over copies of all definitions as they are. Where a row reaches no changed file by its own words (it
+names an `impl`, or is no row), the change is made in the files themselves, in a check of its own.
 """
 import os
 import re

@@ -1,11 +1,8 @@
 """gate edits [CRATE ..] [--named WORD] [--jobs N]: tries wrong code, several edits in one check.
 
-It stands in `must-fail-together` and in `must-fail`. With --named only those edits are tried whose name
-has the word in it. Edits go together of which no two break the same function; docs/TESTING.md says why
-that is as strict as to try each alone. Only the functions that the edits name are checked.
-
-Which functions a change breaks is told by the layout of `rt fmt`, which `rt ci` requires, and by their last
-names: an edit that names another of the same name leaves that one proved, and fails.
+With --named only those edits are tried whose name has the word in it. docs/TESTING.md says which go together,
+and why that is as strict as to try each alone. Which functions a change breaks is told by the layout of `rt
+fmt` and by their last names: an edit that names another of the same name leaves that one proved, and fails.
 """
 import os
 import re

@@ -2,9 +2,8 @@
 
 Without PROGRAM they are the two builds of `inline_script` that `rt ci` leaves. Of each run the whole
 standard output and the exit status must be those of the case: of `replay/named_cases.py`, or for generated
-inputs those of `language.py`, a model of the rules. Where the standard output takes no byte, or nobody reads
-it, the status alone can be compared. No input asks for memory that one machine grants and another refuses.
-There must be as many replies and faults of each kind as `.ci/floors.py` says.
+inputs those of `language.py`. Where the standard output takes no byte, or nobody reads it, the status alone
+can be compared. No input asks for memory that one machine grants and another refuses.
 """
 import re
 import runpy

@@ -4,18 +4,13 @@ The tests of the modules `refusals` must pass each time, and each says what its 
 it makes, and how many of them are unseen, as std does without (`shrink_to_fit` and `collect` do so). One request
 more of each test is its last. A test must say `one refused` where one of its requests fails, except as often as
 it has unseen ones, `last refused` at the next, and `none refused` after it. So a call that allocates where it need
-not is found, even if it does without where that fails.
-
-A crate is done once the last request of each test was refused, and must have met as many refusals by then as
-`.ci/floors.py` says: tests that never meet one show nothing. The crates are tried side by side; each allocation
-is one build of a crate's tests.
+not is found, even if it does without where that fails. Each allocation is one build of a crate's tests.
 """
 import re
-from concurrent.futures import ThreadPoolExecutor
 
 from floors import REFUSALS
 from gate_parts.options import options
-from gate_parts.tree import Failure, crate_folder, run_rt
+from gate_parts.tree import Failure, crate_folder, run_rt, too_few
 
 # A test, and what it printed.
 TEST = re.compile(r'^test (?!result:)(\S+) [^\n]*?(\S+)$(.*?)(?=^test |\Z)', re.MULTILINE | re.DOTALL)
@@ -54,39 +49,29 @@ def faults_of(request, sayings, unseen):
             yield f'{name} says {most_unseen} unseen requests, and has {unseen[name]}'
 
 
-def swept(crate):
-    """Fails each allocation of a crate in turn. Whether all was well, and what there is to print."""
-    lines, unseen, meetings, request, requests = [], {}, 0, 0, 0
+def is_swept(crate):
+    """Fails each allocation of a crate in turn; whether all was well."""
+    unseen, meetings, request, requests = {}, 0, 0, 0
     while request <= requests:
         request += 1
         said = run_rt(crate_folder(crate), 'try', '--test', '--fail-alloc', str(request))[0]
         sayings, failed = tests_of(said)
         faults = list(faults_of(request, sayings, unseen))
         met = sum(which == 'one' for each in sayings.values() for which, _, _ in each)
-        lines.append(f'{crate}: allocation {request} fails: {len(sayings)} tests, {failed} failed, {met} met it')
+        print(f'{crate}: allocation {request} fails: {len(sayings)} tests, {failed} failed, {met} met it', flush=True)
         if not sayings or failed or faults:
-            return False, [*lines, said, *faults]
+            print(said, *faults, sep='\n')
+            return False
         meetings += met
         requests = max(int(count) for each in sayings.values() for _, count, _ in each)
-    return enough(crate, requests, meetings, lines)
-
-
-def enough(crate, requests, meetings, lines):
-    """Whether so many allocations and meetings are as many as there must be."""
-    least_requests, least_meetings = REFUSALS.get(crate, (1, 1))
-    is_enough = requests >= least_requests and meetings >= least_meetings
-    lines.append(f'{crate}: {requests} requests refused, {meetings} meetings')
-    return is_enough, [*lines, *[f'{crate}: TOO FEW: there must be {least_requests} requests '
-                                 f'and {least_meetings} meetings'] * (not is_enough)]
+    least = zip(('requests', 'meetings'), REFUSALS.get(crate, (1, 1)))
+    faults = list(too_few({'requests': requests, 'meetings': meetings}, dict(least)))
+    print(f'{crate}: {requests} requests refused, {meetings} meetings', *faults, sep='\n')
+    return not faults
 
 
 def main(words):
     crates = options('refusals', __doc__, words, 'crates').crates or list(REFUSALS)
     if not crates:
         raise Failure('no crate is named, and .ci/floors.py has none')
-    is_well = True
-    with ThreadPoolExecutor(len(crates)) as pool:
-        for is_crate_well, lines in pool.map(swept, crates):
-            print(*lines, sep='\n', flush=True)
-            is_well = is_well and is_crate_well
-    return is_well
+    return all([is_swept(crate) for crate in crates])

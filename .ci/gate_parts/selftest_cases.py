@@ -66,7 +66,6 @@ CHANGES = (
     ('&self);', '&self, i: u8);', 'none', False), ('  d\n', '  i\n', 'f g', True),
     ('  d\n', '  i\n', 'f', False))
 NO_REFUSAL = (
-    './specs/Run.antt:98:23: error: `IsMet`: `Foo` is not in scope',
     './specs/Run.antt:98:23: error: `IsMet`: expected type `ℕ`',
     './proofs/Free.antt:7:215: error: module `Rattle.toy.specs.Run` has no `IsMet` that can be named',
     './proofs/a/Answers.antt:1:1: error: `returns`: `c.requires` has no field `place`',

@@ -11,7 +11,7 @@ from glob import glob
 
 from gate_parts.options import options
 from gate_parts.rooms import copies
-from gate_parts.tree import Failure, crate_folder, crates_with, text_of, write_text
+from gate_parts.tree import crate_folder, text_of, write_text
 
 # A function that is done, and the line before the first.
 CHECKED = re.compile(r'^checked (\S+), \d+ of \d+$|^so far: 0 of')
@@ -45,8 +45,6 @@ def timed(folder, words):
 
 def main(words):
     given = options('times', __doc__, words, 'crate', '--test', '--only')
-    if given.crate not in crates_with('src'):
-        raise Failure(f'there is no crate {given.crate}')
     with copies([given.crate], 1) as (room,):
         costs = timed(crate_folder(given.crate, room),
                       ['--test'] * given.test + ['--only', given.only] * bool(given.only))
