@@ -1,7 +1,6 @@
 """gate times CRATE [--test] [--only PATH]: what each function of a crate costs to prove, from nothing.
 
-The crate is checked in a copy by one job, and for each function the processor time since the one before is
-printed, the dearest first. --test checks its tests too; --only takes a function, a module or a type.
+It is checked in a copy by one job. --test checks its tests too; --only takes a function, a module or a type.
 """
 import os
 import re

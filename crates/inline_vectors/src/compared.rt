@@ -19,7 +19,8 @@ pub type OrderRow<'a> = (&'a str, &'a str, Ordering);
 const ORDERS: &[OrderRow] = rows! {
     ("", "", Equal), ("", "a", Less), ("he", "he", Equal), ("fo", "foo", Less),
     ("fop", "foo", Greater),
-    ("foo", "bar", Greater), ("foo", "foo", Equal), ("é", "z", Greater), ("é", "é", Equal), ("é", "€", Less),
+    ("foo", "bar", Greater), ("foo", "foo", Equal), ("é", "z", Greater), ("é", "é", Equal),
+    ("é", "€", Less),
     ("\u{FFFD}", "𝄞", Less), ("a\0", "a", Greater), ("B", "a", Less),
     (LETTERS_30, LETTERS_30, Equal),
     (LETTERS_30, LETTERS_31, Less), (LETTERS_31, LETTERS_31, Equal), (LETTERS_31, "b", Less),

@@ -25,7 +25,8 @@ const TEXTS: &[TextRow] = rows! {
     (4, "a€", Inline), (4, "ab€", Heap), (4, "a𝄞", Heap),
     (8, "", Inline), (8, "12345678", Inline), (8, "123456789", Heap), (8, "aaaaa€", Inline),
     (8, "aaaaaa€", Heap),
-    (30, "", Inline), (30, "foo", Inline), (30, "hello", Inline), (30, "𝄞", Inline), (30, LETTERS_30, Inline),
+    (30, "", Inline), (30, "foo", Inline), (30, "hello", Inline),
+    (30, "𝄞", Inline), (30, LETTERS_30, Inline),
     (30, LETTERS_31, Heap),
     (30, "aaaaaaaaaaaaaaaaaaaaaaaaaa𝄞", Inline), (30, "aaaaaaaaaaaaaaaaaaaaaaaaaaa𝄞", Heap),
 };
