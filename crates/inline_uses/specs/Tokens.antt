@@ -15,9 +15,10 @@ is_word_part c = is_in_range 48 57 c || is_in_range 65 90 c || c == 95 || is_in_
 abbrev pub word_of : List ℕ → List ℕ
 word_of source = take_while is_word_part (chars source)
 
--- the source begins with this token, and goes on with the rest: the word that lies in the buffer,
--- or a character that is in no word
+-- the source begins with this token, and goes on with the rest: the word in the buffer, or a
+-- character that is in no word, and then the buffer is empty
 abbrev pub BeginsWith : List ℕ → Token → List ℕ → List ℕ → Type 0
 BeginsWith source Word word rest =
     ¬ (word ≡ []) × (word ≡ word_of source) × (source ≡ bytes_of word ++ rest)
-BeginsWith source (Mark c) word rest = (is_word_part c ≡ false) × (source ≡ encode_utf8 c ++ rest)
+BeginsWith source (Mark c) word rest =
+    (word ≡ []) × (is_word_part c ≡ false) × (source ≡ encode_utf8 c ++ rest)

@@ -133,9 +133,12 @@ fn ids_are_kept()
         → slice_get (texts ++ new ∷ []) (length texts) ≡ Some new }
 {}
 
-/// Two texts are equal exactly where their ids are.
+/// Gives both texts an id, and tells whether it is the same: exactly if the texts are equal. Those
+/// that had an id keep it, also if memory is refused.
 pub fn have_same_id(symbols: &mut Symbols, one: &str, other: &str) -> Result<bool, AllocError>
-    ensures { IfOk result (λ same. IsTrue same ↔ (one.now ≡ other.now)) }
+    ensures same { IfOk result (λ same. IsTrue same ↔ (one.now ≡ other.now)) }
+    ensures kept { (i : ℕ) (known : List ℕ) → slice_get symbols.old i ≡ Some known
+        → slice_get symbols.new i ≡ Some known }
 {
     let first = symbols.intern(one)?;
     let second = symbols.intern(other)?;

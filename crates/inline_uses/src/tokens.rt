@@ -1,5 +1,5 @@
 //! A lexer whose words go into one buffer of `N` bytes, so that it never asks for memory.
-ghost use Rattle.std.specs.Prelude.{not, ◌≡◌, ◌≤◌, ◌<◌, ◌↔◌, ◌++◌, [], length, None, Ok, IsTrue, IfOk, IfSome, OnOk, OnErr, MatchResult};
+ghost use Rattle.std.specs.Prelude.{not, ◌≡◌, ◌+◌, ◌≤◌, ◌<◌, ◌↔◌, ◌++◌, [], length, None, Ok, IsTrue, IfOk, IfSome, OnOk, OnErr, MatchResult};
 ghost use Rattle.std.specs.Str.{chars, trim_start};
 ghost use Rattle.inlinable_string.specs.Text.{bytes_of, size};
 ghost use Rattle.inline_uses.specs.Tokens.{is_word_part, word_of, BeginsWith};
@@ -67,9 +67,9 @@ pub fn read_word<'a, const N: usize>(
     }
 }
 
-/// Reads the next token behind any white space, and gives what follows it; none where nothing else
-/// is there. A word comes to lie in the buffer. Fails exactly where a word of more than `N` bytes
-/// is next, and leaves the buffer empty then.
+/// Reads the next token after any white space, and returns what follows it, or `None` if nothing
+/// else is there. The buffer then has the word, and is empty after a mark. Fails exactly if the
+/// next word has more than `N` bytes, and leaves the buffer empty.
 #[tactic(auto, using(crate::proofs::Words::ends_no_word))]
 pub fn next_token<'a, const N: usize>(
     word: &mut InlineStringN<N>,
@@ -107,7 +107,10 @@ pub struct Counts {
 pub fn count_tokens<const N: usize>(
     word: &mut InlineStringN<N>,
     source: &str,
-) -> Result<Counts, TooLong> {
+) -> Result<Counts, TooLong>
+    ensures count { IfOk result (λ counts. counts.words + counts.marks ≤ length source.now) }
+    ensures longest { IfOk result (λ counts. counts.longest ≤ N) }
+{
     let mut counts = Counts::default();
     let mut rest = source;
     for _ in 0..source.len() {

@@ -1,5 +1,5 @@
 //! A document's tree: nodes with short keys, of which no two under one node are equal.
-ghost use Rattle.std.specs.Prelude.{◌≡◌, ℕ, ◌<◌, ◌≤◌, ◌↔◌, List, [], ◌∷◌, ◌++◌, length, slice_get, Some, None, Err, IfOk, OnOk, OnErr, IsTrue, option_map};
+ghost use Rattle.std.specs.Prelude.{◌≡◌, ℕ, ◌<◌, ◌≤◌, ◌↔◌, List, [], ◌∷◌, ◌++◌, length, slice_get, Some, None, Err, IfOk, IfErr, OnOk, OnErr, IsTrue, ◌⊎◌, option_map};
 ghost use Rattle.std.specs.Str.{chars};
 ghost use Rattle.inlinable_string.specs.Values.{inlinable_state};
 ghost use Rattle.inline_uses.specs.Tree.{node_at, IsPlaceOf, IsTree, Leads, joined};
@@ -95,7 +95,8 @@ impl Tree {
         self.nodes.iter().position(|node| is_at(node, place, key))
     }
 
-    /// Puts a node with this key under a place, behind the others. A refusal changes nothing.
+    /// Adds a node with this key under a place, after the others, and returns its number. The faults
+    /// are looked for in the order `LongKey`, `NoNode`, `Taken`, `NoMemory`, and change nothing.
     pub fn add(&mut self, place: Option<usize>, key: &str) -> Result<usize, Fault>
         ensures id { IfOk result (λ id. id ≡ length self.old) }
         ensures ok { OnOk result (self.new ≡ self.old ++ node_at place (chars key.now) ∷ []) }
@@ -103,9 +104,12 @@ impl Tree {
 
         // When each fault comes.
         ensures long_key { (result ≡ Err Fault.LongKey) ↔ (16 < length key.now) }
-        ensures no_node { result ≡ Err Fault.NoNode → ¬ (IsPlaceOf self.old place) }
-        ensures taken { result ≡ Err Fault.Taken
-            → (id : ℕ) × (slice_get self.old id ≡ Some (node_at place (chars key.now))) }
+        ensures no_node { (result ≡ Err Fault.NoNode)
+            ↔ ((length key.now ≤ 16) × ¬ (IsPlaceOf self.old place)) }
+        ensures taken { (result ≡ Err Fault.Taken)
+            ↔ ((length key.now ≤ 16) × IsPlaceOf self.old place
+            × ((id : ℕ) × (slice_get self.old id ≡ Some (node_at place (chars key.now))))) }
+        ensures object { ¬ (result ≡ Err Fault.NotObject) }
     {
         let Ok(short) = key.parse() else {
             return Err(Fault::LongKey);
@@ -147,6 +151,7 @@ impl Tree {
         ensures ok { IfOk result (λ path. (keys : List (List ℕ)) × Leads self.now None keys id
             × ((inlinable_state 30 path).text ≡ joined keys)) }
         ensures no_node { (result ≡ Err Fault.NoNode) ↔ (length self.now ≤ id) }
+        ensures fault { IfErr result (λ fault. (fault ≡ Fault.NoNode) ⊎ (fault ≡ Fault.NoMemory)) }
     {
         splices_at_the_ends();
         if self.nodes.len() <= id {
