@@ -95,8 +95,8 @@ impl Tree {
         self.nodes.iter().position(|node| is_at(node, place, key))
     }
 
-    /// Adds a node with this key under a place, after the others, and returns its number. The faults
-    /// are looked for in the order `LongKey`, `NoNode`, `Taken`, `NoMemory`, and change nothing.
+    /// Adds a node with this key under a place, after the others, and returns its number. A fault
+    /// changes nothing; the first of `LongKey`, `NoNode`, `Taken` and `NoMemory` is returned.
     pub fn add(&mut self, place: Option<usize>, key: &str) -> Result<usize, Fault>
         ensures id { IfOk result (λ id. id ≡ length self.old) }
         ensures ok { OnOk result (self.new ≡ self.old ++ node_at place (chars key.now) ∷ []) }
