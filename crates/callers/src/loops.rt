@@ -4,9 +4,10 @@ ghost use Rattle.std.specs.Char.{is_ascii_digit};
 ghost use Rattle.std.specs.Str.{chars};
 ghost use Rattle.inlinable_string.specs.Joins.{text_of_strs};
 
-use inlinable_string::InlineStringN;
 use inlinable_string::inline_string::NotEnoughSpaceError;
 use inlinable_string::laws::items_are_the_characters;
+use inlinable_string::{InlineStringN, StringExt, string_ext};
+use std::alloc::AllocError;
 
 /// A text, and spaces behind it.
 pub fn pad(text: &mut InlineStringN<32>, n: usize) -> Result<(), NotEnoughSpaceError>
@@ -45,7 +46,7 @@ pub fn reversed(letters: &[char]) -> Result<InlineStringN<32>, NotEnoughSpaceErr
     InlineStringN::from_chars(letters.iter().rev().copied())
 }
 
-/// Words behind a text, as many as there are.
+/// Adds words to the end of a text of an array.
 pub fn add_all<const N: usize>(
     text: &mut InlineStringN<N>,
     words: &[&str],
@@ -53,4 +54,21 @@ pub fn add_all<const N: usize>(
     ensures { OnOk result (text.new ≡ text.old ++ text_of_strs words.now) }
 {
     text.extend_strs(words.iter().copied())
+}
+
+/// Adds words to the end of any text.
+pub fn add_to_any<S: StringExt>(text: &mut S, words: &[&str]) -> Result<(), AllocError>
+    ensures { OnOk result ((S.state text.new).text
+        ≡ (S.state text.old).text ++ text_of_strs words.now) }
+{
+    string_ext::extend_strs(text, words.iter().copied())
+}
+
+/// Adds the digits of a string to the end of any text.
+pub fn add_digits<S: StringExt>(text: &mut S, string: &str) -> Result<(), AllocError>
+    ensures { OnOk result ((S.state text.new).text
+        ≡ (S.state text.old).text ++ filter is_ascii_digit (chars string.now)) }
+{
+    items_are_the_characters();
+    string_ext::extend_chars(text, string.chars().filter(|ch| ch.is_ascii_digit()))
 }

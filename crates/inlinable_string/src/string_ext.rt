@@ -11,11 +11,13 @@ ghost use Rattle.inlinable_string.specs.State.{TextState, IsLawful, IsSameText, 
 use crate::inline_string::ReplaceError;
 use std::alloc::{AllocError, Global};
 
+mod joins;
 mod make;
 mod std_string;
 mod utf16;
 mod utf8;
 
+pub use joins::{extend_chars, extend_strs};
 pub use make::{StringMake, Utf16Error};
 
 /// Where the bytes of a text are stored.

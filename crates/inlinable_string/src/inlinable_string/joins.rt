@@ -11,8 +11,7 @@ ghost use Rattle.inlinable_string.specs.Joins.{text_of_chars, text_of_char_refs,
 ghost use Rattle.inlinable_string.specs.Values.{inlinable_policy, inlinable_state};
 
 use crate::inlinable_string::InlinableStringN;
-use crate::string_ext::{StringExt, StringMake};
-use crate::well_formed::assume_utf8_param;
+use crate::string_ext::{self, StringExt, StringMake};
 use std::alloc::{AllocError, Global};
 
 impl<const N: usize> InlinableStringN<N> {
@@ -64,12 +63,7 @@ impl<const N: usize> InlinableStringN<N> {
         ensures room { OnOk result
             ((inlinable_state N self.old).capacity ≤ (inlinable_state N self.new).capacity) }
     {
-        // `len` tells the laws of the value.
-        let _ = self.len();
-        for ch in items {
-            self.push(ch)?;
-        }
-        Ok(())
+        string_ext::extend_chars(self, items)
     }
 
     /// Appends the characters behind the references of an iterator that ends, as
@@ -126,12 +120,7 @@ impl<const N: usize> InlinableStringN<N> {
         ensures room { OnOk result
             ((inlinable_state N self.old).capacity ≤ (inlinable_state N self.new).capacity) }
     {
-        // `len` tells the laws of the value.
-        let _ = self.len();
-        for string in items {
-            self.push_str(assume_utf8_param(string))?;
-        }
-        Ok(())
+        string_ext::extend_strs(self, items)
     }
 
     /// The text of the characters of an iterator that ends. It lies inline where it has at most `N`

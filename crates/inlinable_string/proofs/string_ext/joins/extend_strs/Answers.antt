@@ -1,7 +1,7 @@
 use Rattle.inlinable_string.proofs.Common.{sym, text_of_strs}
 use Rattle.inlinable_string.proofs.Text.{size-chars}
 use Rattle.inlinable_string.proofs.Extended.{text_of_strs-more, grown_more, finished, stopped, refused, refusal, all_fit}
-use Rattle.inlinable_string.proofs.inlinable_string.InlinableStringN.extend_strs.Goals as goal
+use Rattle.inlinable_string.proofs.string_ext.joins.extend_strs.Goals as goal
 
 pub loop-string-preserved : goal.loop-string-preserved
 loop-string-preserved g c =

@@ -1,6 +1,6 @@
 use Rattle.inlinable_string.proofs.Common.{refl, text_of_chars}
 use Rattle.inlinable_string.proofs.Extended.{grown_more, finished, stopped, refused, refusal, all_fit}
-use Rattle.inlinable_string.proofs.inlinable_string.InlinableStringN.extend_chars.Goals as goal
+use Rattle.inlinable_string.proofs.string_ext.joins.extend_chars.Goals as goal
 
 pub loop-ch-preserved : goal.loop-ch-preserved
 loop-ch-preserved g c =
