@@ -1,7 +1,8 @@
 """gate callers [--jobs N]: shows that the callers of a library need the clauses of its contracts.
 
 The edits of `wrong-clauses` are all applied at once: the library must still be proved, and the callers that
-they name must be refused, which are proved as things are, with no proof of their own.
+they name must be refused, which are proved as things are, with no proof of their own. The program of the
+README is pasted into a new crate, where it must be proved and print what the README says.
 """
 import os
 import re
@@ -12,11 +13,12 @@ from gate_parts.edit_files import edits_of, texts_with
 from gate_parts.edits import are_refused, functions_of, sources
 from gate_parts.options import options
 from gate_parts.rooms import Room, copies, require_proof, said_of
-from gate_parts.tree import Failure, crate_folder, crates_with
+from gate_parts.tree import Failure, crate_folder, crates_with, in_tree, run_rt, text_of, write_text
 
 FOLDER = 'wrong-clauses'
 CRATE = 'callers'
 ENSURES = re.compile(r'^ *ensures\b', re.MULTILINE)
+PROGRAM = re.compile(r'^```rust\n(.*?)^```$', re.MULTILINE | re.DOTALL)
 
 
 def promising(text):
@@ -34,11 +36,25 @@ def require_callers():
     print(f'{CRATE}: {count} public functions with an `ensures`, and no proof', flush=True)
 
 
+def require_first_program(top, library):
+    """The first program of the README is proved in a new crate, and prints what the README says."""
+    readme, folder = text_of(in_tree('README.md')), crate_folder('pasted', top)
+    os.makedirs(os.path.join(folder, 'src'))
+    write_text(os.path.join(folder, 'src', 'main.rt'), PROGRAM.search(readme)[1])
+    write_text(os.path.join(top, 'crates.txt'), text_of(in_tree('crates.txt')) + f'pasted: {library}\n')
+    said, status = run_rt(folder, 'run')
+    printed = said.splitlines()[-1]
+    if status or f'It prints `{printed}`' not in readme:
+        raise Failure(f'the first program of the README does not run as it says:\n{said}')
+    print(f'the first program of the README prints {printed}', flush=True)
+
+
 def are_needed(library, edits, jobs):
     """Whether the named callers are refused over the library with its weaker contracts, still proved."""
     functions, start = functions_of(edits), monotonic()
     with copies([library, CRATE], 1) as (top,):
         require_proof(top, CRATE, jobs, functions)
+        require_first_program(top, library)
         with Room(top, library) as room:
             room.write(texts_with(crate_folder(library), edits))
             require_proof(top, library, jobs)
