@@ -10,7 +10,7 @@ use std::alloc::AllocError;
 ///
 /// For a type with a const parameter the toolchain has no proof of its own that a
 /// `Box<dyn StringExt + Drop>` is made of it, and asks for one by hand in each crate that does so.
-/// Inside of this struct the text goes into a box without one. Each call is that of the text.
+/// Inside this struct the text goes into a box without one. Each call is that of the text.
 #[derive(Drop)]
 pub struct BoxableString(pub InlinableString);
 

@@ -1,11 +1,11 @@
 //! Moves of bytes inside a slice.
 //!
-//! A window is the `len` bytes from `start` on. Room is free on both of its sides.
+//! The window is `start..start + len`; the bytes on both sides of it are free.
 ghost use Rattle.std.specs.Prelude.{◌≡◌, ◌+◌, ◌-◌, ◌≤◌, ◌<◌, ◌++◌, [], ◌∷◌, length, take, drop};
 ghost use Rattle.std.specs.List.{insert_slice, remove_range};
 ghost use Rattle.inlinable_string.specs.Cells.{start_with_less, start_with_more};
 
-/// Writes bytes over those from `at` on.
+/// Overwrites the bytes from `at` on.
 #[inline]
 pub(crate) fn write_at(cells: &mut [u8], at: usize, added: &[u8])
     requires { at + length added.now ≤ length cells.old }
@@ -16,7 +16,7 @@ pub(crate) fn write_at(cells: &mut [u8], at: usize, added: &[u8])
     cells[at..at + added.len()].copy_from_slice(added);
 }
 
-/// Writes bytes over the first ones.
+/// Overwrites the first bytes.
 #[inline]
 pub(crate) fn write_front(cells: &mut [u8], added: &[u8])
     requires { length added.now ≤ length cells.old }
@@ -25,7 +25,7 @@ pub(crate) fn write_front(cells: &mut [u8], added: &[u8])
     cells[..added.len()].copy_from_slice(added);
 }
 
-/// Puts bytes in at `at`, in the first `len` bytes; those that follow move up.
+/// Inserts bytes at `at` of the first `len` bytes; those after it move up.
 #[inline]
 pub(crate) fn insert_up(cells: &mut [u8], len: usize, at: usize, added: &[u8])
     requires place { at ≤ len }
@@ -38,8 +38,8 @@ pub(crate) fn insert_up(cells: &mut [u8], len: usize, at: usize, added: &[u8])
     cells[at..end].copy_from_slice(added);
 }
 
-/// Puts bytes in at `at`, in the `len` bytes that begin as far in as there are new ones; those
-/// before `at` move down.
+/// Inserts `added` at `at` of the `len` bytes that start at `added.len()`; those before `at` move
+/// down.
 #[inline]
 pub(crate) fn insert_down(cells: &mut [u8], len: usize, at: usize, added: &[u8])
     requires place { at ≤ len }
@@ -53,7 +53,7 @@ pub(crate) fn insert_down(cells: &mut [u8], len: usize, at: usize, added: &[u8])
     cells[at..end].copy_from_slice(added);
 }
 
-/// Takes the bytes from `from` to `to` out of the first `len`; those that follow move down.
+/// Removes `from..to` from the first `len` bytes; those after it move down.
 #[inline]
 pub(crate) fn remove_down(cells: &mut [u8], len: usize, from: usize, to: usize)
     requires order { from ≤ to }
@@ -64,7 +64,7 @@ pub(crate) fn remove_down(cells: &mut [u8], len: usize, from: usize, to: usize)
     cells.copy_within(to..len, from);
 }
 
-/// Takes the bytes from `from` to `to` out of the first `len`; those before them move up.
+/// Removes `from..to` from the first `len` bytes; those before it move up.
 #[inline]
 pub(crate) fn remove_up(cells: &mut [u8], len: usize, from: usize, to: usize)
     requires order { from ≤ to }
@@ -123,8 +123,7 @@ pub(crate) fn insert_in(
     }
 }
 
-/// `insert_in` of one byte, whose moves are by a constant. Where the window starts is written only
-/// where that changes.
+/// `insert_in` of one byte, whose moves are by a constant. Writes the start only if it changes.
 #[inline]
 pub(crate) fn insert_byte(cells: &mut [u8], start: &mut usize, len: usize, at: usize, byte: u8)
     requires place { at ≤ len }
@@ -170,8 +169,7 @@ fn insert_byte_with_front_room(cells: &mut [u8], start: &mut usize, len: usize, 
     *start = earlier;
 }
 
-/// Takes the bytes from `from` to `to` out of the window, and tells where it starts then. The
-/// shorter part moves.
+/// Removes `from..to` from the window, and returns its new start. The shorter part moves.
 #[inline]
 pub(crate) fn remove_in(cells: &mut [u8], start: usize, len: usize, from: usize, to: usize) -> usize
     requires order { from ≤ to }

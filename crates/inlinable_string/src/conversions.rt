@@ -12,7 +12,7 @@ use crate::inline_string::{InlineStringN, NotEnoughSpaceError};
 use crate::string_ext::StringExt;
 use std::str::FromStr;
 
-/// The same as `try_from` of a `&str`: fails exactly where the text has more than `N` bytes.
+/// The same as `try_from` of a `&str`: fails exactly if the text has more than `N` bytes.
 impl<const N: usize> FromStr for InlineStringN<N> {
     type Err = NotEnoughSpaceError;
 
@@ -26,7 +26,7 @@ impl<const N: usize> FromStr for InlineStringN<N> {
     }
 }
 
-/// Fails exactly where the text has more than `N` bytes.
+/// Fails exactly if the text has more than `N` bytes.
 impl<const N: usize> TryFrom<&str> for InlineStringN<N> {
     type Error = NotEnoughSpaceError;
 
@@ -43,7 +43,7 @@ impl<const N: usize> TryFrom<&str> for InlineStringN<N> {
     }
 }
 
-/// Fails exactly where the character has more than `N` bytes.
+/// Fails exactly if the character has more than `N` bytes.
 impl<const N: usize> TryFrom<char> for InlineStringN<N> {
     type Error = NotEnoughSpaceError;
 
@@ -57,8 +57,8 @@ impl<const N: usize> TryFrom<char> for InlineStringN<N> {
     }
 }
 
-/// The text, wherever it lies. Fails exactly where it has more than `N` bytes, and then hands it
-/// back.
+/// Copies the text, whatever its storage. Fails exactly if it has more than `N` bytes, and then
+/// returns it.
 impl<const N: usize> TryFrom<InlinableStringN<N>> for InlineStringN<N> {
     type Error = InlinableStringN<N>;
 
@@ -75,7 +75,7 @@ impl<const N: usize> TryFrom<InlinableStringN<N>> for InlineStringN<N> {
     }
 }
 
-/// The same text, where it lies: it takes no memory.
+/// Converts the text without allocating; its storage is unchanged.
 impl From<InlinableString> for BoxableString {
     ghost from_gives = { λ text made. made.0 ≡ text };
 

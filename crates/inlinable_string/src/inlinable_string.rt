@@ -170,7 +170,7 @@ impl<const N: usize> StringExt for InlinableStringN<N> {
 
     #[inline]
     fn capacity(&self) -> usize {
-        // Only `len` tells the laws of the value.
+        // Only `len` states the laws of the value.
         let _ = self.len();
         match self {
             InlinableStringN::Heap(text, _) => StringExt::capacity(text),
@@ -180,7 +180,7 @@ impl<const N: usize> StringExt for InlinableStringN<N> {
 
     #[inline]
     fn storage(&self) -> Storage {
-        // Only `len` tells the laws of the value.
+        // Only `len` states the laws of the value.
         let _ = self.len();
         match self {
             InlinableStringN::Heap(_, _) => Storage::Heap,
@@ -214,8 +214,8 @@ impl<const N: usize> StringExt for InlinableStringN<N> {
 }
 
 impl<const N: usize> InlinableStringN<N> {
-    /// `push` of any character, wherever the text lies and its room is. Out of line, so that a push
-    /// of an ASCII character behind an inline text pays nothing for it.
+    /// `push` of any character, whatever the storage. Out of line, to keep the push of an ASCII
+    /// character after an inline text small.
     #[cold]
     #[inline(never)]
     fn push_general(&mut self, ch: char) -> Result<(), AllocError>
@@ -229,7 +229,7 @@ impl<const N: usize> InlinableStringN<N> {
         ensures err { OnErr result
             (IsSameText (inlinable_state N self.old) (inlinable_state N self.new)) }
 
-        // What fits is not refused, and no room is lost.
+        // What fits cannot fail, and the capacity does not shrink.
         ensures granted { HasRoom (inlinable_state N self.old) (size (ch ∷ [])) → IsOk result }
         ensures inline_granted { HasInlineRoom (inlinable_state N self.old) (size (ch ∷ []))
             → IsOk result }

@@ -22,7 +22,7 @@ use std::fmt;
 pub enum JsonError {
     /// It is not a string.
     NotString,
-    /// It is a string, and memory was refused.
+    /// It is a string, and the allocation failed.
     NoMemory,
 }
 
@@ -49,7 +49,7 @@ impl fmt::Display for JsonError {
 }
 
 impl<const N: usize> InlinableStringN<N> {
-    /// The JSON string of the text. Memory is asked for once, for a copy of it.
+    /// Returns the text as a JSON string. Allocates once, for a copy of it.
     pub fn to_json(&self) -> Result<Value, AllocError>
         ensures { IfOk result
             (λ value. view value ≡ string (bytes_of (inlinable_state N self.now).text)) }
@@ -61,8 +61,8 @@ impl<const N: usize> InlinableStringN<N> {
         Value::try_from_str(alloc, self.as_str())
     }
 
-    /// The text of a JSON string, inline where it has at most `N` bytes: then it takes no memory,
-    /// and is not refused. Fails with [`JsonError::NotString`] exactly on every other value.
+    /// Makes a text of a JSON string. It is stored inline if it has at most `N` bytes; then the call
+    /// does not allocate and cannot fail. Any other value gives [`JsonError::NotString`].
     pub fn from_json(alloc: Global, value: &Value) -> Result<Self, JsonError>
         ensures text { IfOk result (λ made.
             view value.now ≡ string (bytes_of (inlinable_state N made).text)) }

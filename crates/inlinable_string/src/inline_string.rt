@@ -1,7 +1,7 @@
-//! Text in an array: it never asks for memory, and has a limit.
+//! Text in an array, which never allocates and has a limit.
 //!
-//! Use [`InlineStringN`] where no text is longer than the limit, or where a longer one is to be
-//! refused; where a longer one is to be kept, use [`crate::InlinableStringN`].
+//! Use [`InlineStringN`] if no text is longer than the limit, or longer ones are to be rejected; to
+//! accept them, use [`crate::InlinableStringN`].
 ghost use Rattle.std.specs.Prelude.{◌≡◌, ⊤, ℕ, ◌+◌, ◌-◌, ◌≤◌, ◌<◌, ◌↔◌, List, ◌++◌, [], ◌∷◌, length, drop, replicate, encode_utf8, IsTrue, true, OnOk, OnErr, Err, Some, MatchOption, MatchResult, IsUtf8, if◌then◌else◌, codes};
 ghost use Rattle.std.specs.Bool.{OnTrue, OnFalse};
 ghost use Rattle.std.specs.Char.{is_ascii};
@@ -105,7 +105,7 @@ impl<const N: usize> InlineStringN<N> {
         }
     }
 
-    /// The text of `string`, which must have at most `N` bytes.
+    /// Makes a text of `string`, which must have at most `N` bytes.
     #[inline]
     pub fn from(string: &str) -> Self
         requires { length string.now ≤ N }
@@ -390,7 +390,7 @@ impl<const N: usize> InlineStringN<N> {
         self.as_str().as_bytes()
     }
 
-    /// The bytes of the text, and zeros after them.
+    /// Returns the bytes of the text, and zeros after them.
     pub fn into_bytes(self) -> [u8; N]
         ensures { result ≡ bytes_of self.entry ++ replicate (N - size self.entry) 0 }
     {
@@ -412,7 +412,7 @@ impl<const N: usize> InlineStringN<N> {
     }
 }
 
-/// The character that begins at `idx`, and where it ends.
+/// Returns the character that begins at `idx`, and where it ends.
 #[inline]
 fn char_at(text: &str, idx: usize) -> (char, usize)
     requires place { IsCharBoundary text.now idx }

@@ -68,7 +68,7 @@ pub fn edits_leave_places()
     ensures removed { (t v : List ℕ) (p c : ℕ) → IsRemoval t p c v → IsPlace v p }
 {}
 
-/// What is put in at the start stands before the text, and what is put in at the end behind it.
+/// What is inserted at the start comes before the text, and at the end after it.
 pub fn splices_at_the_ends()
     ensures start { (t u v : List ℕ) → IsSplice t 0 u v → v ≡ u ++ t }
     ensures end { (t u v : List ℕ) → IsSplice t (size t) u v → v ≡ t ++ u }

@@ -1,10 +1,10 @@
 //! Strings that keep a short text in the value itself, and move to the heap when it outgrows that.
 //!
-//! - [`InlineStringN`] has at most `N` bytes and never asks for memory.
+//! - [`InlineStringN`] has at most `N` bytes and never allocates.
 //! - [`InlinableStringN`] moves to the heap when it outgrows `N` bytes.
 //! - [`StringExt`] and [`StringMake`] are implemented by it and by std's `String`, so that code can
 //!   be written once for both.
-//! - [`run`] gives lists of commands to any text.
+//! - [`run`] executes lists of commands on any text.
 #![tactic(auto)]
 
 mod boxable_string;

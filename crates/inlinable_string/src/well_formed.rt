@@ -137,7 +137,8 @@ fn is_ascii(bytes: &[u8]) -> bool
     is_ascii
 }
 
-/// The same string: a `&str` out of an iterator has no fact that it is UTF-8, a parameter has.
+/// Returns `string`. The prover knows a `&str` to be UTF-8 only as a parameter, not out of an
+/// iterator.
 pub(crate) fn assume_utf8_param(string: &str) -> &str
     ensures value { result.now ≡ string.now }
     ensures utf8 { IsUtf8 string.now }

@@ -1,5 +1,5 @@
-//! A text in the place of a `str`: `DerefStr` lends it to each call of `str`, and `AsSlice` its
-//! bytes to generic code.
+//! A text as a `str`: `DerefStr` lends it to each method of `str`, and `AsSlice` its bytes to
+//! generic code.
 ghost use Rattle.std.specs.Prelude.{◌≡◌};
 ghost use Rattle.inlinable_string.specs.Text.{bytes_of};
 ghost use Rattle.inlinable_string.specs.Values.{inlinable_state};

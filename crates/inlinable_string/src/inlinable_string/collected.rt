@@ -1,5 +1,5 @@
 //! std's `extend` and `collect`, over characters and strings. After a failure the text has the
-//! items before the one that was refused.
+//! items before the one that failed.
 ghost use Rattle.std.specs.Prelude.{◌≡◌, IsOk};
 ghost use Rattle.std.specs.Iterator.{IsFinite, HoldsAlong, ExtendsWithItems};
 ghost use Rattle.std.specs.Iterator.Runs.{EachRunFrom};
@@ -24,12 +24,12 @@ impl<const N: usize> Extend<char> for InlinableStringN<N> {
             (⟦<InlinableStringN<N> as Extend<char>>⟧.can_extend self.old) }
         ensures ran { ExtendsWithItems U.into_iter_gives U.IntoIter.next_gives
             ⟦<InlinableStringN<N> as Extend<char>>⟧.extend_gives iter self.old self.new result }
-        // What fits is not refused.
+        // What fits cannot fail.
         ensures granted { ((it : U.IntoIter) → U.into_iter_gives iter it
             → EachRunFrom U.IntoIter.next_gives it
             (λ run. HasRoom (inlinable_state N self.old) (size run.items))) → IsOk result }
     {
-        // `len` tells the laws of the value.
+        // `len` states the laws of the value.
         let _ = self.len();
         for ch in iter {
             self.push(ch)?;
@@ -49,13 +49,13 @@ impl<'a, const N: usize> Extend<&'a str> for InlinableStringN<N> {
             (⟦<InlinableStringN<N> as Extend<&'a str>>⟧.can_extend self.old) }
         ensures ran { ExtendsWithItems U.into_iter_gives U.IntoIter.next_gives
             ⟦<InlinableStringN<N> as Extend<&'a str>>⟧.extend_gives iter self.old self.new result }
-        // What fits is not refused.
+        // What fits cannot fail.
         ensures granted { ((it : U.IntoIter) → U.into_iter_gives iter it
             → EachRunFrom U.IntoIter.next_gives it (λ run.
             HasRoom (inlinable_state N self.old) (size (text_of_strs run.items))))
             → IsOk result }
     {
-        // `len` tells the laws of the value.
+        // `len` states the laws of the value.
         let _ = self.len();
         for string in iter {
             self.push_str(assume_utf8_param(string))?;

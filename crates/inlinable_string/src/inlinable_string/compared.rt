@@ -1,4 +1,4 @@
-//! Equality, order and hashes, which are those of the text as a `str`: where it lies is not seen.
+//! Equality, order and hashes, which are those of the text as a `str`, whatever its storage.
 ghost use Rattle.std.specs.Prelude.{Some, nat_eq, refl};
 ghost use Rattle.std.specs.Ordering.{nat_cmp};
 ghost use Rattle.std.specs.Cmp.{on_equiv, on_total, on_po, on_per, partial_equiv_from_equiv};
@@ -42,7 +42,7 @@ impl<const N: usize> PartialOrd for InlinableStringN<N> {
     }
 }
 
-/// By the bytes as numbers; a front of a text comes before it.
+/// By the bytes as numbers; a prefix comes before the whole.
 impl<const N: usize> Ord for InlinableStringN<N> {
     ghost cmp = { λ s t. slice_cmp nat_cmp
         (bytes_of (inlinable_state N s).text) (bytes_of (inlinable_state N t).text) };

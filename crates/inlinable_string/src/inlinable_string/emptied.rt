@@ -1,5 +1,4 @@
-//! The empty texts that std makes: in a map where none stands, and in the place of one that is
-//! taken.
+//! The empty texts that std makes: for a vacant entry of a map, and to replace one that is taken.
 ghost use Rattle.std.specs.Prelude.{◌≡◌, [], IfOk, IsOk};
 ghost use Rattle.inlinable_string.specs.declared.string_ext.Storage.TheVariants.{Inline};
 ghost use Rattle.inlinable_string.specs.Values.{inlinable_state};
@@ -9,7 +8,7 @@ use crate::string_ext::{Storage, StringMake};
 use std::alloc::{AllocError, Global};
 use std::default::{Emptied, MadeWith};
 
-/// What `or_default` puts into a map: the empty text, inline. It takes no memory.
+/// What `or_default` puts into a map: the empty text, stored inline. Does not allocate.
 impl<const N: usize> MadeWith<Global> for InlinableStringN<N> {
     ghost is_made_with = { λ made. ((inlinable_state N made).text ≡ [])
         × ((inlinable_state N made).storage ≡ Inline) };
@@ -19,8 +18,8 @@ impl<const N: usize> MadeWith<Global> for InlinableStringN<N> {
     }
 }
 
-/// What `mem::try_take` leaves in the place of a text: the empty text, inline, with the allocator
-/// of the one that is taken. It takes no memory, so nothing is refused.
+/// What `mem::try_take` leaves: the empty text, stored inline, with the allocator of the one that
+/// is taken. Does not allocate, and so cannot fail.
 impl<const N: usize> Emptied for InlinableStringN<N> {
     ghost is_emptied = { λ left. ((inlinable_state N left).text ≡ [])
         × ((inlinable_state N left).storage ≡ Inline) };

@@ -15,8 +15,8 @@ use crate::string_ext::{self, StringExt, StringMake};
 use std::alloc::{AllocError, Global};
 
 impl<const N: usize> InlinableStringN<N> {
-    /// The text with `other` at its end. If memory is refused, the text comes back unchanged and
-    /// where it was stored; its capacity may be less.
+    /// Returns the text with `other` appended. If the allocation fails, the text is returned, its
+    /// storage unchanged; its capacity may be less.
     pub fn add(mut self, other: &str) -> Result<Self, Self>
         ensures text { IfOk result (λ joined. (inlinable_state N joined).text
             ≡ (inlinable_state N self.entry).text ++ chars other.now) }
@@ -31,7 +31,7 @@ impl<const N: usize> InlinableStringN<N> {
         ensures err { IfErr result
             (λ same. IsSameText (inlinable_state N self.entry) (inlinable_state N same)) }
 
-        // What fits is not refused, and no room is lost.
+        // What fits cannot fail, and the capacity does not shrink.
         ensures granted { HasRoom (inlinable_state N self.entry) (length other.now) → IsOk result }
         ensures inline_granted { HasInlineRoom (inlinable_state N self.entry) (length other.now)
             → IsOk result }
@@ -44,11 +44,10 @@ impl<const N: usize> InlinableStringN<N> {
         }
     }
 
-    /// Appends the characters of an iterator that ends, one by one. What it says of how many will
-    /// come is not asked for.
+    /// Appends the characters of an iterator that ends, one by one. Its `size_hint` is ignored.
     ///
-    /// It is refused only at a character with which the text is above the capacity that it had at
-    /// the call; then the characters before that one are appended, and that one is lost.
+    /// Fails only at a character that takes the text past the capacity it had at the call. The
+    /// characters before it have been appended; it is lost.
     pub fn extend_chars<I: Iterator<Item = char>>(&mut self, items: I) -> Result<(), AllocError>
         requires can { I.can_next items }
         requires ends { IsFinite (I.remaining items) }
@@ -57,7 +56,7 @@ impl<const N: usize> InlinableStringN<N> {
         ensures err { OnErr result (SomeRun I.next_gives items (λ run. IsRefusedLast text_of_chars
             (inlinable_state N self.old) run.items (inlinable_state N self.new))) }
 
-        // What fits is not refused, and no room is lost.
+        // What fits cannot fail, and the capacity does not shrink.
         ensures granted { EachRunFrom I.next_gives items
             (λ run. HasRoom (inlinable_state N self.old) (size run.items)) → IsOk result }
         ensures room { OnOk result
@@ -66,7 +65,7 @@ impl<const N: usize> InlinableStringN<N> {
         string_ext::extend_chars(self, items)
     }
 
-    /// Appends the characters behind the references of an iterator that ends, as
+    /// Appends the characters that the references of an iterator point to, as
     /// [`InlinableStringN::extend_chars`] does.
     pub fn extend_char_refs<'a, I: Iterator<Item = &'a char>>(
         &mut self,
@@ -81,14 +80,14 @@ impl<const N: usize> InlinableStringN<N> {
             text_of_char_refs (inlinable_state N self.old) run.items
             (inlinable_state N self.new))) }
 
-        // What fits is not refused, and no room is lost.
+        // What fits cannot fail, and the capacity does not shrink.
         ensures granted { EachRunFrom I.next_gives items (λ run.
             HasRoom (inlinable_state N self.old) (size (text_of_char_refs run.items)))
             → IsOk result }
         ensures room { OnOk result
             ((inlinable_state N self.old).capacity ≤ (inlinable_state N self.new).capacity) }
     {
-        // `len` tells the laws of the value.
+        // `len` states the laws of the value.
         let _ = self.len();
         for ch in items {
             self.push(*ch)?;
@@ -96,11 +95,10 @@ impl<const N: usize> InlinableStringN<N> {
         Ok(())
     }
 
-    /// Appends the strings of an iterator that ends, one by one. What it says of how many will come
-    /// is not asked for.
+    /// Appends the strings of an iterator that ends, one by one. Its `size_hint` is ignored.
     ///
-    /// It is refused only at a string with which the text is above the capacity that it had at the
-    /// call; then the strings before that one are appended, and that one is lost.
+    /// Fails only at a string that takes the text past the capacity it had at the call. The strings
+    /// before it have been appended, and nothing of it.
     pub fn extend_strs<'a, I: Iterator<Item = &'a str>>(
         &mut self,
         items: I,
@@ -113,7 +111,7 @@ impl<const N: usize> InlinableStringN<N> {
         ensures err { OnErr result (SomeRun I.next_gives items (λ run. IsRefusedLast text_of_strs
             (inlinable_state N self.old) run.items (inlinable_state N self.new))) }
 
-        // What fits is not refused, and no room is lost.
+        // What fits cannot fail, and the capacity does not shrink.
         ensures granted { EachRunFrom I.next_gives items (λ run.
             HasRoom (inlinable_state N self.old) (size (text_of_strs run.items)))
             → IsOk result }
@@ -123,8 +121,8 @@ impl<const N: usize> InlinableStringN<N> {
         string_ext::extend_strs(self, items)
     }
 
-    /// The text of the characters of an iterator that ends. It lies inline where it has at most `N`
-    /// bytes, and is refused only at a character with which it has more.
+    /// Collects the characters of an iterator that ends. The text is stored inline if it has at
+    /// most `N` bytes; this fails only at a character that takes it past them.
     pub fn from_chars<I: Iterator<Item = char>>(alloc: Global, items: I) -> Result<Self, AllocError>
         requires can { I.can_next items }
         requires ends { IsFinite (I.remaining items) }
@@ -141,8 +139,8 @@ impl<const N: usize> InlinableStringN<N> {
         Ok(made)
     }
 
-    /// The strings of an iterator that ends, joined. The text lies inline where it has at most `N`
-    /// bytes, and is refused only at a string with which it has more.
+    /// Concatenates the strings of an iterator that ends. The text is stored inline if it has at
+    /// most `N` bytes; this fails only at a string that takes it past them.
     pub fn from_strs<'a, I: Iterator<Item = &'a str>>(
         alloc: Global,
         items: I,

@@ -8,12 +8,11 @@ use super::InlinableStringN;
 use crate::string_ext::Storage;
 
 impl<const N: usize> InlinableStringN<N> {
-    /// The same text with room for `M` bytes inline: it lies there exactly where it has at most as
-    /// many. A refusal hands the text back as it was.
+    /// Converts the text to an inline capacity of `M` bytes: it is stored inline exactly if it has
+    /// at most `M` bytes. If the allocation fails, the text is returned unchanged.
     ///
-    /// Only a text that lies inline and has more than `M` bytes takes memory, for as many as it
-    /// has, asked for once. A heap text of more than `M` bytes is moved as it is, with its
-    /// capacity.
+    /// Only an inline text of more than `M` bytes allocates, once and exactly. A heap text of more
+    /// than `M` bytes keeps its allocation and its capacity.
     pub fn with_limit<const M: usize>(self) -> Result<InlinableStringN<M>, InlinableStringN<N>>
         ensures text { IfOk result (λ moved.
             (inlinable_state M moved).text ≡ (inlinable_state N self.entry).text) }
@@ -23,8 +22,7 @@ impl<const N: usize> InlinableStringN<N> {
             (λ moved. (inlinable_state M moved).policy ≡ inlinable_policy M) }
         ensures err { IfErr result (λ same. same ≡ self.entry) }
 
-        // What fits inline, and what lies on the heap, is not refused; and there the capacity is
-        // kept.
+        // Cannot fail if the text fits inline or is on the heap; there the capacity is kept.
         ensures granted { size (inlinable_state N self.entry).text ≤ M → IsOk result }
         ensures heap_granted { (inlinable_state N self.entry).storage ≡ Storage.Heap
             → IsOk result }

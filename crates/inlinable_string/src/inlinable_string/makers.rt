@@ -1,4 +1,4 @@
-//! Texts that lie inline where they fit, and texts that take over what lies on the heap.
+//! Texts that are stored inline if they fit, and texts that take over a heap allocation.
 ghost use Rattle.std.specs.Prelude.{◌≡◌, ◌≤◌, [], length, true, IfOk, IsOk};
 ghost use Rattle.std.specs.Char.{is_ascii};
 ghost use Rattle.std.specs.List.{list_all};
@@ -16,8 +16,8 @@ use std::alloc::{AllocError, Global};
 use std::string::FromUtf8Error;
 
 impl<const N: usize> InlinableStringN<N> {
-    /// The text of `string`, inline where it has at most `N` bytes: then it takes no memory, and is
-    /// not refused.
+    /// Makes a text of `string`. It is stored inline if it has at most `N` bytes; then the call does
+    /// not allocate and cannot fail.
     #[inline]
     pub fn from(alloc: Global, string: &str) -> Result<Self, AllocError>
         ensures text { IfOk result (λ made. (inlinable_state N made).text ≡ chars string.now) }
@@ -30,7 +30,7 @@ impl<const N: usize> InlinableStringN<N> {
             (λ made. (inlinable_state N made).policy ≡ inlinable_policy N) }
         ensures granted { length string.now ≤ N → IsOk result }
     {
-        // A short text is put where it stays: made by itself, it would be moved once more.
+        // A short text is written where it stays: made apart, it would be moved once more.
         let mut made = Self::new(alloc);
         if N < string.len() {
             made = InlinableStringN::Heap(String::from_str(alloc, string)?, alloc);
@@ -56,8 +56,8 @@ impl<const N: usize> InlinableStringN<N> {
         Self::from(alloc, s)
     }
 
-    /// The text of `string`, inline where it has at most `N` bytes; else it is kept as it is, with
-    /// its capacity. It takes no memory.
+    /// Makes a text of `string`, stored inline if it has at most `N` bytes; a longer one keeps its
+    /// allocation and its capacity. Does not allocate.
     pub fn from_string(alloc: Global, string: String) -> Self
         ensures text { (inlinable_state N result).text ≡ chars (string_bytes string) }
         ensures storage { (inlinable_state N result).storage
@@ -73,7 +73,7 @@ impl<const N: usize> InlinableStringN<N> {
         InlinableStringN::Heap(string, alloc)
     }
 
-    /// The empty text, inline. It takes no memory.
+    /// Returns the empty text, stored inline. Does not allocate.
     pub fn default(alloc: Global) -> Self
         ensures text { (inlinable_state N result).text ≡ [] }
         ensures storage { (inlinable_state N result).storage ≡ Storage.Inline }

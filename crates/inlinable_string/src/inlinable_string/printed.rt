@@ -1,4 +1,4 @@
-//! Printing, which is that of the text as a `str` wherever it lies, and writing into a text.
+//! Printing, which is that of the text as a `str` whatever its storage, and writing into a text.
 ghost use Rattle.std.specs.Prelude.{◌≡◌, ◌+◌, ◌≤◌, ◌++◌, length, true, Some, IsOk, OnOk, OnErr};
 ghost use Rattle.std.specs.Char.{is_ascii};
 ghost use Rattle.std.specs.Fmt.{styled_text, debug_str};
@@ -33,8 +33,8 @@ impl<const N: usize> fmt::Debug for InlinableStringN<N> {
     }
 }
 
-/// Appends what is written. A string for which memory is refused is refused whole, and changes
-/// nothing; one that has room is not refused.
+/// Appends what is written. If the allocation fails, nothing of the string is appended; a string
+/// that fits in the capacity cannot fail.
 impl<const N: usize> fmt::Write for InlinableStringN<N> {
     ghost write_str_gives = { λ s bytes t.
         bytes_of (inlinable_state N t).text ≡ bytes_of (inlinable_state N s).text ++ bytes };
@@ -53,7 +53,7 @@ impl<const N: usize> fmt::Write for InlinableStringN<N> {
         ensures err { OnErr result
             (IsSameText (inlinable_state N self.old) (inlinable_state N self.new)) }
 
-        // What fits is not refused, and no room is lost.
+        // What fits cannot fail, and the capacity does not shrink.
         ensures granted { HasRoom (inlinable_state N self.old) (length s.now) → IsOk result }
         ensures inline_granted { HasInlineRoom (inlinable_state N self.old) (length s.now)
             → IsOk result }

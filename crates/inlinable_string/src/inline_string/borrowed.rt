@@ -1,5 +1,5 @@
-//! A text in an array in the place of a `str`: `DerefStr` lends it to each call of `str`, `AsStr`
-//! and `AsSlice` to generic code; a `for` goes over its characters.
+//! A text in an array as a `str`: `DerefStr` lends it to each method of `str`, `AsStr` and
+//! `AsSlice` to generic code; a `for` goes over its characters.
 ghost use Rattle.std.specs.Prelude.{◌≡◌, ◌+◌, ◌≤◌, ◌++◌, length, true};
 ghost use Rattle.std.specs.Char.{is_ascii};
 ghost use Rattle.std.specs.Iterator.Runs.{EveryRun, ItemsAreChars};
@@ -50,7 +50,7 @@ impl<'a, const N: usize> IntoIterator for &'a InlineStringN<N> {
     }
 }
 
-/// Appends a string that fits, which is a condition on the caller.
+/// Appends a string, which must fit.
 impl<const N: usize> AddAssign<&str> for InlineStringN<N> {
     ghost can_add_assign = { λ s added. size s + length added.now ≤ N };
 

@@ -14,7 +14,7 @@ use std::cmp::Ordering;
 use std::hash::{Hash, Hasher};
 
 impl<const N: usize> InlineStringN<N> {
-    /// Whether the text is `string`.
+    /// Returns whether the text is `string`.
     pub fn eq_str(&self, string: &str) -> bool
         ensures { IsTrue result ↔ (bytes_of self.now ≡ string.now) }
     {
@@ -47,7 +47,7 @@ impl<const N: usize> PartialOrd for InlineStringN<N> {
     }
 }
 
-/// By the bytes as numbers; a front of a text comes before it.
+/// By the bytes as numbers; a prefix comes before the whole.
 impl<const N: usize> Ord for InlineStringN<N> {
     ghost cmp = { λ s t. slice_cmp nat_cmp (bytes_of s) (bytes_of t) };
 

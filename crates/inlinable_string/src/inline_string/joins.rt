@@ -12,8 +12,8 @@ use crate::well_formed::assume_utf8_param;
 impl<const N: usize> InlineStringN<N> {
     /// Appends the characters of an iterator that ends, one by one.
     ///
-    /// Fails at the first character with which the text would have more than `N` bytes; then those
-    /// before it have been appended, and it is lost.
+    /// Fails at the first character that would take the text past `N` bytes. The characters before
+    /// it have been appended; it is lost.
     pub fn extend_chars<I: Iterator<Item = char>>(
         &mut self,
         items: I,
@@ -36,8 +36,8 @@ impl<const N: usize> InlineStringN<N> {
 
     /// Appends the strings of an iterator that ends, one by one.
     ///
-    /// Fails at the first string with which the text would have more than `N` bytes; then those
-    /// before it have been appended, and nothing of it.
+    /// Fails at the first string that would take the text past `N` bytes. The strings before it
+    /// have been appended, and nothing of it.
     pub fn extend_strs<'a, I: Iterator<Item = &'a str>>(
         &mut self,
         items: I,
@@ -59,8 +59,8 @@ impl<const N: usize> InlineStringN<N> {
         Ok(())
     }
 
-    /// The text of the characters of an iterator that ends. Fails exactly where it would have more
-    /// than `N` bytes, at the first character with which it has.
+    /// Collects the characters of an iterator that ends. Fails exactly if the text would have more
+    /// than `N` bytes, at the first character that takes it past them.
     pub fn from_chars<I: Iterator<Item = char>>(items: I) -> Result<Self, NotEnoughSpaceError>
         requires can { I.can_next items }
         requires ends { IsFinite (I.remaining items) }
@@ -75,8 +75,8 @@ impl<const N: usize> InlineStringN<N> {
         Ok(made)
     }
 
-    /// The strings of an iterator that ends, joined. Fails exactly where the text would have more
-    /// than `N` bytes, at the first string with which it has.
+    /// Concatenates the strings of an iterator that ends. Fails exactly if the text would have more
+    /// than `N` bytes, at the first string that takes it past them.
     pub fn from_strs<'a, I: Iterator<Item = &'a str>>(items: I) -> Result<Self, NotEnoughSpaceError>
         requires can { I.can_next items }
         requires ends { IsFinite (I.remaining items) }

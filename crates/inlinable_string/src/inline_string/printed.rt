@@ -29,7 +29,7 @@ impl<const N: usize> fmt::Debug for InlineStringN<N> {
     }
 }
 
-/// Appends what is written. A string that does not fit is refused whole, and changes nothing.
+/// Appends what is written. Fails if the string does not fit, and then changes nothing.
 impl<const N: usize> fmt::Write for InlineStringN<N> {
     ghost write_str_gives = { λ s bytes t. bytes_of t ≡ bytes_of s ++ bytes };
 

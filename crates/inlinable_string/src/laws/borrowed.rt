@@ -1,4 +1,4 @@
-//! Lemmas on a text in the place of a `str`, and on what std's traits add to one or collect.
+//! Lemmas on a text as a `str`, and on what std's traits append to one or collect.
 ghost use Rattle.std.specs.Prelude.{◌≡◌, ◌↔◌, ℕ, ◌+◌, ◌≤◌, List, ◌++◌, length};
 ghost use Rattle.std.specs.Borrow.{Bor};
 ghost use Rattle.std.specs.Str.{chars};
@@ -34,7 +34,7 @@ pub fn loops_go_over_the_text<'a, const N: usize>()
         → chars_rest rest ≡ bytes_of s.now }
 {}
 
-/// `+=` appends a string, and may be written where it fits.
+/// `+=` appends a string, and may be written if it fits.
 pub fn strings_that_fit_are_added<'a, const N: usize>()
     ensures fits { (s : List ℕ) (added : Bor (List ℕ))
         → ⟦<InlineStringN<N> as AddAssign<&'a str>>⟧.can_add_assign s added
@@ -44,7 +44,8 @@ pub fn strings_that_fit_are_added<'a, const N: usize>()
         → t ≡ s ++ chars added.now }
 {}
 
-/// What `extend` and `collect` have taken is in the text, in its order, and where that is stored.
+/// `extend` and `collect` append the items that they took, in order; where the text is stored is
+/// determined by its size.
 pub fn items_are_joined<'a, const N: usize>()
     ensures chars_added { (s : InlinableStringN N) (items : List ℕ) (t : InlinableStringN N)
         → ⟦<InlinableStringN<N> as Extend<char>>⟧.extend_gives s items t

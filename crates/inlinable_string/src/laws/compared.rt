@@ -16,7 +16,7 @@ use crate::string_ext::Storage;
 use std::cmp::Ordering;
 use std::hash::Hash;
 
-/// Two texts are equal exactly where they have the same bytes, and so the same characters, whatever
+/// Two texts are equal exactly if they have the same bytes, and so the same characters, whatever
 /// their storage. `len` states that these are scalar values.
 pub fn equality_is_that_of_texts<const N: usize>()
     ensures inline_bytes { (s t : List ℕ) → IsTrue (⟦<InlineStringN<N> as PartialEq>⟧.eq s t)
@@ -53,8 +53,8 @@ pub fn order_is_that_of_the_bytes<const N: usize>()
         ↔ (bytes_of (inlinable_state N s).text ≡ bytes_of (inlinable_state N t).text) }
 {}
 
-/// What a text hands to a hasher is what a `str` of its bytes does; so equal texts hash alike,
-/// wherever they lie.
+/// A text feeds a hasher what a `str` of its bytes does; so equal texts hash alike, whatever their
+/// storage.
 pub fn hashes_are_those_of_the_str<const N: usize>()
     ensures inline { (s : List ℕ) → ⟦<InlineStringN<N> as Hash>⟧.hash_input s
         ≡ fed.str (bytes_of s) }
@@ -66,8 +66,8 @@ pub fn hashes_are_those_of_the_str<const N: usize>()
         ≡ ⟦<InlinableStringN<N> as Hash>⟧.hash_input t }
 {}
 
-/// A copy has the text, and lies where the original does. It is sure to be made of a text that lies
-/// inline, and of no other.
+/// A copy has the text and the storage of the original. Copying an inline text cannot fail; copying
+/// any other may.
 pub fn copies_are_alike<const N: usize>()
     ensures inline { (s t : List ℕ) → ⟦<InlineStringN<N> as Clone>⟧.is_clone s t ↔ (t ≡ s) }
     ensures inline_granted { (s : List ℕ) → ⟦<InlineStringN<N> as Clone>⟧.is_infallible s }

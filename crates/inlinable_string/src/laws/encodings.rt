@@ -44,7 +44,7 @@ pub fn utf16_is_read_as_it_is()
 {}
 
 /// The bytes of a text are UTF-8, and those of that text alone: so `from_utf8` of what `into_bytes`
-/// gave is not refused, and is the same text.
+/// returned succeeds, and gives the same text.
 pub fn bytes_give_the_text_back()
     ensures utf8 { (t bs : List ℕ) → all_scalars t ≡ true → bs ≡ bytes_of t → IsUtf8 bs }
     ensures text { (t : List ℕ) → all_scalars t ≡ true → chars (bytes_of t) ≡ t }

@@ -11,19 +11,19 @@ ghost use Rattle.inlinable_string.specs.Laws.{replies_of, text_after_edits, Leav
 use crate::run::{Command, Reply};
 use crate::string_ext::Storage;
 
-/// Texts are told by their bytes: no list of bytes is that of two.
+/// A text is determined by its bytes.
 pub fn texts_are_told_by_their_bytes()
     ensures { (t v : List ℕ) → all_scalars t ≡ true → bytes_of t ≡ bytes_of v → t ≡ v }
 {}
 
-/// `cut` finds the two parts of a text at each of its places, and none elsewhere.
+/// `cut` finds the two parts of a text at each of its places, and nowhere else.
 pub fn cut_decides_places()
     ensures place { (t : List ℕ) (p : ℕ) (a b : List ℕ)
         → (cut t p ≡ Some (a, b)) ↔ IsCut t p a b }
     ensures none { (t : List ℕ) (p : ℕ) → (cut t p ≡ None) ↔ (¬ IsPlace t p) }
 {}
 
-/// An outcome is told by its reply and by the text that it leaves.
+/// An outcome is determined by its reply and by the text that it leaves.
 pub fn outcomes_are_told_by_reply_and_text()
     ensures done { (t v : List ℕ) (o : Outcome)
         → (o ≡ becomes v) ↔ ((reply_of o ≡ Reply.Done) × (text_left t o ≡ v)) }
@@ -33,7 +33,7 @@ pub fn outcomes_are_told_by_reply_and_text()
         → ((c : ℕ) → reply_of o ≢ Reply.Char c) → text_left t o ≡ t }
 {}
 
-/// An insertion is carried out exactly where what it leaves is a splice.
+/// An insertion succeeds exactly if what it leaves is a splice.
 pub fn insertions_are_splices()
     ensures character { (t v : List ℕ) (p c : ℕ)
         → (edit t (Command.Insert p c) ≡ becomes v) ↔ IsSplice t p (c ∷ []) v }
@@ -48,8 +48,7 @@ pub fn truncations_are_cuts()
         ↔ ((rest : List ℕ) × IsCut t p v rest) }
 {}
 
-/// An insertion or a `Truncate` is carried out exactly at a place; elsewhere the reply is
-/// `BadPlace`.
+/// An insertion or a `Truncate` succeeds exactly at a place; elsewhere the reply is `BadPlace`.
 pub fn edits_are_done_at_places()
     ensures insert_done { (t : List ℕ) (p c : ℕ)
         → (reply_of (edit t (Command.Insert p c)) ≡ Reply.Done) ↔ IsPlace t p }
@@ -65,21 +64,21 @@ pub fn edits_are_done_at_places()
         → (reply_of (edit t (Command.Truncate p)) ≡ Reply.BadPlace) ↔ (¬ IsPlace t p) }
 {}
 
-/// `Pop` takes off the character that a text ends with, and finds none in the empty text alone.
+/// `Pop` removes the last character; only in the empty text there is none.
 pub fn pop_takes_off_the_last_character()
     ensures last { (t v : List ℕ) (c : ℕ)
         → (edit t Command.Pop ≡ yields c v) ↔ (t ≡ v ++ c ∷ []) }
     ensures none { (t : List ℕ) → (reply_of (edit t Command.Pop) ≡ Reply.NoChar) ↔ (t ≡ []) }
 {}
 
-/// `Remove` takes out the character that begins at a place, and nothing else.
+/// `Remove` removes the character that begins at a place, and nothing else.
 pub fn remove_is_a_removal()
     ensures { (t v : List ℕ) (p c : ℕ)
         → (edit t (Command.Remove p) ≡ yields c v) ↔ IsRemoval t p c v }
 {}
 
-/// `ReplaceBytes` is carried out exactly with as many bytes as the text has, of another text; the
-/// number of bytes is tested first.
+/// `ReplaceBytes` succeeds exactly if the bytes have the text's length and are UTF-8; the length is
+/// tested first.
 pub fn replacement_has_the_bytes()
     ensures done { (t v : List ℕ) (b : Bor (List ℕ))
         → (edit t (Command.ReplaceBytes b) ≡ becomes v)
@@ -92,7 +91,7 @@ pub fn replacement_has_the_bytes()
         ↔ ((length b.now ≡ size t) × ¬ (IsUtf8 b.now)) }
 {}
 
-/// A growth that is carried out adds its bytes to those of the text.
+/// A growth that succeeds adds its bytes to those of the text.
 pub fn growths_add_their_bytes()
     ensures push { (t : List ℕ) (c : ℕ)
         → size (text_left t (edit t (Command.Push c))) ≡ size t + size (c ∷ []) }
@@ -105,14 +104,14 @@ pub fn growths_add_their_bytes()
         → size (text_left t (edit t (Command.InsertStr p u))) ≡ size t + size (chars u.now) }
 {}
 
-/// Taking out what was just put in gives it back, and leaves the old text.
+/// `Remove` after `Insert` at the same place returns the character and leaves the old text.
 pub fn remove_undoes_insert()
     ensures { (t : List ℕ) (p c : ℕ) → IsPlace t p
         → edit (text_left t (edit t (Command.Insert p c))) (Command.Remove p) ≡ yields c t }
 {}
 
 /// Legal replies, read one at a time: each is that of `edit` on the text after the commands before
-/// it, or want of memory to a command that is not free in the state after them.
+/// it, or `NoMemory` to a command that may allocate in the state after them.
 pub fn each_reply_is_legal_in_its_turn()
     ensures count { (s : TextState) (commands : List Command) (replies : List Reply)
         → LegalReplies s commands replies → length replies ≡ length commands }
@@ -124,8 +123,8 @@ pub fn each_reply_is_legal_in_its_turn()
         → (state_after s commands replies).text ≡ text_after s.text commands replies }
 {}
 
-/// Many runs, read one at a time: the replies of the text at `i` are those from
-/// `i * commands.len()` on, as many as the commands.
+/// Many runs, read one at a time: the replies of text `i` are the `commands.len()` from
+/// `i * commands.len()` on.
 pub fn each_text_has_its_own_run()
     ensures run { (olds news : List TextState) (commands : List Command) (replies : List Reply)
         (i : ℕ) (old new : TextState) → EachRun olds commands replies news
@@ -161,8 +160,8 @@ pub fn refusals_change_nothing()
         → reply ≢ Reply.Done → (state_after_step s command reply).storage ≡ s.storage }
 {}
 
-/// Short runs never ask: where the text lies inline, and without refusals neither the texts nor
-/// what is reserved beside them would pass the limit, no memory is refused, and it stays inline.
+/// Short runs never ask: if the text is stored inline, and without failures neither the texts nor
+/// what is reserved besides would pass the limit, no allocation fails, and it stays inline.
 pub fn short_runs_never_ask()
     ensures replies { (s : TextState) (commands : List Command) (replies : List Reply)
         → IsLawful s → s.storage ≡ Storage.Inline
@@ -174,8 +173,8 @@ pub fn short_runs_never_ask()
         → storage_after s commands replies ≡ Storage.Inline }
 {}
 
-/// Runs without refusals are edits: where no memory is refused, the replies and the text are those
-/// of one edit after the other, wherever the text lies.
+/// Runs without refusals are edits: if no allocation fails, the replies and the text are those of
+/// one edit after the other, whatever its storage.
 pub fn unrefused_runs_are_edits()
     ensures replies { (s : TextState) (commands : List Command) (replies : List Reply)
         → LegalReplies s commands replies → ¬ Contains replies Reply.NoMemory
@@ -198,15 +197,15 @@ pub fn short_runs_are_edits()
         → text_after s.text commands replies ≡ text_after_edits s.text commands }
 {}
 
-/// A run stays within a limit exactly where each command does, on the text after those before it.
+/// A run stays within a limit exactly if each command does, on the text after those before it.
 pub fn short_runs_are_short_at_each_command()
     ensures { (n : ℕ) (t : List ℕ) (commands : List Command) → StaysWithin n t commands
         ↔ ((i : ℕ) (command : Command) → slice_get commands i ≡ Some command
         → LeavesWithin n (text_after_edits t (take i commands)) command) }
 {}
 
-/// Reserved pushes never fail: pushes directly after a reservation that was carried out, or at the
-/// start of a run on a value with room for them, are not refused memory.
+/// Reserved pushes never fail: pushes directly after a reservation that succeeded, or at the start
+/// of a run on a value with capacity for them, cannot fail.
 pub fn reserved_pushes_never_fail()
     ensures start { (s : TextState) (k : ℕ) (commands : List Command) (replies : List Reply)
         → PushesWithin k commands → size s.text + k ≤ s.capacity

@@ -1,7 +1,7 @@
-//! The bodies of both runs, of a text of its own type and of one behind a `dyn`: a type parameter
-//! must have a size, so no function is both. A macro writes no contract, so each run has its own.
+//! The bodies of both runs, of a type parameter and of a `dyn`: the first must have a size, so no
+//! function is both. A macro writes no contract, so each run has its own.
 
-/// Gives each command in turn.
+/// Executes each command in turn.
 macro_rules! run_body {
     ($text:ident, $commands:ident, $replies:ident, $step:ident) => {{
         let _ = $text.len();

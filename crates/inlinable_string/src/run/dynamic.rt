@@ -1,4 +1,4 @@
-//! Lists of commands for a text behind a `dyn`.
+//! Lists of commands for a `dyn StringExt`.
 ghost use Rattle.std.specs.Prelude.{◌≡◌, ◌+◌, ◌≤◌, length};
 ghost use Rattle.inlinable_string.specs.Text.{size};
 ghost use Rattle.inlinable_string.specs.State.{IsLawful};

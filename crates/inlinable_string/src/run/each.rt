@@ -5,10 +5,10 @@ ghost use Rattle.inlinable_string.specs.Run.{IsRun, EachRun};
 use super::{Command, Reply, run_dyn};
 use crate::string_ext::StringExt;
 
-/// Gives the commands to each text, as [`super::run`] does, and writes its replies after those of
-/// the text before it: the reply to command `j` of text `i` is at `i * commands.len() + j`.
+/// Executes the commands on each text, as [`super::run`] does, and writes its replies after those
+/// of the text before it: the reply to command `j` of text `i` is at `i * commands.len() + j`.
 ///
-/// There must be as many replies as texts times commands. It takes no memory of its own.
+/// `replies` must have `texts.len() * commands.len()` elements. `run_each` itself never allocates.
 pub fn run_each(
     texts: &mut Vec<Box<dyn StringExt + Drop>>,
     commands: &[Command],

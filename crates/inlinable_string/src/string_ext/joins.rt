@@ -30,7 +30,7 @@ pub fn extend_chars<S: StringExt, I: Iterator<Item = char>>(
         (λ run. HasRoom (S.state text.old) (size run.items)) → IsOk result }
     ensures room { OnOk result ((S.state text.old).capacity ≤ (S.state text.new).capacity) }
 {
-    // `len` tells the laws of the value.
+    // `len` states the laws of the value.
     let _ = text.len();
     for ch in items {
         text.push(ch)?;
@@ -58,7 +58,7 @@ pub fn extend_strs<'a, S: StringExt, I: Iterator<Item = &'a str>>(
         (λ run. HasRoom (S.state text.old) (size (text_of_strs run.items))) → IsOk result }
     ensures room { OnOk result ((S.state text.old).capacity ≤ (S.state text.new).capacity) }
 {
-    // `len` tells the laws of the value.
+    // `len` states the laws of the value.
     let _ = text.len();
     for string in items {
         text.push_str(assume_utf8_param(string))?;

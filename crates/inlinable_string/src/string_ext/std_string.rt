@@ -1,4 +1,4 @@
-//! std's `String` as a text that can be edited: it is on the heap always, the empty one too.
+//! std's `String` as a text that can be edited: it is always on the heap, even if it is empty.
 //!
 //! Growths and moves stay out of line (`#[inline(never)]`), so that a call on a text that may be
 //! inline stays small.
@@ -61,7 +61,7 @@ impl StringExt for String {
         self.remove(idx)
     }
 
-    // The room of the old bytes is kept, and is that of the new ones.
+    // The allocation of the old bytes is kept for the new ones.
     #[inline(never)]
     fn replace_bytes(&mut self, bytes: &[u8]) -> Result<(), ReplaceError> {
         if bytes.len() != self.len() {
