@@ -16,7 +16,7 @@ pub fn set_token(buffer: &mut InlineString, token: &str)
     };
 }
 
-/// Gives back what a text took: a short one is inline then, and is not refused.
+/// Shrinks the capacity of a text: a short one is inline then, and this cannot fail.
 pub fn release<const N: usize>(text: &mut InlinableStringN<N>)
     ensures text { (inlinable_state N text.new).text ≡ [] }
     ensures storage { (inlinable_state N text.new).storage ≡ Storage.Inline }

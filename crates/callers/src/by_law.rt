@@ -1,4 +1,4 @@
-//! Lists of commands whose outcome is told in other words than those of `run`: the body calls the
+//! Lists of commands whose outcome is stated in other words than those of `run`: the body calls the
 //! law that has these words.
 ghost use Rattle.std.specs.Prelude.{◌≡◌, ◌↔◌, ℕ, ◌+◌, [], ◌∷◌, Some, None, length, take, map, slice_get, Contains, IsTrue, IsUtf8};
 ghost use Rattle.inlinable_string.specs.Text.{bytes_of, size, cut, IsPlace, IsSplice, IsRemoval};
@@ -70,7 +70,7 @@ pub fn remove_by_run<S: StringExt>(text: &mut S, place: usize) -> Reply
     replies[0]
 }
 
-/// Puts bytes in the place of the text's by a run.
+/// Overwrites the text with bytes by a run.
 pub fn replace_by_run<S: StringExt>(text: &mut S, bytes: &[u8]) -> Reply
     ensures { result ≡ Reply.Done → (bytes_of (S.state text.new).text ≡ bytes.now)
         × IsUtf8 bytes.now × (length bytes.now ≡ size (S.state text.old).text) }
@@ -154,8 +154,8 @@ pub fn whole_run<S: StringExt>(text: &mut S, commands: &[Command], replies: &mut
     run(text, commands, replies);
 }
 
-/// The same commands to two texts of the same characters: where memory is refused at the same
-/// commands, the replies are the same.
+/// The same commands on two texts of the same characters: if allocations fail at the same commands,
+/// the replies are the same.
 pub fn run_side_by_side<S: StringExt, T: StringExt>(
     text: &mut S,
     other: &mut T,

@@ -15,7 +15,7 @@ use std::alloc::AllocError;
 use std::cmp::Ordering;
 use std::collections::{BTreeMap, HashSet};
 
-/// Whether two texts have the same characters, wherever they lie.
+/// Whether two texts have the same characters, whatever their storage.
 pub fn is_same<const N: usize>(a: &InlinableStringN<N>, b: &InlinableStringN<N>) -> bool
     ensures { IsTrue result ↔ ((inlinable_state N a.now).text ≡ (inlinable_state N b.now).text) }
 {
@@ -45,7 +45,7 @@ pub fn later<const N: usize>(a: InlinableStringN<N>, b: InlinableStringN<N>) -> 
     a.max(b)
 }
 
-/// A copy, which lies where the text does.
+/// A copy, with the storage of the text.
 pub fn copied<const N: usize>(text: &InlinableStringN<N>) -> Result<InlinableStringN<N>, AllocError>
     ensures same { IfOk result (λ copy. IsSameText (inlinable_state N text.now)
         (inlinable_state N copy)) }
@@ -76,7 +76,7 @@ pub fn price_of(prices: &BTreeMap<InlineStringN<16>, u32>, name: &str) -> Option
     prices.get(&InlineStringN::from(name)).copied()
 }
 
-/// Whether a name is among those seen, wherever each of them lies.
+/// Whether a name is among those seen, whatever the storage of each.
 pub fn is_seen(seen: &HashSet<InlinableString>, name: &InlinableString) -> bool
     ensures { result ≡ contains_by (λ key. pointwise nat_eq
         (bytes_of (inlinable_state 30 name.now).text) (bytes_of (inlinable_state 30 key).text))

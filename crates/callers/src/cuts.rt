@@ -77,7 +77,7 @@ pub fn delete_at<const N: usize>(text: &mut InlineStringN<N>, place: usize) -> c
     text.remove(place)
 }
 
-/// Cuts the text behind a place off, into a text of its own.
+/// Splits the text off after a place, into a text of its own.
 pub fn split_off<S: StringMake + Drop>(
     alloc: Global,
     text: &mut S,

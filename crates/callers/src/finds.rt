@@ -6,7 +6,7 @@ ghost use Rattle.inlinable_string.specs.Text.{bytes_of, size};
 use inlinable_string::StringExt;
 use inlinable_string::laws::{cuts_are_cuts_of_bytes, fronts_end_at_places};
 
-/// Takes the extension off a file's name, behind a `dyn`.
+/// Removes the extension of a file's name, through a `dyn`.
 pub fn strip_extension(name: &mut dyn StringExt)
     ensures size { size (state name.new).text ≤ size (state name.old).text }
     ensures storage { (state name.new).storage ≡ (state name.old).storage }

@@ -1,5 +1,5 @@
 //! Bounds that are met: generic callers at std's `String`, at `InlinableStringN` of any limit, and
-//! behind a `dyn`.
+//! at a `dyn`.
 use crate::{by_law, cuts, finds, joins, makes, takes, views, wholes};
 use inlinable_string::run::Command;
 use inlinable_string::{InlinableString, InlinableStringN, StringMake};
@@ -27,7 +27,7 @@ pub fn each_limit<const N: usize>(
     each(alloc, text)
 }
 
-/// Callers of a text behind a `dyn`.
+/// Callers of a `dyn StringExt`.
 pub fn behind_dyn(alloc: Global, text: &mut InlinableString) -> Result<String, AllocError> {
     finds::strip_extension(text);
     joins::string_of(alloc, text)

@@ -1,4 +1,4 @@
-//! Texts that are joined from iterators, printed, written into, and used in the place of a `str`.
+//! Texts that are joined from iterators, printed, written into, and used as a `str`.
 ghost use Rattle.std.specs.Prelude.{◌≡◌, ◌+◌, ◌≤◌, ◌↔◌, ◌++◌, ◌∷◌, length, IfOk, IfErr, IsOk, OnOk, IsTrue};
 ghost use Rattle.std.specs.Str.{chars};
 ghost use Rattle.std.specs.Str.Iter.{chars_rest};

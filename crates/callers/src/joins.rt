@@ -6,7 +6,7 @@ ghost use Rattle.inlinable_string.specs.StringValues.{string_state};
 use inlinable_string::{StringExt, StringMake};
 use std::alloc::{AllocError, Global};
 
-/// A copy of a text behind a `dyn` in std's `String`.
+/// A copy of a `dyn StringExt` in std's `String`.
 pub fn string_of(alloc: Global, text: &dyn StringExt) -> Result<String, AllocError>
     ensures { IfOk result (λ copy. (string_state copy).text ≡ (state text.now).text) }
 {

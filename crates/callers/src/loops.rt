@@ -9,14 +9,14 @@ use inlinable_string::laws::items_are_the_characters;
 use inlinable_string::{InlineStringN, StringExt, string_ext};
 use std::alloc::AllocError;
 
-/// A text, and spaces behind it.
+/// Appends `n` spaces.
 pub fn pad(text: &mut InlineStringN<32>, n: usize) -> Result<(), NotEnoughSpaceError>
     ensures { OnOk result (text.new ≡ text.old ++ replicate n 32) }
 {
     text.extend_chars(std::iter::repeat_n(' ', n))
 }
 
-/// A name with `_` in the place of each `-`.
+/// A name with `_` instead of each `-`.
 pub fn as_name(string: &str) -> Result<InlineStringN<16>, NotEnoughSpaceError>
     ensures { IfOk result (λ made. made ≡ map (λ c. if c == 45 then 95 else c) (chars string.now)) }
 {

@@ -76,7 +76,7 @@ pub fn body(alloc: Global, bytes: Vec<u8>) -> Result<InlinableStringN<16>, Vec<u
     }
 }
 
-/// A text goes through its bytes and comes back, or stays unchanged where memory is refused.
+/// Converts a text to its bytes and back, or returns it unchanged if an allocation fails.
 pub fn through_bytes<S: StringMake + Drop>(alloc: Global, text: S) -> Result<S, S>
     ensures ok { IfOk result (λ made. (S.state made).text ≡ (S.state text).text) }
     ensures heap { IfOk result (λ made. (S.state made).storage ≡ Storage.Heap) }
@@ -100,7 +100,7 @@ pub fn shown<'a>(alloc: Global, bytes: &'a [u8]) -> Result<CowStr<'a>, AllocErro
     InlinableString::from_utf8_lossy(alloc, bytes)
 }
 
-/// Bytes that begin with no character: U+FFFD, and what is read of those behind.
+/// Bytes that begin with no character: U+FFFD, and what is read of those after it.
 pub fn shown_behind<'a>(alloc: Global, bytes: &'a [u8]) -> Result<CowStr<'a>, AllocError>
     requires some { 0 < length bytes.now }
     requires fault { StartsWithNoChar bytes.now }
@@ -111,7 +111,7 @@ pub fn shown_behind<'a>(alloc: Global, bytes: &'a [u8]) -> Result<CowStr<'a>, Al
     InlinableString::from_utf8_lossy(alloc, bytes)
 }
 
-/// Bytes that may begin with a character: it is read, and then the bytes behind it.
+/// Bytes that may begin with a character: it is read, and then the bytes after it.
 pub fn shown_from<'a>(alloc: Global, bytes: &'a [u8]) -> Result<CowStr<'a>, AllocError>
     ensures { (c : ℕ) (rest : List ℕ) → IsScalar c → bytes.now ≡ encode_utf8 c ++ rest
         → IfOk result (λ read. cow_str_bytes read ≡ bytes_of (c ∷ lossy_utf8 rest)) }

@@ -1,4 +1,4 @@
-//! Texts that are made: their room, where they lie, and whose policy they have.
+//! Texts that are made: their capacity, their storage, and their policy.
 ghost use Rattle.std.specs.Prelude.{◌≡◌, ◌+◌, ◌<◌, ◌++◌, [], ◌∷◌, IfOk, OnOk};
 ghost use Rattle.inlinable_string.specs.State.{HasRoom, storage_when_made};
 ghost use Rattle.inlinable_string.specs.Values.{inlinable_policy, inlinable_state};
@@ -23,7 +23,7 @@ pub fn with_room<S: StringMake + Drop>(alloc: Global, room: usize) -> Result<S, 
     S::with_capacity(alloc, room)
 }
 
-/// Room within the limit is inline, and is not refused.
+/// Capacity within the limit is inline, and this cannot fail.
 pub fn inline_with_room<const N: usize>(alloc: Global) -> InlinableStringN<N>
     ensures text { (inlinable_state N result).text ≡ [] }
     ensures storage { (inlinable_state N result).storage ≡ Storage.Inline }

@@ -1,4 +1,4 @@
-//! Bytes in the place of a text's, of the same length: the three answers, and what each leaves.
+//! Overwriting a text with bytes of the same length: the three results, and what each leaves.
 ghost use Rattle.std.specs.Prelude.{◌≡◌, ◌≢◌, length, map, codes, OnOk, OnErr, IsUtf8};
 ghost use Rattle.std.specs.Char.{to_ascii_uppercase};
 ghost use Rattle.inlinable_string.specs.Text.{bytes_of, size};
@@ -8,7 +8,7 @@ use inlinable_string::inline_string::ReplaceError;
 use inlinable_string::{InlineStringN, StringExt};
 use std::alloc::{AllocError, Global};
 
-/// Puts capital letters in the place of small ones.
+/// Replaces small letters with capital ones.
 pub fn uppercase<S: StringExt>(alloc: Global, text: &mut S) -> Result<(), AllocError>
     ensures size { size (S.state text.new).text ≡ size (S.state text.old).text }
     ensures ok { OnOk result (bytes_of (S.state text.new).text

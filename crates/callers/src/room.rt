@@ -1,5 +1,5 @@
-//! Growths, also into room that is reserved first: pushes directly after it are not refused, so no
-//! answer of theirs has to be handed on.
+//! Growths, also within capacity that is reserved first: pushes directly after it cannot fail, so
+//! their results need not be returned.
 ghost use Rattle.std.specs.Prelude.{◌≡◌, ◌+◌, ◌≤◌, ◌<◌, ◌++◌, [], ◌∷◌, length, OnOk, OnErr};
 ghost use Rattle.std.specs.Str.{chars};
 ghost use Rattle.inlinable_string.specs.Text.{size};

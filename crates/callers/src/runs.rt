@@ -14,7 +14,7 @@ use inlinable_string::run::{Command, Reply, run, run_dyn, run_each};
 use inlinable_string::{InlinableString, StringExt};
 use std::alloc::{AllocError, Global};
 
-/// Adds two letters by commands, behind a `dyn`.
+/// Appends two letters by commands, to a `dyn`.
 pub fn letters_by_run(text: &mut dyn StringExt) -> bool
     ensures done { IsTrue result → (state text.new).text ≡ (state text.old).text ++ 97 ∷ 98 ∷ [] }
     ensures granted { HasInlineRoom (state text.old) 2 → IsTrue result }
@@ -44,7 +44,7 @@ pub fn pop_by_run(text: &mut InlinableString) -> Reply
     replies[0]
 }
 
-/// A text that is added after a reservation is not refused.
+/// Appending a text after a reservation cannot fail.
 pub fn add_by_run<S: StringExt>(text: &mut S, part: &str) -> bool
     ensures done { IsTrue result
         → (S.state text.new).text ≡ (S.state text.old).text ++ chars part.now }
@@ -61,7 +61,7 @@ pub fn add_by_run<S: StringExt>(text: &mut S, part: &str) -> bool
     replies[0] == Reply::Done
 }
 
-/// Cuts at a place by a run: the reply tells whether it was one.
+/// Truncates at an offset by a run: the reply says whether it was a place.
 pub fn cut_by_run<S: StringExt>(text: &mut S, place: usize) -> bool
     ensures { IsTrue result ↔ IsPlace (S.state text.old).text place }
 {

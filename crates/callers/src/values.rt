@@ -25,7 +25,7 @@ pub fn initial<const N: usize>(ch: char) -> Option<InlineStringN<N>>
     InlineStringN::try_from(ch).ok()
 }
 
-/// A text for a box of a `dyn`: it lies where it did.
+/// A text for a box of a `dyn`; its storage is unchanged.
 pub fn boxable(text: InlinableString) -> BoxableString
     ensures { boxable_state result ≡ inlinable_state 30 text }
 {

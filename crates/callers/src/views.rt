@@ -1,4 +1,4 @@
-//! Views: what a length, a capacity or the storage tells a caller.
+//! Views: what a caller knows of a length, a capacity or the storage.
 ghost use Rattle.std.specs.Prelude.{◌≡◌, ℕ, ◌+◌, ◌≤◌, ◌<◌, ◌↔◌, List, ◌++◌, [], ◌∷◌, IsTrue, IfNone, IfSome};
 ghost use Rattle.inlinable_string.specs.Text.{bytes_of, size};
 ghost use Rattle.inlinable_string.specs.State.{HasRoom};
@@ -6,14 +6,14 @@ ghost use Rattle.inlinable_string.specs.Values.{inlinable_state};
 
 use inlinable_string::{InlinableStringN, Storage, StringExt};
 
-/// The capacity is never below the length: `capacity` alone tells it.
+/// The capacity is at least the length: `capacity` alone states it.
 pub fn upper_bound<S: StringExt>(text: &S) -> usize
     ensures { size (S.state text.now).text ≤ result }
 {
     text.capacity()
 }
 
-/// An inline text has its limit's room: `storage` alone tells it.
+/// An inline text has the capacity of its limit: `storage` alone states it.
 pub fn lies_inline(text: &dyn StringExt) -> bool
     ensures when { IsTrue result ↔ ((state text.now).storage ≡ Storage.Inline) }
     ensures room { IsTrue result → (state text.now).capacity ≡ (state text.now).policy.limit }
@@ -40,7 +40,7 @@ pub fn last_byte<S: StringExt>(text: &S) -> Option<u8>
     Some(*last)
 }
 
-/// Whether a text is empty, wherever it lies.
+/// Whether a text is empty, whatever its storage.
 pub fn is_nothing<const N: usize>(text: &InlinableStringN<N>) -> bool
     ensures { IsTrue result ↔ ((inlinable_state N text.now).text ≡ []) }
 {

@@ -1,4 +1,4 @@
--- What a command does to a text where memory is not refused.
+-- What a command does to a text if no allocation fails.
 use Rattle.std.specs.Prelude.{ℕ, List, [], ◌∷◌, ◌++◌, length, Option, Some, None, if◌then◌else◌, nat_eq}
 use Rattle.std.specs.Str.{chars, is_utf8}
 use Rattle.inlinable_string.specs.Text.{size, cut}
@@ -9,17 +9,17 @@ use Rattle.inlinable_string.specs.declared.run.Reply.TheVariants.{Done, Char, No
 
 -- what a command leads to
 pub data Outcome : Type 0 where
-  -- it is carried out, and this is the text after it
+  -- it succeeds, and this is the text after it
   becomes : List ℕ → Outcome
   -- it removes this character, and this is the text after it
   yields : ℕ → List ℕ → Outcome
-  -- it is refused, and the text is as it was: there is no character to remove
+  -- it fails, and the text is unchanged: there is no character to remove
   has_no_char : Outcome
   -- there is no such place, or no character begins there
   has_no_place : Outcome
   -- the bytes are not UTF-8
   is_not_utf8 : Outcome
-  -- the bytes are not as many as the text has
+  -- the lengths differ
   has_wrong_length : Outcome
 
 abbrev pub reply_of : Outcome → Reply
@@ -36,7 +36,7 @@ text_left t (becomes v) = v
 text_left t (yields c v) = v
 text_left t refusal = t
 
--- a text and its last character, with the character c in front of the text
+-- a text and its last character, with the character c before the text
 abbrev pub with_char_in_front : ℕ → Option (List ℕ × ℕ) → List ℕ × ℕ
 with_char_in_front c None = ([], c)
 with_char_in_front c (Some end) = (c ∷ end.0, end.1)
@@ -46,7 +46,7 @@ abbrev pub split_last : List ℕ → Option (List ℕ × ℕ)
 split_last [] = None
 split_last (c ∷ t) = Some (with_char_in_front c (split_last t))
 
--- the text u is put between the two parts of a text
+-- the text u is inserted between the two parts of a text
 abbrev pub insertion : List ℕ → Option (List ℕ × List ℕ) → Outcome
 insertion u None = has_no_place
 insertion u (Some parts) = becomes (parts.0 ++ u ++ parts.1)
@@ -61,7 +61,7 @@ abbrev pub pop_result : Option (List ℕ × ℕ) → Outcome
 pop_result None = has_no_char
 pop_result (Some end) = yields end.1 end.0
 
--- the first character of what stands behind a is removed
+-- the first character of what comes after a is removed
 abbrev pub removal_behind : List ℕ → List ℕ → Outcome
 removal_behind a [] = has_no_place
 removal_behind a (c ∷ b) = yields c (a ++ b)
@@ -71,7 +71,7 @@ abbrev pub removal : Option (List ℕ × List ℕ) → Outcome
 removal None = has_no_place
 removal (Some parts) = removal_behind parts.0 parts.1
 
--- the bytes bs are put in the place of those of the text t
+-- the bytes bs overwrite those of the text t
 abbrev pub replacement : List ℕ → List ℕ → Outcome
 replacement t bs =
     if nat_eq (length bs) (size t) then (if is_utf8 bs then becomes (chars bs) else is_not_utf8)
@@ -92,7 +92,7 @@ edit t (Reserve n) = becomes t
 edit t (ReserveExact n) = becomes t
 edit t ShrinkToFit = becomes t
 
--- the text after a command with its reply: want of memory leaves it
+-- the text after a command with its reply: `NoMemory` leaves it
 abbrev pub text_after_step : List ℕ → Command → Reply → List ℕ
 text_after_step t command NoMemory = t
 text_after_step t command reply = text_left t (edit t command)

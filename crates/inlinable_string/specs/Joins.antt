@@ -1,4 +1,4 @@
--- What calls leave that add the items of an iterator to a text, one by one.
+-- What calls leave that append the items of an iterator to a text, one by one.
 use Rattle.std.specs.Prelude.{◌≡◌, ℕ, ◌+◌, ◌<◌, List, [], ◌∷◌, ◌++◌, map}
 use Rattle.std.specs.Borrow.{Bor}
 use Rattle.std.specs.List.{flat_map}
@@ -10,7 +10,7 @@ use Rattle.inlinable_string.specs.State.{TextState, storage_with_room}
 abbrev pub text_of_chars : List ℕ → List ℕ
 text_of_chars items = items
 
--- the text of characters behind references
+-- the text of characters that references point to
 abbrev pub text_of_char_refs : List (Bor ℕ) → List ℕ
 text_of_char_refs items = map (λ c. c.now) items
 
@@ -18,13 +18,13 @@ text_of_char_refs items = map (λ c. c.now) items
 abbrev pub text_of_strs : List (Bor (List ℕ)) → List ℕ
 text_of_strs items = flat_map (λ s. chars s.now) items
 
--- u was added at the end of the text, which lies where room for so many bytes more takes it
+-- u was appended to the text, whose storage is that with capacity for the bytes of u
 pub record IsExtended (old : TextState) (u : List ℕ) (new : TextState) : Type 0 where
   pub text : new.text ≡ old.text ++ u
   pub storage : new.storage ≡ storage_with_room old (size u)
 
--- the items before the last were added, and the last was refused: the text with all of them would
--- be above the room that it had at first
+-- the items before the last were appended, and the last failed: with all of them the text would
+-- exceed the capacity that it had at first
 pub record IsRefusedLast {A : Type 0} (text_of : List A → List ℕ) (old : TextState)
     (items : List A) (new : TextState) : Type 0 where
   pub taken : List A

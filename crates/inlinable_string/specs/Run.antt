@@ -1,4 +1,4 @@
--- What a list of commands does to a value, and which replies are legal, whatever memory answers.
+-- What a list of commands does to a value, and which replies are legal, whichever allocations fail.
 use Rattle.std.specs.Prelude.{◌≡◌, ℕ, ◌+◌, ◌-◌, ◌≤◌, ◌<◌, ◌^◌, ◌⊎◌, List, [], ◌∷◌, length, take, drop, IsTrue}
 use Rattle.std.specs.Str.{chars}
 use Rattle.inlinable_string.specs.Text.{size}
@@ -10,15 +10,15 @@ use Rattle.inlinable_string.specs.declared.run.Command.TheVariants.{Push, PushSt
 use Rattle.inlinable_string.specs.declared.run.Reply.{Reply}
 use Rattle.inlinable_string.specs.declared.run.Reply.TheVariants.{Done, BadPlace, NoMemory}
 
--- what a command needs of the room where the text lies
+-- what a command needs of the text's capacity
 pub data Need : Type 0 where
-  -- so many bytes more at the end
+  -- n more bytes at the end
   at_end : ℕ → Need
-  -- so many bytes more at any place
+  -- n more bytes at any place
   anywhere : ℕ → Need
-  -- room for so many bytes more
+  -- capacity for n more bytes
   reserved : ℕ → Need
-  -- no more room than the text has bytes
+  -- the least capacity
   tight : Need
   no_room : Need
 
@@ -36,7 +36,7 @@ need_of (Reserve n) = reserved n
 need_of (ReserveExact n) = reserved n
 need_of ShrinkToFit = tight
 
--- where the text lies once a need is met
+-- its storage once a need is met
 abbrev pub storage_when_met : TextState → Need → Storage
 storage_when_met s (at_end n) = storage_with_room s n
 storage_when_met s (anywhere n) = storage_with_room s n
@@ -44,12 +44,12 @@ storage_when_met s (reserved n) = storage_with_room s n
 storage_when_met s tight = storage_when_shrunk s
 storage_when_met s no_room = s.storage
 
--- where the text lies after a command with its reply
+-- its storage after a command with its reply
 abbrev pub storage_after_step : TextState → Command → Reply → Storage
 storage_after_step s command Done = storage_when_met s (need_of command)
 storage_after_step s command reply = s.storage
 
--- how many bytes pushes may add before memory can be refused
+-- how many bytes pushes may add before an allocation can fail
 abbrev pub credit : TextState → ℕ
 credit s = s.capacity - size s.text
 
@@ -88,11 +88,11 @@ storage_after s commands replies = (state_after s commands replies).storage
 abbrev pub credit_after : TextState → List Command → List Reply → ℕ
 credit_after s commands replies = credit (state_after s commands replies)
 
--- the command may ask for memory on the text t: it needs room, and no other refusal comes first
+-- the command may allocate on the text t: it needs capacity, and no other error comes first
 abbrev pub AsksMemory : List ℕ → Command → Type 0
 AsksMemory t command = ¬ (need_of command ≡ no_room) × (reply_of (edit t command) ≡ Done)
 
--- what is needed is there without any memory
+-- the need is met without allocating
 abbrev pub IsMet : TextState → Need → Type 0
 IsMet s (at_end n) = HasInlineRoom s n ⊎ (n ≤ credit s)
 IsMet s (anywhere n) = HasInlineRoom s n
@@ -100,22 +100,22 @@ IsMet s (reserved n) = HasInlineRoom s n
 IsMet s tight = IsTrue s.policy.demotes × (size s.text ≤ s.policy.limit)
 IsMet s no_room = Unit {0}
 
--- the command may not be refused for want of memory
+-- the reply to the command cannot be `NoMemory`
 abbrev pub IsFree : TextState → Command → Type 0
 IsFree s command = ¬ (AsksMemory s.text command) ⊎ IsMet s (need_of command)
 
--- no room is said to be reserved that a `usize` can't count
+-- what was reserved fits in a `usize`
 abbrev pub IsCounted : TextState → Need → Reply → Type 0
 IsCounted s (reserved n) Done = size s.text + n < 2 ^ 64
 IsCounted s need reply = Unit {0}
 
--- the reply is that of `edit`, or want of memory to a command that is not free of it
+-- the reply is that of `edit`, or `NoMemory` to a command that is not free
 pub record IsLegal (s : TextState) (command : Command) (reply : Reply) : Type 0 where
   pub answer : (reply ≡ reply_of (edit s.text command))
       ⊎ ((reply ≡ NoMemory) × ¬ (IsFree s command))
   pub counted : IsCounted s (need_of command) reply
 
--- there are as many replies as commands, and each is legal in its turn
+-- the lists have the same length, and each reply is legal in its turn
 abbrev pub LegalReplies : TextState → List Command → List Reply → Type 0
 LegalReplies s [] [] = Unit {0}
 LegalReplies s (command ∷ commands) (reply ∷ replies) =
@@ -133,8 +133,8 @@ pub record IsRun
   pub credit : size new.text + credit_after old commands replies ≤ new.capacity
   pub policy : new.policy ≡ old.policy
 
--- each value has its own run; its replies are as many as the commands, and stand before those of
--- the next value
+-- each value has its own run; its replies, one for each command, come before those of the next
+-- value
 abbrev pub EachRun : List TextState → List Command → List Reply → List TextState → Type 0
 EachRun [] commands replies [] = Unit {0}
 EachRun (old ∷ olds) commands replies (new ∷ news) =

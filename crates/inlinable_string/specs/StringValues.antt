@@ -6,7 +6,7 @@ use Rattle.std.specs.declared.string.String.{String}
 use Rattle.inlinable_string.specs.declared.string_ext.Storage.TheVariants.{Heap}
 use Rattle.inlinable_string.specs.State.{Policy, TextState}
 
--- a text that never lies inline
+-- a text that is never stored inline
 abbrev pub heap_policy : Policy
 heap_policy = record { demotes = false; limit = 0 }
 

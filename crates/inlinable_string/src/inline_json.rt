@@ -61,8 +61,8 @@ impl<const N: usize> InlinableStringN<N> {
         Value::try_from_str(alloc, self.as_str())
     }
 
-    /// Makes a text of a JSON string. It is stored inline if it has at most `N` bytes; then the call
-    /// does not allocate and cannot fail. Any other value gives [`JsonError::NotString`].
+    /// Makes a text of a JSON string. It is stored inline if it has at most `N` bytes; then the
+    /// call does not allocate and cannot fail. Any other value gives [`JsonError::NotString`].
     pub fn from_json(alloc: Global, value: &Value) -> Result<Self, JsonError>
         ensures text { IfOk result (λ made.
             view value.now ≡ string (bytes_of (inlinable_state N made).text)) }

@@ -7,7 +7,7 @@ use Rattle.inlinable_string.specs.declared.run.Command.TheVariants.{Push, Insert
 use Rattle.inlinable_string.specs.declared.run.Reply.{Reply}
 use Rattle.inlinable_string.specs.declared.run.Reply.TheVariants.{Done, Char, BadPlace, NoMemory}
 
--- a text that lies inline, in room for so many bytes
+-- an inline text with this capacity
 abbrev pub inline_text : List ℕ → ℕ → TextState
 inline_text t n = record {
   text = t;
@@ -16,7 +16,7 @@ inline_text t n = record {
   policy = record { demotes = true; limit = n };
 }
 
--- a text on the heap, in room for so many bytes, that is never brought back from it
+-- a text on the heap with this capacity, which never moves back
 abbrev pub heap_only_text : List ℕ → ℕ → TextState
 heap_only_text t n = record {
   text = t;
@@ -25,15 +25,15 @@ heap_only_text t n = record {
   policy = record { demotes = false; limit = 30 };
 }
 
--- a text on the heap, in room for so many bytes, where 30 may lie inline
+-- a text on the heap with this capacity, and a limit of 30
 abbrev pub heap_text : List ℕ → ℕ → TextState
 heap_text t n = record (heap_only_text t n) { policy = record { demotes = true; limit = 30 } }
 
--- room asked for, € put in at 1 and taken out from two places, and room asked for again
+-- a reservation, € inserted at 1 and removed from two places, and another reservation
 abbrev pub room_commands : List Command
 room_commands = Reserve 28 ∷ Insert 1 8364 ∷ Remove 2 ∷ Remove 1 ∷ Reserve 27 ∷ []
 
--- the replies to them, where memory is refused to the first
+-- the replies to them, if the allocation of the first fails
 abbrev pub room_replies : List Reply
 room_replies = NoMemory ∷ Done ∷ BadPlace ∷ Char 8364 ∷ Done ∷ []
 

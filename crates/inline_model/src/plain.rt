@@ -17,8 +17,8 @@ pub mod text;
 use room::{PlainText, credit_after_step, is_counted, is_free, need_of, storage_after_step};
 use text::{chars_of, edit, size_of, text_after_step};
 
-/// A string as a plain text, with where it lies and so many bytes of room there, or as many as the
-/// string has where these are more.
+/// A string as a plain text, with its storage and this capacity, or the string's length if that is
+/// greater.
 pub fn plain_from(
     alloc: Global,
     string: &str,
@@ -45,8 +45,8 @@ pub fn plain_from(
     })
 }
 
-/// Whether a value that holds this string, in this storage and with so many bytes of room, is in
-/// the plain text's state, or has more room.
+/// Whether a value that holds this string, in this storage and with this capacity, is in the plain
+/// text's state, or has a greater capacity.
 pub fn agrees(
     alloc: Global,
     plain: &PlainText,
@@ -88,7 +88,7 @@ pub fn is_legal(
     Ok(answered && is_counted(plain, need_of(command), reply))
 }
 
-/// The text, where it lies and its room after a command with its reply.
+/// The text, its storage and its capacity after a command with its reply.
 pub fn state_after_step(
     alloc: Global,
     plain: &PlainText,

@@ -10,8 +10,8 @@ use inlinable_string::run::{Command, Reply};
 use inlinable_string::{Storage, StringExt};
 use std::alloc::{AllocError, Global};
 
-/// What decides where a text lies: whether shrinking brings it back from the heap, and how many
-/// bytes lie inline at most.
+/// What decides where a text is stored: whether shrinking moves it back from the heap, and the
+/// greatest number of bytes that are stored inline.
 #[derive(Clone, Copy)]
 pub struct Policy {
     pub demotes: bool,
@@ -56,7 +56,7 @@ pub fn seen_of<S: StringExt>(text: &S) -> Seen<'_>
     }
 }
 
-/// What a text behind a `dyn` shows.
+/// What a `dyn StringExt` shows.
 pub fn seen_of_dyn(text: &dyn StringExt) -> Seen<'_>
     ensures string { result.string.now ≡ bytes_of (state text.now).text }
     ensures storage { result.storage ≡ (state text.now).storage }

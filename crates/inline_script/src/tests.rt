@@ -53,7 +53,7 @@ fn wrong_after<R: Read>(
     }
 }
 
-/// Asserts what a script of the word `inline` answers and writes. `row` tells it from others.
+/// Asserts what a script of the word `inline` answers and writes. `row` names it.
 fn assert_outcome<R: Read>(
     rt: &(impl Abort + AllocGlobal),
     row: usize,

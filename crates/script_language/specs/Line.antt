@@ -50,7 +50,7 @@ word_of (Reserve n) = codes "reserve"
 word_of (ReserveExact n) = codes "reserve_exact"
 word_of ShrinkToFit = codes "shrink_to_fit"
 
--- what is written behind the word of a line, in one of seven forms
+-- what is written after the word of a line, in one of seven forms
 pub data Arguments : Type 0 where
   nothing : Arguments
   character : ℕ → Arguments

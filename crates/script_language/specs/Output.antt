@@ -23,7 +23,7 @@ abbrev pub storage_name : Storage → List ℕ
 storage_name Inline = codes "inline"
 storage_name Heap = codes "heap"
 
--- a line that says what it tells
+-- a line of a label and its value
 abbrev pub labelled_line : List ℕ → List ℕ → List ℕ
 labelled_line label value = label ++ value ++ codes "\n"
 

@@ -30,7 +30,7 @@ word_of_start start.Inline8 = codes "inline8"
 abbrev pub IsNamed : {Z : Type 0} → List (String Z) → Start → Type 0
 IsNamed words start = map string_bytes words ≡ word_of_start start ∷ []
 
--- what decides where that text lies
+-- what decides where that text is stored
 abbrev pub policy_of : Start → Policy
 policy_of start.Inline = inlinable_policy INLINE_STRING_CAPACITY
 policy_of start.String = heap_policy

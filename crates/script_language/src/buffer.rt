@@ -10,7 +10,7 @@ use std::marker::Model;
 /// The most bytes that wait to be written together.
 const MOST_WAITING: usize = 8192;
 
-/// Bytes that wait to be written, which lie in the value itself. A contract sees these bytes.
+/// Bytes that wait to be written, stored in the value itself. A contract sees these bytes.
 #[derive(Drop)]
 pub struct Buffer {
     bytes: [u8; MOST_WAITING],
@@ -39,7 +39,7 @@ impl Buffer {
         }
     }
 
-    /// Puts `bytes` behind those that wait. Where they have no room there, these are written first.
+    /// Appends `bytes` to those that wait. If they don't fit there, these are written first.
     pub fn add<W: Write>(&mut self, out: &mut W, bytes: &[u8]) -> Result<(), ScriptFault>
         ensures gathered { OnOk result (IsGathered (W.contents out.old) (W.contents out.new)
             self.old bytes.now self.new) }
@@ -59,8 +59,7 @@ impl Buffer {
         Ok(())
     }
 
-    /// Leaves room for `count` bytes behind those that wait: where it is not there, these are
-    /// written.
+    /// Leaves space for `count` bytes after those that wait: if there is none, these are written.
     #[inline]
     pub fn leave_room<W: Write>(&mut self, out: &mut W, count: usize) -> Result<(), ScriptFault>
         requires { count ≤ MOST_WAITING }
@@ -77,7 +76,7 @@ impl Buffer {
         Ok(())
     }
 
-    /// Puts `bytes` behind those that wait, which must leave room for them.
+    /// Appends `bytes` to those that wait, which must leave space for them.
     #[inline]
     pub fn put(&mut self, bytes: &[u8])
         requires { length self.old + length bytes.now ≤ MOST_WAITING }

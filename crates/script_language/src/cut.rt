@@ -8,7 +8,7 @@ use std::simd::prelude::*;
 /// How many bytes are looked at together.
 const LANES: usize = 16;
 
-/// What stands before the first mark of a text, and what stands behind it.
+/// Returns what comes before the first mark of a text, and what comes after it.
 pub fn cut_at(text: &str, mark: char) -> Option<(&str, &str)>
     requires ascii { mark < 128 }
     ensures some { IfSome result (λ parts. IsFirstCut mark text.now parts.0.now parts.1.now) }

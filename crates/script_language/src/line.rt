@@ -90,7 +90,7 @@ fn command_with<'a>(word: &str, rest: &'a str) -> Option<Command<'a>>
     }
 }
 
-/// The number that a text begins with, and what stands behind the space after it.
+/// Returns the number that a text begins with, and what follows the space after it.
 fn number_and_rest(text: &str) -> Option<(usize, &str)>
     ensures some { IfSome result (λ found. (digits : List ℕ)
         × (text.now ≡ digits ++ space ∷ found.1.now) × IsNumberText digits found.0) }

@@ -69,7 +69,7 @@ fn print_reply<W: Write>(out: &mut W, buffer: &mut Buffer, reply: Reply) -> Resu
     Ok(())
 }
 
-/// Puts the line of a reply behind the bytes that wait, which must leave room for it.
+/// Appends the line of a reply to the bytes that wait, which must leave space for it.
 #[inline(never)]
 fn put_reply(buffer: &mut Buffer, reply: Reply)
     requires { length buffer.old + LONGEST_REPLY_LINE ≤ MOST_WAITING }
@@ -86,7 +86,7 @@ fn put_reply(buffer: &mut Buffer, reply: Reply)
     }
 }
 
-/// Puts the line of a character behind the bytes that wait, which must leave room for it.
+/// Appends the line of a character to the bytes that wait, which must leave space for it.
 #[inline(never)]
 fn put_char(buffer: &mut Buffer, character: char)
     requires { length buffer.old + LONGEST_REPLY_LINE ≤ MOST_WAITING }

@@ -19,7 +19,7 @@ use inlinable_string::{
 use std::alloc::Global;
 use std::io::{Read, Write};
 
-/// Room for one byte more than lie inline.
+/// Capacity for one byte more than fit inline.
 const HEAP_ROOM: usize = INLINE_STRING_CAPACITY + 1;
 
 /// Runs the script in `input` on the text that `words` name, and prints each reply, the text,
@@ -70,7 +70,7 @@ pub fn script<R: Read, W: Write>(
     let Ok(script) = str::from_utf8(bytes.as_slice()) else {
         return Err(ScriptFault::NotUtf8);
     };
-    // A line is written for half as many bytes as it has at most: two digits stand for each.
+    // A line has two digits for each byte that it is written for.
     let mut room = vec![in alloc; 0u8; script.len() / 2]?;
     let commands = commands_of(alloc, script, room.as_mut_slice())?;
     run_from(alloc, start, commands.as_slice(), out)
@@ -110,7 +110,7 @@ fn commands_of<'a>(
     Ok(commands)
 }
 
-/// What stands before the first line feed, and what stands behind it.
+/// Returns what comes before the first line feed, and what comes after it.
 fn first_line(text: &str) -> (&str, Option<&str>)
     ensures line { lines_of text.now ≡ result.0.now ∷ lines_left result.1 }
     ensures front { take (length result.0.now) text.now ≡ result.0.now }

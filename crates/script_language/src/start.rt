@@ -8,11 +8,11 @@ use crate::fault::ScriptFault;
 /// The text that a script begins with. Each is empty.
 #[derive(Clone, Copy, Debug, PartialEq, Eq)]
 pub enum Start {
-    /// An `InlinableString`, which lies inline.
+    /// An `InlinableString` that is stored inline.
     Inline,
     /// A `String`.
     String,
-    /// An `InlinableString` that lies on the heap, with room for one byte more than lie inline.
+    /// An `InlinableString` on the heap, with capacity for one byte more than fit inline.
     Heap,
     /// An `InlinableStringN<0>`.
     Inline0,

@@ -1,4 +1,4 @@
-//! An array under the trait: text to which all memory is refused.
+//! An array under the trait: a text whose allocations all fail.
 ghost use Rattle.inlinable_string.specs.Values.{inlinable_policy};
 ghost use Rattle.inlinable_string.specs.declared.string_ext.Storage.TheVariants.{Inline};
 
@@ -84,13 +84,13 @@ impl<const N: usize> StringExt for ArrayText<N> {
     }
 
     fn capacity(&self) -> usize {
-        // Only `len` tells the laws of the value.
+        // Only `len` states the laws of the value.
         let _ = self.0.len();
         N
     }
 
     fn storage(&self) -> Storage {
-        // Only `len` tells the laws of the value.
+        // Only `len` states the laws of the value.
         let _ = self.0.len();
         Storage::Inline
     }

@@ -2,7 +2,7 @@
 ghost use Rattle.std.specs.Prelude.{◌↔◌, IsTrue};
 
 /// Whether a test has met a refusal. One request is refused at most, so a second refusal is an
-/// answer for want of memory where there was none.
+/// allocation failure where there was none.
 #[derive(Drop)]
 pub struct Refusals {
     pub has_met: bool,

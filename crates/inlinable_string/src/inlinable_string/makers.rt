@@ -16,8 +16,8 @@ use std::alloc::{AllocError, Global};
 use std::string::FromUtf8Error;
 
 impl<const N: usize> InlinableStringN<N> {
-    /// Makes a text of `string`. It is stored inline if it has at most `N` bytes; then the call does
-    /// not allocate and cannot fail.
+    /// Makes a text of `string`. It is stored inline if it has at most `N` bytes; then the call
+    /// does not allocate and cannot fail.
     #[inline]
     pub fn from(alloc: Global, string: &str) -> Result<Self, AllocError>
         ensures text { IfOk result (λ made. (inlinable_state N made).text ≡ chars string.now) }

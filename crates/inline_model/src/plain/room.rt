@@ -1,4 +1,4 @@
-//! Where a plain text lies, and for what it has room.
+//! Where a plain text is stored, and with what capacity.
 ghost use Rattle.std.specs.Prelude.{◌≡◌, ◌↔◌, IfOk, IsTrue};
 ghost use Rattle.std.specs.Str.{chars};
 ghost use Rattle.inlinable_string.specs.Text.{size};
@@ -11,29 +11,29 @@ use inlinable_string::Storage;
 use inlinable_string::run::{Command, Reply};
 use std::alloc::{AllocError, Global};
 
-/// A text as a plain list, with where it lies.
+/// A text as a plain list, with its storage.
 #[derive(Drop)]
 pub struct PlainText {
     /// Its characters.
     pub text: Vec<char>,
-    /// Where its bytes lie.
+    /// Where its bytes are stored.
     pub storage: Storage,
     /// How many bytes more have room there for certain.
     pub credit: usize,
     /// Whether shrinking brings a text back from the heap.
     pub demotes: bool,
-    /// How many bytes lie inline at most.
+    /// The greatest number of bytes that are stored inline.
     pub limit: usize,
 }
 
-/// What a command needs of the room where a text lies.
+/// What a command needs of a text's capacity.
 #[derive(Clone, Copy)]
 pub enum Need {
     /// So many bytes more at the end.
     AtEnd(usize),
     /// So many bytes more at any place.
     Anywhere(usize),
-    /// Room for so many bytes more.
+    /// Capacity for `n` more bytes.
     Reserved(usize),
     /// No more room than the text has bytes.
     Tight,
@@ -68,7 +68,7 @@ pub fn need_of(command: Command) -> Need
     }
 }
 
-/// Whether the text lies inline, and stays within the limit with so many bytes more.
+/// Whether the text is stored inline, and stays within the limit with `bytes` more.
 pub fn has_inline_room(plain: &PlainText, bytes: usize) -> bool
     ensures { IsTrue result ↔ HasInlineRoom (state_of plain.now) bytes }
 {
@@ -78,7 +78,7 @@ pub fn has_inline_room(plain: &PlainText, bytes: usize) -> bool
     }
 }
 
-/// Where the text lies once it has got room for so many bytes more.
+/// The storage of the text with capacity for `bytes` more.
 pub fn storage_with_room(plain: &PlainText, bytes: usize) -> Storage
     ensures { result ≡ storage_with_room (state_of plain.now) bytes }
 {
@@ -89,14 +89,14 @@ pub fn storage_with_room(plain: &PlainText, bytes: usize) -> Storage
     }
 }
 
-/// Whether the text may lie inline by what decides it, wherever it lies now.
+/// Whether the text may be stored inline by its policy, whatever its storage now.
 pub fn may_shrink(plain: &PlainText) -> bool
     ensures { IsTrue result ↔ IsMet (state_of plain.now) tight }
 {
     plain.demotes && size_of(&plain.text) <= plain.limit
 }
 
-/// Where the text lies once it was asked to take no more room than it needs.
+/// The storage of the text after `shrink_to_fit`.
 pub fn storage_when_shrunk(plain: &PlainText) -> Storage
     ensures { result ≡ storage_when_shrunk (state_of plain.now) }
 {
@@ -107,7 +107,7 @@ pub fn storage_when_shrunk(plain: &PlainText) -> Storage
     }
 }
 
-/// Where the text lies once a need is met.
+/// The storage of the text once a need is met.
 pub fn storage_when_met(plain: &PlainText, need: Need) -> Storage
     ensures { result ≡ storage_when_met (state_of plain.now) (need_in need) }
 {
@@ -120,7 +120,7 @@ pub fn storage_when_met(plain: &PlainText, need: Need) -> Storage
     }
 }
 
-/// Where the text lies after a command with its reply.
+/// The storage of the text after a command with its reply.
 pub fn storage_after_step(plain: &PlainText, command: Command, reply: Reply) -> Storage
     ensures { result ≡ storage_after_step (state_of plain.now) command.entry reply }
 {
@@ -177,7 +177,7 @@ pub fn asks_memory(alloc: Global, text: &[char], command: Command) -> Result<boo
     Ok(needs_room && reply == Reply::Done)
 }
 
-/// Whether the command may not be refused for want of memory.
+/// Whether the reply to the command cannot be `NoMemory`.
 pub fn is_free(alloc: Global, plain: &PlainText, command: Command) -> Result<bool, AllocError>
     ensures { IfOk result (λ free. IsTrue free ↔ IsFree (state_of plain.now) command.entry) }
 {

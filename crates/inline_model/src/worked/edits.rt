@@ -35,7 +35,7 @@ pub fn texts_left_by_outcomes()
     ensures wrong_length { (t : List ℕ) → text_left t has_wrong_length ≡ t }
 {}
 
-/// "é", truncated at 1, inside it, or at 3, past its end, is left as it was; at 2 it is kept whole.
+/// "é", truncated at 1, inside it, or at 3, past its end, is unchanged; at 2 it is kept whole.
 pub fn truncate_of_one_character()
     ensures inside { edit (233 ∷ []) (Command.Truncate 1) ≡ has_no_place }
     ensures end { edit (233 ∷ []) (Command.Truncate 2) ≡ becomes (233 ∷ []) }

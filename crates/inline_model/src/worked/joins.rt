@@ -4,7 +4,7 @@ ghost use Rattle.std.specs.Borrow.{Bor};
 ghost use Rattle.inlinable_string.specs.Joins.{text_of_chars, text_of_char_refs, text_of_strs, IsExtended, IsRefusedLast};
 ghost use Rattle.inline_model.specs.Worked.{inline_text, heap_text};
 
-/// The text of "a" and "é" as characters, behind references, and as strings; an empty string adds
+/// The text of "a" and "é" as characters, as references, and as strings; an empty string adds
 /// nothing.
 pub fn texts_of_items()
     ensures chars { text_of_chars (97 ∷ 233 ∷ []) ≡ 97 ∷ 233 ∷ [] }
@@ -14,8 +14,8 @@ pub fn texts_of_items()
         → text_of_strs (r ∷ s ∷ t ∷ []) ≡ 97 ∷ 233 ∷ [] }
 {}
 
-/// "a", of which two bytes may lie inline, stays there with "b", and goes to the heap with "é"; "b"
-/// stands behind it, and not before it.
+/// "a" with a limit of two bytes stays inline with "b", and moves to the heap with "é"; "b" comes
+/// after it, and not before it.
 pub fn text_with_one_item()
     ensures inline { IsExtended (inline_text (codes "a") 2) (codes "b")
         (inline_text (codes "ab") 2) }

@@ -60,7 +60,7 @@ pub fn reserved_bytes_stay_within()
         → ¬ StaysWithin 30 t (Command.ReserveExact 28 ∷ []) }
 {}
 
-/// Each text of a run counts, but for the one that it starts from: the second command leaves four
+/// Each text of a run counts, except the one that it starts from: the second command leaves four
 /// bytes, though the third would leave fewer.
 pub fn each_text_stays_within()
     ensures met { StaysWithin 4 [] (Command.Push 8364 ∷ Command.Push 97 ∷ Command.Pop ∷ []) }

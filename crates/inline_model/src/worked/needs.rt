@@ -1,4 +1,4 @@
-//! What commands need of the room where a text lies, and when that is met.
+//! What commands need of a text's capacity, and when that is met.
 ghost use Rattle.std.specs.Prelude.{◌≡◌, ◌∷◌, [], List, ℕ, true, false};
 ghost use Rattle.std.specs.Str.{chars};
 ghost use Rattle.inlinable_string.specs.Text.{size};
@@ -9,7 +9,7 @@ ghost use Rattle.inline_model.specs.Worked.{inline_text, heap_text, heap_only_te
 use inlinable_string::Storage;
 use inlinable_string::run::{Command, Reply};
 
-/// A growth needs as many bytes as it adds, of which € has three.
+/// A growth needs the bytes that it adds, of which € has three.
 pub fn needs_of_growths(string: &str)
     requires { size (chars string.now) ≡ 5 }
     ensures push { need_of (Command.Push 8364) ≡ at_end 3 }
@@ -46,8 +46,8 @@ pub fn commands_that_need_room_ask()
     ensures clear { (t : List ℕ) → ¬ AsksMemory t Command.Clear }
 {}
 
-/// Of 30 bytes that lie inline 26 are taken, whatever the credit: four more have room at any place,
-/// and five do not without credit.
+/// Of 30 inline bytes 26 are taken, whatever the credit: four more fit at any place, and five don't
+/// without credit.
 pub fn inline_room_meets_needs()
     ensures push { (s : TextState) → s.storage ≡ Storage.Inline → s.policy.limit ≡ 30
         → size s.text ≡ 26 → IsMet s (at_end 4) }
@@ -70,8 +70,8 @@ pub fn heap_room_meets_pushes()
     ensures reserve { (t : List ℕ) → size t ≡ 10 → ¬ IsMet (heap_text t 40) (reserved 1) }
 {}
 
-/// A text of 30 bytes is brought back where 30 may lie inline, one of 31 is not, and none is where
-/// none is ever brought back.
+/// With a limit of 30, a text of 30 bytes moves back, one of 31 does not, and none does under a
+/// policy that doesn't demote.
 pub fn inline_room_meets_shrinking()
     ensures met { (t : List ℕ) → size t ≡ 30 → IsMet (heap_text t 40) tight }
     ensures missed { (t : List ℕ) → size t ≡ 31 → ¬ IsMet (heap_text t 40) tight }
@@ -83,8 +83,8 @@ pub fn nothing_is_met()
     ensures { (s : TextState) → IsMet s no_room }
 {}
 
-/// Beside one byte as many may be reserved as a `usize` can count with it, and no more; what is not
-/// carried out, or not reserved, is not counted.
+/// With one byte, `usize::MAX - 1` more may be reserved, and no more; what does not succeed, or
+/// reserves nothing, is not counted.
 pub fn reserved_bytes_are_counted()
     ensures met { (s : TextState) → size s.text ≡ 1
         → IsCounted s (reserved 18446744073709551614) Reply.Done }
@@ -107,8 +107,8 @@ pub fn credit_once_a_need_is_met()
     ensures other { credit_when_met 100 no_room ≡ 0 }
 {}
 
-/// Of 30 bytes that lie inline 26 are taken: what is met for four more bytes stays, for five more
-/// goes to the heap; on the heap it stays there but where it is shrunk.
+/// Of 30 inline bytes 26 are taken: with four more bytes the text stays, with five more it moves to
+/// the heap; from there only shrinking moves it.
 pub fn storage_once_a_need_is_met()
     ensures push { (t : List ℕ) → size t ≡ 26
         → storage_when_met (inline_text t 30) (at_end 5) ≡ Storage.Heap }

@@ -10,8 +10,8 @@ ghost use Rattle.inline_model.specs.Worked.{inline_text, heap_text, heap_only_te
 use inlinable_string::Storage;
 use inlinable_string::run::{Command, Reply};
 
-/// Memory is refused to a reservation that would bring "aé" to the heap; then € is put in at 1, not
-/// taken out at 2, and taken out at 1, and room for as many bytes as lie inline is reserved.
+/// A reservation that would move "aé" to the heap fails; then € is inserted at 1, not removed at 2,
+/// and removed at 1, and the inline capacity is reserved.
 pub fn run_of_a_refused_promotion()
     ensures text { text_after (97 ∷ 233 ∷ []) room_commands room_replies ≡ 97 ∷ 233 ∷ [] }
     ensures storage { storage_after (inline_text (97 ∷ 233 ∷ []) 30) room_commands room_replies
@@ -21,8 +21,8 @@ pub fn run_of_a_refused_promotion()
     ensures legal { LegalReplies (inline_text (97 ∷ 233 ∷ []) 30) room_commands room_replies }
 {}
 
-/// After a step a text has room for its bytes and for the credit, and keeps its policy: after a
-/// reservation for what was reserved, after want of memory for no more.
+/// After a step a text has capacity for its bytes and for the credit, and keeps its policy: after a
+/// reservation for what was reserved, after `NoMemory` for no more.
 pub fn states_after_a_step()
     ensures reserve { (t : List ℕ)
         → state_after_step (heap_text t 40) (Command.Reserve 100) Reply.Done

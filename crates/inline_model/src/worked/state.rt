@@ -1,4 +1,4 @@
-//! What holds of every value, and where texts lie that are made, grown or shrunk.
+//! What holds of every value, and where texts are stored that are made, grown or shrunk.
 ghost use Rattle.std.specs.Prelude.{◌≡◌, ◌∷◌, [], List, ℕ, true, false};
 ghost use Rattle.std.specs.Str.{all_scalars};
 ghost use Rattle.inlinable_string.specs.Text.{size};
@@ -9,7 +9,7 @@ ghost use Rattle.inline_model.specs.Worked.{inline_text, heap_text, heap_only_te
 
 use inlinable_string::Storage;
 
-/// Where 30 bytes may lie inline, room for 30 is made there, and room for 31 on the heap.
+/// With a limit of 30 bytes, capacity for 30 is made inline, and for 31 on the heap.
 pub fn room_for_30_bytes_is_made_inline()
     ensures inline { storage_when_made (inlinable_policy 30) 30 ≡ Storage.Inline }
     ensures heap { storage_when_made (inlinable_policy 30) 31 ≡ Storage.Heap }
@@ -21,8 +21,8 @@ pub fn heap_texts_are_made_on_the_heap()
     ensures demotes { heap_policy.demotes ≡ false }
 {}
 
-/// Of 30 bytes that lie inline 26 are taken: with room for four more the text stays there, and for
-/// five more it goes to the heap; from the heap it does not come back by getting room.
+/// Of 30 inline bytes 26 are taken: with capacity for four more the text stays there, and for five
+/// more it moves to the heap; from the heap it does not move back by getting capacity.
 pub fn text_with_more_room()
     ensures inline { (t : List ℕ) → size t ≡ 26
         → storage_with_room (inline_text t 30) 4 ≡ Storage.Inline }
@@ -31,8 +31,8 @@ pub fn text_with_more_room()
     ensures heap { (t : List ℕ) → storage_with_room (heap_text t 40) 0 ≡ Storage.Heap }
 {}
 
-/// Shrinking brings 30 bytes back where 30 may lie inline, and 31 not; an inline text stays, and
-/// one of a policy that doesn't demote stays on the heap.
+/// With a limit of 30, shrinking moves 30 bytes back, and 31 not; an inline text stays, and one of
+/// a policy that doesn't demote stays on the heap.
 pub fn text_with_less_room()
     ensures back { (t : List ℕ) → size t ≡ 30
         → storage_when_shrunk (heap_text t 40) ≡ Storage.Inline }
@@ -48,8 +48,8 @@ pub fn inline_is_inline()
     ensures heap { is_inline Storage.Heap ≡ false }
 {}
 
-/// Texts up to their room are lawful, inline and on the heap, and so is room for as many bytes as a
-/// `usize` can count.
+/// Texts up to their capacity are lawful, inline and on the heap, and so is a capacity of
+/// `usize::MAX`.
 pub fn full_texts_are_lawful()
     ensures inline { (t : List ℕ) → all_scalars t ≡ true → size t ≡ 30
         → IsLawful (inline_text t 30) }
@@ -77,8 +77,8 @@ pub fn texts_past_their_room_are_unlawful()
     ensures much_room { (s : TextState) → s.capacity ≡ 18446744073709551616 → ¬ IsLawful s }
 {}
 
-/// No text lies inline in other room than the limit of its policy, or under a policy that does not
-/// demote.
+/// No text is stored inline with another capacity than the limit of its policy, or under a policy
+/// that does not demote.
 pub fn inline_texts_have_their_limit()
     ensures more { (s : TextState) → s.storage ≡ Storage.Inline → s.policy.limit ≡ 30
         → s.capacity ≡ 31 → ¬ IsLawful s }
@@ -101,8 +101,7 @@ pub fn room_for_14_bytes()
     ensures missed { (s : TextState) → s.capacity ≡ 40 → size s.text ≡ 26 → ¬ HasRoom s 15 }
 {}
 
-/// Of 30 bytes that lie inline 26 are taken: four more have room there, five have not, and on the
-/// heap none has.
+/// Of 30 inline bytes 26 are taken: four more fit there, five don't, and on the heap none does.
 pub fn inline_room_for_four_bytes()
     ensures met { (t : List ℕ) → size t ≡ 26 → HasInlineRoom (inline_text t 30) 4 }
     ensures missed { (t : List ℕ) → size t ≡ 26 → ¬ HasInlineRoom (inline_text t 30) 5 }

@@ -10,8 +10,8 @@ ghost use Rattle.inline_model.specs.Worked.{inline_text};
 use inlinable_string::{BoxableString, InlinableStringN, InlineStringN, Storage};
 use std::alloc::Global;
 
-/// A value that is `Inline` is its text, in room for as many bytes as its parameter says, which is
-/// the limit; in the type without a parameter that is 30.
+/// A value that is `Inline` is its text, with the capacity of its parameter, which is the limit; in
+/// the type without a parameter that is 30.
 pub fn inline_values(
     text: &InlineStringN<30>,
     none: &InlineStringN<0>,
@@ -26,8 +26,7 @@ pub fn inline_values(
         → boxable_state boxable.now ≡ inline_text text.now 30 }
 {}
 
-/// A value that is `Heap` is its `String`, in that one's room; it may come back to as many bytes as
-/// the parameter says.
+/// A value that is `Heap` is its `String`, with the capacity of that; its limit is the parameter.
 pub fn heap_value(string: &String, alloc: Global)
     ensures text { (inlinable_state 30 (InlinableStringN.Heap string.now alloc)).text
         ≡ chars (string_bytes string.now) }

@@ -34,7 +34,7 @@ pub fn texts_of_no_bytes()
     ensures short { ¬ (IsHexText (codes "c3a9") (195 ∷ [])) }
 {}
 
-/// A word that takes no argument, with a space behind it.
+/// A word that takes no argument, with a space after it.
 pub fn lines_with_a_space_too_many()
     ensures pop { (command : Command) → ¬ (IsLine (codes "pop ") command) }
     ensures clear { (command : Command) → ¬ (IsLine (codes "clear x") command) }

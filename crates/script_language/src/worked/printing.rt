@@ -20,7 +20,7 @@ pub fn lines_of_replies()
     ensures no_memory { reply_line Reply.NoMemory ≡ codes "no memory\n" }
 {}
 
-/// A label, what it tells, and a line feed.
+/// A label, its value, and a line feed.
 pub fn labelled_lines()
     ensures value { labelled_line (codes "text ") (codes "hi") ≡ codes "text hi\n" }
     ensures empty { labelled_line (codes "text ") [] ≡ codes "text \n" }
@@ -64,7 +64,7 @@ pub fn lines_of_a_run()
         ≡ codes "text \nlength 0\nstorage heap\n" }
 {}
 
-/// Of "done", a part, all or nothing may be written behind what stands there, and nothing else.
+/// Of "done", a part, all or nothing may be written after what is there, and nothing else.
 pub fn fronts_of_a_line()
     ensures part { WritesFront (Some (codes "x")) (Some (codes "xdo")) (codes "done") }
     ensures all { WritesFront (Some []) (Some (codes "done")) (codes "done") }

@@ -40,7 +40,7 @@ pub fn words_that_name_nothing(words: &[String])
         → ¬ (IsNamed words.now start) }
 {}
 
-/// How many bytes lie inline at most, and whether shrinking brings a text back.
+/// The greatest number of bytes that are stored inline, and whether shrinking moves a text back.
 pub fn policies_of_starts()
     ensures inline { policy_of Start.Inline ≡ record { demotes = true; limit = 30 } }
     ensures string { (policy_of Start.String).demotes ≡ false }
@@ -63,7 +63,7 @@ pub fn starts_are_empty()
     ensures { (start : Start) (s : TextState) → IsMade start s → s.text ≡ [] }
 {}
 
-/// Where each start lies.
+/// The storage of each start.
 pub fn storages_of_starts()
     ensures inline { (s : TextState) → IsMade Start.Inline s → s.storage ≡ Storage.Inline }
     ensures string { (s : TextState) → IsMade Start.String s → s.storage ≡ Storage.Heap }
