@@ -65,7 +65,7 @@ pub split_last-append : (v : List ℕ) (c : ℕ) → split_last (v ++ c ∷ []) 
 split_last-append [] c = refl
 split_last-append (d ∷ v) c = rw (split_last-append v c)
 
--- what a test that fails tells
+-- what a test that fails shows
 pub not_from_test : {P : Type 0} (b : Bool) → (IsTrue b ↔ P) → b ≡ false → ¬ P
 not_from_test b test failed at = let passed : b ≡ true = test.1 at in cc
 

@@ -16,12 +16,12 @@ cut_elsewhere t p = (λ none at. let some = cut_is t p at.0 at.1 at.2 in cc, no_
 
 -- outcomes
 
--- no outcome is want of memory
+-- no outcome is `NoMemory`
 pub never_refused : (o : Outcome) → reply_of o ≢ NoMemory
 never_refused (becomes v) h = cc
 never_refused o h = cc
 
--- the text after a reply other than want of memory
+-- the text after a reply other than `NoMemory`
 pub text_granted : (t : List ℕ) (command : Command) (reply : Reply) → reply ≢ NoMemory
     → text_after_step t command reply ≡ text_left t (edit t command)
 text_granted t command NoMemory h = absurd (h refl)

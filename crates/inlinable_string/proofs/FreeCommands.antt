@@ -8,7 +8,7 @@ pub granted : (s : TextState) (command : Command) (reply : Reply) → IsLegal s 
 granted s command reply legal free =
     elim legal.answer [ inl same ↦ same | inr refused ↦ absurd (refused.1 free) ]
 
--- which is no want of memory
+-- which is not `NoMemory`
 pub not_refused : (t : List ℕ) (command : Command) (reply : Reply)
     → reply ≡ reply_of (edit t command) → reply ≢ NoMemory
 not_refused t command reply same refusal = never_refused (edit t command) (sym same ∙ refusal)

@@ -26,7 +26,7 @@ same_replies s t (c ∷ commands) (r ∷ replies) (o ∷ others) text a b marks 
     ap (λ x. x ∷ replies) here ∙ ap (λ l. o ∷ l) there
 same_replies s t commands replies others text a b marks = absurd a
 
--- where a text lies after a step has nothing to do with its capacity
+-- the storage after a step does not depend on the capacity
 pub same_storage_step : (s t : TextState) (command : Command) (reply : Reply) → s.text ≡ t.text
     → s.storage ≡ t.storage → s.policy ≡ t.policy
     → storage_after_step s command reply ≡ storage_after_step t command reply

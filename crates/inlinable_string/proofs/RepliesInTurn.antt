@@ -1,7 +1,7 @@
 -- A run, read one reply at a time, and many runs, read one text at a time.
 use Rattle.inlinable_string.proofs.Common.{common_steps, ◌≡◌, ℕ, zero, suc, ◌+◌, ◌*◌, ◌<◌, List, [], ◌∷◌, length, take, drop, refl, ap, ◌∙◌, arith, subst, Some, slice_get, rules, drop-drop, TextState, IsLegal, LegalReplies, IsRun, EachRun, state_after, state_after_step, Command, Reply}
 
--- there are as many legal replies as commands
+-- legal replies have the length of the commands
 pub as_many_replies : (s : TextState) (commands : List Command) (replies : List Reply)
     → LegalReplies s commands replies → length replies ≡ length commands
 as_many_replies s [] [] h = refl

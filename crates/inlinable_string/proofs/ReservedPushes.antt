@@ -10,7 +10,7 @@ push_done t (Push c) n h = refl
 push_done t (PushStr u) n h = refl
 push_done t command n h = cc
 
--- pushes within the credit are not refused memory, and have the rest of it left
+-- pushes within the credit cannot fail, and leave the rest of it
 pushes_within_credit : (s : TextState) (k : ℕ) (commands : List Command) (replies : List Reply)
     → PushesWithin k commands → k ≤ credit s
     → LegalReplies s commands replies → ¬ Contains replies NoMemory
@@ -34,7 +34,7 @@ pub pushes_from_start : (s : TextState) (k : ℕ) (commands : List Command) (rep
     → LegalReplies s commands replies → ¬ Contains replies NoMemory
 pushes_from_start s k commands replies within room legal = search (rules, pushes_within_credit)
 
--- behind a command that leaves as much credit
+-- after a command that leaves that credit
 module _ (k : ℕ) (reserve : Command)
     (leaves : (s : TextState) → k ≤ credit (state_after_step s reserve Done)) where
   pub pushes_behind : (s : TextState) (commands : List Command) (replies : List Reply)

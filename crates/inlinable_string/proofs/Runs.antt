@@ -38,7 +38,7 @@ fits_in : (s : TextState) (cs : List Command) (rs : List Reply) → size s.text 
 fits_in s (x ∷ cs) (y ∷ rs) h = fits_in (state_after_step s x y) cs rs (omega arith)
 fits_in s cs rs h = h
 
--- a value is in the state that it covers, but for its capacity
+-- a value is in the state that it covers, except for its capacity
 covered : (s value : TextState) → Covers s value → record value { capacity = s.capacity } ≡ s
 covered s value h = rw (h.text, h.storage, h.policy) refl
 

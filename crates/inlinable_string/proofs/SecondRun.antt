@@ -39,7 +39,7 @@ all_legal_poorer s v (c ∷ commands) (r ∷ replies) h legal = (
 )
 all_legal_poorer s v commands replies h legal = absurd legal
 
--- what a run leaves is what its replies determine, with as much credit at least
+-- what a run leaves is what its replies determine, with at least that credit
 run_richer : (old new : TextState) (commands : List Command) (replies : List Reply)
     → IsRun old commands replies new → IsRicher (state_after old commands replies) new
 run_richer old new commands replies run = record {

@@ -17,7 +17,7 @@ answered : (old new : TextState) (command : Command) (reply : Reply) → IsLawfu
 answered old new command reply laws answer text storage counted none policy =
     grind (arith, common_steps)
 
--- a command that memory was refused to
+-- a command whose allocation failed
 refused : (old new : TextState) (command : Command) → IsLawful new → IsSameText old new
     → AsksMemory old.text command
     → ((n : ℕ) → size old.text ≤ n → n ≤ old.capacity

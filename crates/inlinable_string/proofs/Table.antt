@@ -3,19 +3,19 @@ use Rattle.inlinable_string.proofs.Common.{common_steps, ◌≡◌, ◌⊎◌, i
 use Rattle.std.specs.Int.{is_in_range}
 use Rattle.std.proofs.str.Laws.{Shape, of1, of2, of3, of4, shape, Follows, two, three, four}
 
--- from where to where the table lets the byte behind a go
+-- the range that the table gives the byte after a
 abbrev least : ℕ → ℕ
 least a = if a == 0xE0 then 0xA0 else (if a == 0xF0 then 0x90 else 0x80)
 
 abbrev most : ℕ → ℕ
 most a = if a == 0xED then 0x9F else (if a == 0xF4 then 0x8F else 0xBF)
 
--- the bytes behind these two have one range
+-- the bytes after these two have one range
 abbrev later : ℕ → List (ℕ × ℕ)
 later zero = []
 later (suc k) = (0x80, 0xBF) ∷ later k
 
--- what is said of each row: k bytes follow the second
+-- what each row states: k bytes follow the second
 abbrev IsRow : ℕ → ℕ → Type 0
 IsRow a k = following a ≡ (least a, most a) ∷ later k
 
@@ -78,7 +78,7 @@ pub table_fits : (c : ℕ) (rest : List ℕ) → IsScalar c
     → subpart_len (encode_utf8 c ++ rest) ≡ length (encode_utf8 c)
 table_fits c rest s = fits c rest s (shape c (scalar_cases c s))
 
--- what is in the ranges is told by the front
+-- a prefix decides what is in the ranges
 in_front : (n : ℕ) (ranges : List (ℕ × ℕ)) (xs ys : List ℕ) → take n xs ≡ take n ys
     → n ≤ count_in ranges ys → n ≤ count_in ranges xs
 in_front zero ranges xs ys same h = omega arith
@@ -125,13 +125,13 @@ BeginsCode bs = (c : ℕ) × (rest : List ℕ) × IsScalar c × (encode_utf8 c �
 pub is_scalar : (c : ℕ) → (c < 55296) ⊎ ((57344 ≤ c) × (c < 1114112)) → IsScalar c
 is_scalar c h = grind (arith, common_steps)
 
--- the k bytes that a row wants behind the second
+-- the k bytes that a row wants after the second
 abbrev IsLater : ℕ → List ℕ → Type 0
 IsLater zero ds = ds ≡ []
 IsLater (suc k) [] = ⊥
 IsLater (suc k) (d ∷ ds) = (128 ≤ d) × (d ≤ 191) × IsLater k ds
 
--- with these behind it each second byte in the range makes a code
+-- with these after it each second byte in the range makes a code
 abbrev HasCodes : ℕ → ℕ → ℕ → Type 0
 HasCodes a b k = (ds : List ℕ) → IsLater k ds → BeginsCode (a ∷ b ∷ ds)
 

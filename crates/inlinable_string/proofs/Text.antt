@@ -116,7 +116,7 @@ pub kept : {T E : Type 0} (r : Result T E) (t v : List ℕ) (p : ℕ)
 kept (Ok x) t v p ok err = (rw (chars-nil, append-nil) at ok.joined) ∙ sym ok.cut.joined
 kept (Err x) t v p ok err = err
 
--- bytes written in the place of all others
+-- bytes that overwrite all others
 pub replaced : {T E : Type 0} (r : Result T E) (s new : List ℕ) → IsUtf8 s
     → new ≡ (if is_ok r then [] ++ s else []) → IsOk r → bytes_of (chars new) ≡ s
 replaced (Ok x) s new u e h = rw e (encodes-chars s u)

@@ -1,4 +1,4 @@
--- Runs in which no memory is refused: their replies and their text are those of plain edits.
+-- Runs in which no allocation fails: their replies and their text are those of plain edits.
 use Rattle.inlinable_string.proofs.Common.{common_steps, ◌≡◌, ◌≢◌, ◌↔◌, ℕ, zero, suc, ◌<◌, ◌^◌, inl, true, List, [], ◌∷◌, take, refl, sym, ap, ◌∙◌, arith, subst, Contains, Some, slice_get, rules, TextState, IsLawful, edit, reply_of, text_left, text_after_step, text_after, Need, reserved, need_of, state_after_step, IsCounted, IsLegal, LegalReplies, replies_of, text_after_edits, ReservesWithin, LeavesWithin, StaysWithin, Inline, Command, Reply, Done, NoMemory}
 use Rattle.inlinable_string.proofs.Edits.{never_refused, text_granted}
 use Rattle.inlinable_string.proofs.ShortRuns.{short_step, short_run_never_asks}

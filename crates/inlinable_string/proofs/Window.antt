@@ -29,7 +29,7 @@ ascii_held c s a =
     char_held (rw same at (IsUtf8-encode c s)) (sym same)
 
 module _ {t w : List ℕ} {l : ℕ} (h : Holds t w l) where
-  -- the text u put behind
+  -- the text u appended
   pub pushed : {u s v : List ℕ} {m : ℕ} → Holds u s m → v ≡ w ++ s
       → ∥ IsUtf8 v ∥₁ × (chars v ≡ t ++ u)
   pushed {s = s} a e = (
@@ -76,13 +76,13 @@ pub inserted_last : (w s : List ℕ) (l : ℕ) → length w ≡ l → insert_sli
 inserted_last w s l e =
     rw (take_all l w (omega (arith, e)), drop_all l w (omega (arith, e)), append-nil) refl
 
--- one byte written behind l bytes from s on
+-- one byte written after l bytes from s on
 pub written_behind : (bs : List ℕ) (s l c : ℕ) → s + l < length bs
     → take (l + 1) (drop s (set bs (s + l) c)) ≡ take l (drop s bs) ++ c ∷ []
 written_behind bs s l c h =
     rw drop-set-add (take_more_set (drop s bs) l c (omega (arith, h, length-drop s bs)))
 
--- bytes written behind them
+-- bytes written after them
 extended : (old new u : List ℕ) (s l m : ℕ) → s + l ≡ m → m ≤ length old
     → take (m + length u) new ≡ take m old ++ u
     → take (l + length u) (drop s new) ≡ take l (drop s old) ++ u
@@ -93,7 +93,7 @@ extended old new u s l m sum h e =
     ∙ ap (drop s) e ∙ drop-append-le s (take m old) u short
     ∙ ap (λ x. x ++ u) (ap (λ k. drop s (take k old)) (sym sum) ∙ drop-take s l old)
 
--- bytes written behind the window of an array
+-- bytes written after the window of an array
 pub window_extended : {N : ℕ} (s : Inside N) → s.start + s.len ≤ length s.bytes
     → (u new : List ℕ)
     → take (s.start + s.len + length u) new ≡ take (s.start + s.len) s.bytes ++ u

@@ -3,7 +3,7 @@ use Rattle.std.proofs.Common.{◌≡◌, ℕ, ◌+◌, ◌<◌, List, length, ta
 use Rattle.inlinable_string.specs.Text.{size, cut}
 use Rattle.inlinable_string.proofs.Cut.{cut_is, no_cut}
 
--- a place after so many characters cuts the text there
+-- a place after n characters cuts the text there
 pub cut_after : (t : List ℕ) (p k : ℕ) → size (take k t) ≡ p → cut t p ≡ Some (take k t, drop k t)
 cut_after t p k h =
     cut_is t p _ _ (record { joined = sym (take-append-drop k t); before = h })

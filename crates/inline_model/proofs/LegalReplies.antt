@@ -1,4 +1,4 @@
--- Replies that are legal: that of `edit`, and want of memory where room is needed and is not there.
+-- Replies that are legal: that of `edit`, and `NoMemory` if capacity is needed and lacking.
 use Rattle.std.proofs.Common.{◌≡◌, ℕ, refl, inl, inr}
 use Rattle.inlinable_string.specs.State.{TextState, HasInlineRoom}
 use Rattle.inlinable_string.specs.Edit.{reply_of, edit}
@@ -12,7 +12,7 @@ pub answered : (s : TextState) (c : Command) (r : Reply) → r ≡ reply_of (edi
     → IsCounted s (need_of c) r → IsLegal s c r
 answered s c r h k = record { answer = inl h; counted = k }
 
--- and to a reservation of more than lies inline
+-- and to a reservation of more than fits inline
 pub reserve_refused : (s : TextState) (n : ℕ) → (HasInlineRoom s n → ⊥)
     → IsLegal s (Reserve n) NoMemory
 reserve_refused s n inline = record {

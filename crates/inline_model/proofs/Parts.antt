@@ -21,7 +21,7 @@ not_past (x ∷ []) b h =
     omega (arith, two)
 not_past (x ∷ y ∷ a) b h = cc
 
--- what is put into "é" at 2 stands behind it
+-- what is inserted into "é" at 2 comes after it
 behind : (u v front back : List ℕ) (c : ℕ) → IsCut (233 ∷ []) 2 front back
     → c ∷ v ≡ front ++ u ++ back → c ≡ 233
 behind u v [] back c cut joined = absurd (omega (arith, cut.before))

@@ -26,7 +26,7 @@ need_in (Reserved n) = reserved n
 need_in Tight = tight
 need_in NoRoom = no_room
 
--- what a text shows is what a state says, with as much room or more
+-- what a text shows is what a state says, with at least its capacity
 abbrev pub IsSeenAs : Seen → TextState → Type 0
 IsSeenAs seen s = (chars seen.string.now ≡ s.text) × (seen.storage ≡ s.storage)
     × (s.capacity ≤ seen.capacity)

@@ -1,7 +1,7 @@
 -- A line that is edited, as its user sees it.
 use Rattle.std.specs.Prelude.{ℕ, List, [], ◌++◌, Option, Some, None}
 
--- the characters before the cursor and those behind it: so the cursor is between characters
+-- the characters before the cursor and those after it: so the cursor is between characters
 pub record Parts : Type 0 where
   pub before : List ℕ
   pub behind : List ℕ

@@ -12,8 +12,8 @@ use inlinable_string::laws::{
 use inlinable_string::run::Command;
 use std::marker::Model;
 
-/// What a key does to the text of a line, a command does at the cursor: so a list of keys is one of
-/// commands, and what `run` says of these is said of the line.
+/// A key that edits does to the line what a command does at the cursor: so a list of keys is a list
+/// of commands, and the contract of `run` holds of the line.
 pub fn keys_are_commands()
     ensures type_char { (before behind : List ℕ) (ch : ℕ)
         → edit (before ++ behind) (Command.Insert (size before) ch)
@@ -31,7 +31,7 @@ pub fn keys_are_commands()
 }
 
 /// A line of at most `N` bytes, and a cursor in it. A contract sees the characters before the
-/// cursor and those behind it, so that a cursor inside a character can't be said.
+/// cursor and those after it, so no cursor is inside a character.
 #[derive(Drop)]
 pub struct Line<const N: usize> {
     text: InlineStringN<N>,
@@ -51,7 +51,7 @@ impl<const N: usize> Model for Line<N> {
 }
 
 impl<const N: usize> Line<N> {
-    /// The empty line.
+    /// Returns the empty line.
     pub fn new() -> Self
         ensures before { result.before ≡ [] }
         ensures behind { result.behind ≡ [] }
@@ -62,7 +62,7 @@ impl<const N: usize> Line<N> {
         }
     }
 
-    /// What stands in the line.
+    /// Returns the text of the line.
     pub fn text(&self) -> &str
         ensures { result.now ≡ bytes_of (text_of self.now) }
     {
@@ -70,7 +70,8 @@ impl<const N: usize> Line<N> {
         self.text.as_str()
     }
 
-    /// Types a character before the cursor; false where the line is full, and then it is as it was.
+    /// Inserts a character before the cursor. Returns false if the line is full, and then it is
+    /// unchanged.
     pub fn type_char(&mut self, ch: char) -> bool
         ensures before { IsTrue result → self.new.before ≡ self.old.before ++ ch ∷ [] }
         ensures behind { self.new.behind ≡ self.old.behind }
@@ -90,7 +91,7 @@ impl<const N: usize> Line<N> {
         }
     }
 
-    /// Takes out the character behind the cursor, and gives it.
+    /// Removes and returns the character after the cursor.
     pub fn delete(&mut self) -> Option<char>
         ensures taken { MatchOption result
             ((self.old.behind ≡ []) × (self.new.behind ≡ []))
@@ -108,7 +109,7 @@ impl<const N: usize> Line<N> {
         }
     }
 
-    /// Takes out the character before the cursor, and gives it.
+    /// Removes and returns the character before the cursor.
     pub fn backspace(&mut self) -> Option<char>
         ensures taken { MatchOption result
             ((self.old.before ≡ []) × (self.new.before ≡ []))
@@ -119,8 +120,7 @@ impl<const N: usize> Line<N> {
         self.delete()
     }
 
-    /// Moves the cursor before the character that stands before it, and gives that; `None` at the
-    /// start.
+    /// Moves the cursor to the left of one character, and returns that; `None` at the start.
     pub fn left(&mut self) -> Option<char>
         ensures passed { MatchOption result
             ((self.old.before ≡ []) × (self.new.before ≡ []))
@@ -141,8 +141,7 @@ impl<const N: usize> Line<N> {
         Some(passed)
     }
 
-    /// Moves the cursor behind the character that stands behind it, and gives that; `None` at the
-    /// end.
+    /// Moves the cursor to the right of one character, and returns that; `None` at the end.
     pub fn right(&mut self) -> Option<char>
         ensures passed { MatchOption result
             ((self.old.behind ≡ []) × (self.new.behind ≡ []))
@@ -163,7 +162,7 @@ impl<const N: usize> Line<N> {
         Some(passed)
     }
 
-    /// Takes out all behind the cursor.
+    /// Removes all characters after the cursor.
     pub fn kill_to_end(&mut self)
         ensures before { self.new.before ≡ self.old.before }
         ensures behind { self.new.behind ≡ [] }

@@ -1,5 +1,5 @@
-//! Users of `inlinable_string`, each a small module to keep: what it promises is said in the words
-//! of its own users, and proved from the library's public contracts.
+//! Users of `inlinable_string`, each a small module to keep: its contracts are in the words of its
+//! own users, and proved from the library's public contracts.
 #![tactic(auto)]
 
 pub mod editor;

@@ -1,4 +1,4 @@
-//! Texts in the place of a `str`, and of a slice of bytes.
+//! Texts as a `str`, and as a slice of bytes.
 use crate::ways::{array_texts, inlinable_texts};
 use inlinable_string::InlineString;
 use std::convert::{AsSlice, AsStr};

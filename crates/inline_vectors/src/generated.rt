@@ -64,10 +64,10 @@ const TEXTS: &[&str] = &[
 /// Limits that a reservation or a text is drawn for.
 const LIMITS: &[usize] = &[0, 8, 30];
 
-/// Texts are made by `new`, or for so many bytes.
+/// Texts are made by `new`, or with a capacity.
 const CAPACITIES: &[Option<usize>] = &[None, None, None, Some(8), Some(31), Some(40)];
 
-/// Bytes to be put in the place of others are parts of these: one byte a character, and several.
+/// Bytes to overwrite others are parts of these: one byte a character, and several.
 const NARROW: &str = "The quick brown fox jumps over the lazy dog, and the dog sleeps on and on.";
 
 const WIDE: &str = "éaé€é𝄞a€aéééaaa𝄞𝄞€a€éa€€aé𝄞éaé€é𝄞a€aéééaaa𝄞𝄞€a€éa€€aé𝄞";
@@ -126,7 +126,7 @@ impl Draws {
         }
     }
 
-    /// Two of three times as many bytes as the text has, well-formed or not.
+    /// Two of three times bytes of the text's length, well-formed or not.
     fn bytes(&mut self, text: &[char]) -> &'static [u8] {
         let size = size_of(text);
         let count = if self.mostly() {
@@ -334,7 +334,7 @@ struct Counts {
 }
 
 impl Counts {
-    /// Adds a list that so many texts were given.
+    /// Adds a list that `texts` were given.
     fn add(&mut self, texts: usize, list: &List, end: Storage) {
         self.texts = self.texts.saturating_add(texts);
         if end == Storage::Heap {

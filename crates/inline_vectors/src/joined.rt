@@ -226,7 +226,7 @@ fn items_are_added_up_to_the_one_that_is_refused(rt: HostRuntime) {
     );
 }
 
-/// Whether an array takes the one item of a row that is written, and else stays as it was.
+/// Whether an array takes the one item of a row that is written, and else is unchanged.
 fn is_written(rt: &impl Abort, by_format: bool, &(_, start, items, whole, _, _): &JoinRow) -> bool {
     let made: Result<InlineString, NotEnoughSpaceError> = start.parse();
     let mut text = made.expect(rt, "at most 30 bytes");

@@ -148,7 +148,7 @@ fn give_by_calls<S: StringExt>(text: &mut S, commands: &[Command], replies: &mut
     }
 }
 
-/// A text that is given commands behind a `dyn`. The borrow checker makes a `dyn` of a type without
+/// A text that gets commands through a `dyn`. The borrow checker makes a `dyn` of a type without
 /// parameters alone.
 #[derive(Drop)]
 pub enum DynText {

@@ -69,7 +69,7 @@ pub fn grants(memory: Memory, size: usize) -> bool {
     }
 }
 
-/// Whether this text was made, or none where memory is refused.
+/// Whether this text was made, or none if the allocation failed.
 pub fn is_made<S: StringExt + Drop>(
     made: Result<S, AllocError>,
     content: &str,
@@ -120,7 +120,7 @@ fn is_whole<S: StringMake + Drop>(text: S, content: &str) -> bool {
     is_lying(&text, content, Heap) && gives_bytes(text, content, true)
 }
 
-/// Whether the text gives its bytes, or is handed back where memory is refused.
+/// Whether the text gives its bytes, or is returned if the allocation failed.
 fn gives_bytes<S: StringMake + Drop>(text: S, content: &str, is_granted: bool) -> bool {
     let storage = text.storage();
     match text.into_bytes() {

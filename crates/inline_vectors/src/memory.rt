@@ -1,4 +1,4 @@
-//! Rows while every request for memory is refused, or one alone is granted: a test holds all memory
+//! Rows while every allocation fails, or all but one: a test holds all memory
 //! that can be had, gives its commands, gives the memory back, and then asserts.
 use crate::held::Memory::{self, Held, OneBlock};
 use crate::held::all_memory;

@@ -291,7 +291,7 @@ fn play_made(rt: &impl Abort, alloc: Global, made: Made, way: Way, row: Row) -> 
     }
 }
 
-/// The same behind a `dyn`, where the type has one.
+/// The same through a `dyn`, if the type has one.
 fn play_made_dyn(rt: &impl Abort, alloc: Global, made: Made, way: Way, row: Row) -> RowTally {
     match DynText::empty(rt, alloc, made) {
         Some(text) => play_row(rt, alloc, text, made, way, row),

@@ -1,4 +1,4 @@
-//! Which bytes take the place of a text's: as many as it has, and UTF-8.
+//! Which bytes may overwrite a text: those of its length that are UTF-8.
 use crate::player::{Tally, ample, assert_right, play, within};
 use crate::steps::Where::AsMade;
 use crate::texts::whole_of;

@@ -45,7 +45,7 @@ bad_among ((b ∷ first) ∷ before) behind line [] bytes rejected asked = asked
 bad_among ((b ∷ first) ∷ before) behind line (command ∷ commands) bytes rejected asked =
     bad_among before behind line commands bytes rejected asked.1
 
--- a bad line behind lines that ask for commands is the first, by its number
+-- a bad line after lines that ask for commands is the first, by its number
 pub first_bad : (before : List (List ℕ)) (commands : List Command) (behind : List (List ℕ))
     (line : List ℕ) → LinesAskFor before commands → ¬ (line ≡ [])
     → ((command : Command) → ¬ (IsLine line command))

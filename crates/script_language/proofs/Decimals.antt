@@ -3,7 +3,7 @@ use Rattle.std.proofs.Common.{◌≡◌, ap, sym, ◌∙◌, ℕ, ◌+◌, ◌-�
 use Rattle.std.proofs.lemmas.Fmt.{decimal_digit, decimal_nonempty, decimal_step, length-decimal-le}
 use Rattle.std.proofs.lemmas.List.{append-nil, drop-set, drop_all, take_rest}
 
--- the digits of the rest, up to this place, and those behind it are the number's
+-- the digits of the rest, up to this place, and those after it are the number's
 pub record AreDigitsFrom (room : List ℕ) (number rest place : ℕ) : Type 0 where
   pub within : place < length room
   pub fit : length (decimal rest) ≤ place + 1

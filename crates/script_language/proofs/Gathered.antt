@@ -1,4 +1,4 @@
--- What waits to be written behind what was.
+-- What waits to be written after what was.
 use Rattle.std.proofs.Common.{◌≡◌, ℕ, List, [], ◌++◌, sym, ap, subst, ◌∙◌, append_assoc, append-nil, Option}
 use Rattle.std.specs.Io.KnownBytes.{Appends}
 use Rattle.std.proofs.KnownBytes.{Appends-nil, Appends-trans}
@@ -27,13 +27,13 @@ gathered_is {w = w} g e = record {
   written = g.written;
 }
 
--- the start of what was gathered, and what follows behind
+-- the start of what was gathered, and what follows
 regroup : (w bytes more front x : List ℕ) → w ++ bytes ≡ front ++ x
     → w ++ (bytes ++ more) ≡ front ++ (x ++ more)
 regroup w bytes more front x split =
     sym (append_assoc w bytes more) ∙ ap (λ l. l ++ more) split ∙ append_assoc front x more
 
--- more bytes behind those
+-- more bytes after those
 pub gathered_more : {a b c : Option (List ℕ)} {w bytes x more y : List ℕ}
     → IsGathered a b w bytes x → IsGathered b c x more y → IsGathered a c w (bytes ++ more) y
 gathered_more {a} {b} {c} {w} {bytes} {x} {more} {y} g h = record {
@@ -44,7 +44,7 @@ gathered_more {a} {b} {c} {w} {bytes} {x} {more} {y} g h = record {
   written = Appends-trans a b c g.front h.front g.written h.written;
 }
 
--- a front of more bytes behind those
+-- a prefix of more bytes after those
 pub front_after_gathered : {a b c : Option (List ℕ)} {w bytes x : List ℕ} (more : List ℕ)
     → IsGathered a b w bytes x → WritesFront b c (x ++ more)
     → WritesFront a c (w ++ (bytes ++ more))

@@ -1,4 +1,4 @@
--- Lines, their words and what stands behind them.
+-- Lines, their words and what follows them.
 use Rattle.std.proofs.Common.{◌≡◌, sym, ap, subst, ◌∙◌, ℕ, List, [], ◌∷◌, ◌++◌, ◌⊎◌, inl, inr}
 use Rattle.std.specs.Str.Iter.{LacksByte}
 use Rattle.std.proofs.lemmas.List.{append-nil}
@@ -34,7 +34,7 @@ line_of_word line command lacks (tail, is, ends) = by (tail_forms (arguments_of 
         ∙ ap (λ l. word_of command ++ l) some in
         absurd (has_mark space (word_of command) rest (subst (LacksByte space) whole lacks))
 
--- a line with a space is the word, the space and what stands behind it
+-- a line with a space is the word, the space and what follows it
 pub line_with_word : (line word rest : List ℕ) (command : Command)
     → IsFirstCut space line word rest → IsLine line command
     → (word ≡ word_of command) × IsTail (arguments_of command) (space ∷ rest)

@@ -18,7 +18,7 @@ one_char bs c d char other =
     let utf8 : IsUtf8 bs = subst IsUtf8 (sym char.encoded) (IsUtf8-encode c char.scalar) in
     sym (chars_one c bs utf8 char.encoded) ∙ chars_one d bs utf8 other.encoded
 
--- as many digits are written for as many bytes, and for these bytes
+-- digits of the same number are written for the same number of bytes, and for these bytes
 one_hex_text : (digits bs cs : List ℕ) → IsHexText digits bs → IsHexText digits cs → bs ≡ cs
 one_hex_text digits bs cs written other =
     let same : length bs ≡ length cs = omega (arith, written.pairs, other.pairs) in
@@ -69,7 +69,7 @@ same_arguments tail (bytes bs) (bytes cs) is (digits, at, written) (digits', at'
     ap bytes (one_hex_text digits' bs cs (subst (λ d. IsHexText d bs) same written) written')
 same_arguments tail one other is ends too = cc
 
--- two commands with one word and one tail behind it have the same arguments
+-- two commands with one word and one tail after it have the same arguments
 same_command : (tail : List ℕ) (one other : Command) → word_of one ≡ word_of other
     → IsTail (arguments_of one) tail → IsTail (arguments_of other) tail
     → arguments_of one ≡ arguments_of other

@@ -1,4 +1,4 @@
--- What is printed of a script is known, but for where memory is refused.
+-- What is printed of a script is determined, except by where allocations fail.
 use Rattle.std.proofs.Common.{◌≡◌, refl, sym, ap, subst, ◌∙◌, ℕ, List, codes, map, if◌then◌else◌}
 use Rattle.std.specs.Str.{bytes_eq}
 use Rattle.std.specs.declared.string.String.{String}

@@ -8,7 +8,7 @@ use Rattle.inlinable_string.specs.declared.run.Reply.{Reply}
 use Rattle.inlinable_string.specs.declared.run.Reply.TheVariants.{Done}
 use Rattle.script_language.specs.Output.{labelled_line, reply_line, state_lines, storage_name}
 
--- the line of the reply at i stands behind those before it
+-- the line of the reply at i follows those before it
 line_at : (rs : List Reply) (i : ℕ) → i < length rs
     → flat_map reply_line rs ≡ (flat_map reply_line (take i rs)
     ++ reply_line (get_or rs i Done)) ++ flat_map reply_line (drop (suc i) rs)

@@ -13,7 +13,7 @@ use Rattle.script_language.proofs.Cuts.{has_mark, lacks-from_position}
 use Rattle.script_language.proofs.Lines.{line_of_word, line_with_word}
 use Rattle.script_language.proofs.Words.{form, form_behind, form_of_word}
 
--- what arguments of a word's form don't say behind it, no line asks for
+-- what arguments of a word's form don't allow after it is in no line
 pub refused : (line word rest : List ℕ) → line ≡ word ++ space ∷ rest
     → position_or_len (λ b. b == space) word ≡ length word
     → ((args : Arguments) → form args ≡ form_behind word → ¬ (IsTail args (space ∷ rest)))

@@ -1,4 +1,4 @@
--- The command of each word, and which form of arguments stands behind it.
+-- The command of each word, and which form of arguments follows it.
 use Rattle.std.proofs.Common.{◌≡◌, refl, sym, ap, ◌∙◌, ℕ, List, [], codes, if◌then◌else◌}
 use Rattle.std.specs.Borrow.{Bor}
 use Rattle.std.specs.Str.{bytes_eq}
@@ -56,7 +56,7 @@ plain_of word args =
     if bytes_eq word (codes "reserve_exact") then make.ReserveExact (number_in args) else
     make.ShrinkToFit
 
--- the form that stands behind a word
+-- the form that follows a word
 abbrev pub form_behind : List ℕ → Arguments
 form_behind word = form (arguments_of (plain_of word nothing))
 
@@ -64,7 +64,7 @@ form_is : (command : Command) → form (arguments_of command) ≡ form_behind (w
 form_is make.Pop = refl
 form_is command = refl
 
--- a command has the form that stands behind its word
+-- a command has the form that follows its word
 pub form_of_word : (word : List ℕ) (command : Command) → word ≡ word_of command
     → form (arguments_of command) ≡ form_behind word
 form_of_word word command is = form_is command ∙ ap form_behind (sym is)

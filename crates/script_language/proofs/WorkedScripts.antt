@@ -13,7 +13,7 @@ use Rattle.script_language.specs.declared.start.Start.{Start}
 use Rattle.script_language.proofs.PlainCommands.{plain, plain_asked, plain_legal}
 use Rattle.script_language.proofs.Outputs.{one_start, printed_plain}
 
--- the text that a script begins with, in room for so many bytes
+-- the text that a script begins with, with this capacity
 abbrev pub made : Start → ℕ → TextState
 made start room = record {
   text = [];
@@ -67,7 +67,7 @@ pub answered_free : (s : TextState) (command : Command) (reply : Reply) → IsLe
 answered_free s command reply legal free =
     elim legal.answer [ inl same ↦ same | inr refused ↦ absurd (refused.1 free) ]
 
--- the replies to commands where no memory is refused
+-- the replies to commands if no allocation fails
 abbrev pub answers : TextState → List Command → List Reply
 answers s [] = []
 answers s (command ∷ commands) =

@@ -1,9 +1,9 @@
 //! A line of calls on one text: the type of the text, and a word for each call, as `insert@1:c3a9`.
-//! Behind `@` stands a number (a place, an amount, a width, or a way in which a text comes about),
-//! and behind `:` the digits of what the call is given (a text, bytes or units).
+//! After `@` comes a number (a place, an amount, a width, or a way in which a text comes about), and
+//! after `:` the digits of what the call is given (a text, bytes or units).
 //!
-//! The text starts empty. The answer tells what each call answers and where the text lies after it,
-//! and at the end where it lies, its length, and its bytes.
+//! The text starts empty. The answer has what each call returns and the storage after it, and at the
+//! end the storage, the length and the bytes.
 
 use crate::digits::{bytes_of, push_digits, units_of};
 use crate::fault::LineFault;
@@ -39,7 +39,7 @@ pub trait Played {
     /// What a call answers, which may change the text.
     fn play(&mut self, alloc: Global, call: Call) -> Result<Answer, LineFault>;
 
-    /// Where the text lies, and the text.
+    /// The storage of the text, and the text.
     fn seen(&self) -> (Storage, &str);
 }
 

@@ -21,7 +21,7 @@ fn main(rt: HostRuntime) -> ExitCode {
     let Err(fault) = run_program(&rt) else {
         return ExitCode::SUCCESS;
     };
-    // The status tells of a fault that can't be written.
+    // The status reports a fault that can't be written.
     let _ = println!(rt; "{fault}");
     ExitCode::from(fault.status())
 }

@@ -44,7 +44,7 @@ fn make(
 }
 
 /// A text that came about in one of three ways, of which nothing may be seen: as it is, with a
-/// character in front that was taken out, or with more behind it that was cut off.
+/// character before it that was removed, or with more after it that was cut off.
 fn made_in(string: &str, way: usize) -> Result<InlineString, LineFault> {
     let mut text = InlineString::new();
     let mut fits = text.push_str(string).is_ok();

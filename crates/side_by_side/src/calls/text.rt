@@ -79,7 +79,7 @@ pub fn play_text<S: StringMake + Clone + Debug + Display + Drop + Hash + Ord + W
     }
 }
 
-/// Puts a text in the place of the one that is there.
+/// Replaces the text that is there.
 pub fn put<S: Drop>(text: &mut S, made: Result<S, AllocError>) -> Answer {
     match made {
         Ok(made) => {
@@ -91,7 +91,7 @@ pub fn put<S: Drop>(text: &mut S, made: Result<S, AllocError>) -> Answer {
 }
 
 /// A text that came about in one of four ways, of which nothing may be seen: as it is, with a
-/// character in front that was taken out, on the heap, or with more behind it that was cut off.
+/// character before it that was removed, on the heap, or with more after it that was cut off.
 fn made_in<S: StringMake + Drop>(alloc: Global, string: &str, way: usize) -> Result<S, LineFault> {
     let mut text = S::new(alloc);
     text.push_str(string)?;
@@ -138,7 +138,7 @@ fn edit<S: StringExt>(
     )
 }
 
-/// Whether there is room for as many bytes more, where it was not refused.
+/// Whether there is capacity for `additional` more bytes, if the reservation succeeded.
 fn room<S: StringExt>(reserved: Result<(), AllocError>, text: &S, additional: usize) -> Answer {
     Answer::Word(match reserved {
         Ok(()) if text.capacity() - text.len() >= additional => "room",

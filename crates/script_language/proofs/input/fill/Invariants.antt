@@ -1,4 +1,4 @@
--- What lies in the room so far is what the reader gave.
+-- What is in the buffer so far is what the reader gave.
 use Rattle.std.proofs.Common.{◌≡◌, ◌≤◌, ◌-◌, length, take}
 use Rattle.std.specs.Io.KnownBytes.{Consumes}
 use Rattle.script_language.proofs.input.fill.Given as goal
