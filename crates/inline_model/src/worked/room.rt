@@ -9,8 +9,8 @@ ghost use Rattle.inline_model.specs.Worked.{inline_text, heap_text};
 use inlinable_string::Storage;
 use inlinable_string::run::{Command, Reply};
 
-/// Of 30 bytes that lie inline at most 26 are taken: five more go to the heap, unless memory is
-/// refused.
+/// Of 30 inline bytes 26 are taken: five more move the text to the heap, unless the allocation
+/// fails.
 pub fn five_bytes_go_to_the_heap(string: &str)
     requires { size (chars string.now) ≡ 5 }
     ensures done { (t : List ℕ) → size t ≡ 26
