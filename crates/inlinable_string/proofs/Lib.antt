@@ -25,3 +25,4 @@ pub mod Places
 pub mod Compared
 pub mod Extended
 pub mod Added
+pub mod Ranges

@@ -2,6 +2,7 @@ pub mod Text
 pub mod Utf16
 pub mod Lossy
 pub mod Cells
+pub mod Ranges
 pub mod State
 pub mod StringValues
 pub mod Values

@@ -20,6 +20,7 @@ mod borrowed;
 mod compared;
 mod joins;
 mod printed;
+mod replaced;
 #[cfg(test)]
 mod tests;
 
