@@ -1,5 +1,5 @@
 -- A text with one of its ranges replaced.
-use Rattle.inlinable_string.proofs.Common.{◌≡◌, ℕ, ◌+◌, ◌-◌, ◌≤◌, true, List, [], ◌∷◌, ◌++◌, length, take, drop, refl, sym, ap, ◌∙◌, arith, subst, length-append, length-take-le, take_at, drop_at, encode_utf8, encodes-chars, chars, chars-append, IsUtf8, IsUtf8-take, IsUtf8-append, insert_slice, remove_range, bytes_of, size, IsCut, IsPlace}
+use Rattle.inlinable_string.proofs.Common.{Result, Ok, Err, IsOk, OnErr, ◌≡◌, ℕ, ◌+◌, ◌-◌, ◌≤◌, ◌<◌, true, List, [], ◌∷◌, ◌++◌, length, take, drop, refl, sym, ap, ◌∙◌, arith, subst, length-append, length-take-le, take_at, drop_at, encode_utf8, encodes-chars, chars, chars-append, IsUtf8, IsUtf8-take, IsUtf8-append, insert_slice, remove_range, bytes_of, size, IsCut, IsPlace}
 use Rattle.std.proofs.lemmas.Str.{IsUtf8-drop}
 use Rattle.std.specs.Char.{is_ascii}
 use Rattle.std.specs.List.{list_all, replace_range}
@@ -106,3 +106,9 @@ pub ascii-replaced : {t v : List ℕ} {p q : ℕ} (bs : List ℕ) → list_all i
     → IsRangeReplaced t p q (chars bs) v → IsRangeReplaced t p q bs v
 ascii-replaced {t} {v} {p} {q} bs a r =
     subst (λ u. IsRangeReplaced t p q u v) (ascii_chars bs a) r
+
+-- a call that fails only for want of room succeeds where there is room
+pub ok_where_it_fits : {T E : Type 0} (r : Result T E) {m n : ℕ} → OnErr r (m < n) → n ≤ m
+    → IsOk r
+ok_where_it_fits (Ok x) full le = refl
+ok_where_it_fits (Err x) full le = absurd (omega (arith, full, le))
