@@ -26,3 +26,4 @@ pub mod Compared
 pub mod Extended
 pub mod Added
 pub mod Ranges
+pub mod Retained

@@ -3,6 +3,7 @@ pub mod Utf16
 pub mod Lossy
 pub mod Cells
 pub mod Ranges
+pub mod Retained
 pub mod State
 pub mod StringValues
 pub mod Values

@@ -21,6 +21,7 @@ mod compared;
 mod joins;
 mod printed;
 mod replaced;
+mod retained;
 #[cfg(test)]
 mod tests;
 
