@@ -1,9 +1,12 @@
 -- A loop that moves the characters it keeps to the front.
-use Rattle.inlinable_string.proofs.Common.{◌≡◌, ℕ, ◌+◌, ◌≤◌, ◌<◌, Bool, true, false, List, [], ◌∷◌, ◌++◌, length, take, drop, refl, sym, ap, ◌∙◌, arith, subst, append-nil, append_assoc, drop-drop, length-drop, take_at, encode_utf8, chars, chars-append, chars-nil, IsUtf8, IsUtf8-append, IsUtf8-encode, all_scalars, and_parts, scalars-chars, length-append, bytes_of, size}
+use Rattle.inlinable_string.proofs.Common.{◌≡◌, ℕ, ◌+◌, ◌≤◌, Bool, true, false, List, [], ◌∷◌, ◌++◌, length, take, drop, refl, sym, ap, ◌∙◌, arith, append-nil, append_assoc, drop-drop, length-drop, take_at, encode_utf8, chars, chars_from_encodes, chars-append, chars-nil, IsUtf8, IsUtf8-append, IsUtf8-encode, all_scalars, and_parts, scalars-chars, length-append, bytes_of, size}
 use Rattle.std.proofs.lemmas.List.{drop_all}
 use Rattle.std.proofs.lemmas.Str.{IsUtf8-nil, IsUtf8-past_char, chars_past_char}
+use Rattle.std.specs.Fn.{Mut}
 use Rattle.std.specs.List.{items_where_true}
 use Rattle.std.specs.List.Retain.{IsFiltered}
+use Rattle.std.specs.String.{RetainsChars}
+use Rattle.inlinable_string.specs.Retained.{IsRetained}
 use Rattle.inlinable_string.proofs.Window.{char_held}
 
 size-kept : (answers : List Bool) (t : List ℕ) → size (items_where_true answers t) ≤ size t
@@ -121,3 +124,13 @@ module _ {F : Type 0} (R : F → ℕ → Bool → F → Type 0) where
   -- what is kept is not longer
   pub size-retained : (f : F) (t v : List ℕ) → IsFiltered R f t v → size v ≤ size t
   size-retained f t v h = rw h.4 (size-kept h.0 t)
+
+-- what std says of its bytes, of the characters
+pub retained-chars : {F : Type 0} (g : Mut F (ℕ × Unit {0}) Bool) (f : F) {old new : List ℕ}
+    → IsUtf8 old → IsUtf8 new → RetainsChars g f old new
+    → IsRetained g f (chars old) (chars new)
+retained-chars g f {old} {new} u v r =
+    rw (
+      ← chars_from_encodes r.all old u r.spell,
+      ← chars_from_encodes r.kept new v (sym r.stay),
+    ) r.chosen

@@ -19,6 +19,7 @@ mod makers;
 mod printed;
 mod promotion;
 mod replaced;
+mod retained;
 
 /// An [`InlinableStringN`] of 30 bytes inline, the capacity of the Rust crate.
 pub type InlinableString = InlinableStringN<INLINE_STRING_CAPACITY>;
