@@ -25,3 +25,5 @@ pub mod Places
 pub mod Compared
 pub mod Extended
 pub mod Added
+pub mod Ranges
+pub mod Retained

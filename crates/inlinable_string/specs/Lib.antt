@@ -2,6 +2,8 @@ pub mod Text
 pub mod Utf16
 pub mod Lossy
 pub mod Cells
+pub mod Ranges
+pub mod Retained
 pub mod State
 pub mod StringValues
 pub mod Values

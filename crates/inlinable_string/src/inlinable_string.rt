@@ -18,6 +18,8 @@ mod limits;
 mod makers;
 mod printed;
 mod promotion;
+mod replaced;
+mod retained;
 
 /// An [`InlinableStringN`] of 30 bytes inline, the capacity of the Rust crate.
 pub type InlinableString = InlinableStringN<INLINE_STRING_CAPACITY>;

@@ -20,6 +20,8 @@ mod borrowed;
 mod compared;
 mod joins;
 mod printed;
+mod replaced;
+mod retained;
 #[cfg(test)]
 mod tests;
 

@@ -1,0 +1,114 @@
+-- A text with one of its ranges replaced.
+use Rattle.inlinable_string.proofs.Common.{Result, Ok, Err, IsOk, OnErr, ◌≡◌, ℕ, ◌+◌, ◌-◌, ◌≤◌, ◌<◌, true, List, [], ◌∷◌, ◌++◌, length, take, drop, refl, sym, ap, ◌∙◌, arith, subst, length-append, length-take-le, take_at, drop_at, encode_utf8, encodes-chars, chars, chars-append, IsUtf8, IsUtf8-take, IsUtf8-append, insert_slice, remove_range, bytes_of, size, IsCut, IsPlace}
+use Rattle.std.proofs.lemmas.Str.{IsUtf8-drop}
+use Rattle.std.specs.Char.{is_ascii}
+use Rattle.std.specs.List.{list_all, replace_range}
+use Rattle.inlinable_string.specs.Ranges.{IsRangeReplaced}
+use Rattle.inlinable_string.proofs.Text.{Holds, ascii_chars, bytes_are, boundary, cut_at, nil_from_size, place_within, size-append, size-chars, size_of}
+
+-- of two cuts of a text, the front of the earlier begins that of the later
+nested : (a b c d : List ℕ) → a ++ b ≡ c ++ d → size a ≤ size c
+    → (m : List ℕ) × (c ≡ a ++ m) × (b ≡ m ++ d)
+nested [] b c d e le = (c, refl, e)
+nested (x ∷ a) b [] d e le =
+    let none : x ∷ a ≡ [] = nil_from_size (x ∷ a) (omega (arith, le)) in cc
+nested (x ∷ a) b (y ∷ c) d e le =
+    let same : x ≡ y = cc in
+    let rest : a ++ b ≡ c ++ d = cc in
+    let first = ap (λ z. length (encode_utf8 z)) same in
+    let left = length-append (encode_utf8 x) (bytes_of a) in
+    let right = length-append (encode_utf8 y) (bytes_of c) in
+    let m = nested a b c d rest (omega (arith, le, first, left, right)) in
+    (m.0, ap (λ l. y ∷ l) m.1 ∙ ap (λ z. z ∷ (a ++ m.0)) (sym same), m.2)
+
+-- what stands between two cuts replaced
+replaced_between : {t u v a b c d : List ℕ} {p q : ℕ} → IsCut t p a b → IsCut t q c d → p ≤ q
+    → v ≡ a ++ u ++ d → IsRangeReplaced t p q u v
+replaced_between {a = a} {b} {c} {d} x y order e =
+    let m = nested a b c d (sym x.joined ∙ y.joined) (omega (arith, order, x.before, y.before)) in
+    record {
+      front = a;
+      middle = m.0;
+      back = d;
+      before = record { joined = x.joined ∙ ap (λ l. a ++ l) m.2; before = x.before };
+      after = record {
+        joined = y.joined ∙ ap (λ l. l ++ d) m.1;
+        before = sym (ap size m.1) ∙ y.before;
+      };
+      joined = e;
+    }
+
+-- bytes of a text taken out between two places, and others put in there
+pub cut_then_put : {t w v : List ℕ} {l p : ℕ} (s : List ℕ) (q : ℕ) → Holds t w l → IsPlace t p
+    → v ≡ insert_slice (remove_range w p q) p s → v ≡ replace_range w p q s
+cut_then_put {t} {w} {v} {l} {p} s q h at e =
+    let long : p ≤ length w = omega (arith, place_within t p at, size_of h, h.long) in
+    let short = length-take-le p w long in
+    e ∙ rw (take_at (take p w) (drop q w) p short, drop_at (take p w) (drop q w) p short) refl
+
+-- the bytes of a text between two places replaced by those of the text u
+module _ {t w u s v : List ℕ} {l m p q : ℕ} (h : Holds t w l) (a : Holds u s m)
+    (from : IsPlace t p) (to : IsPlace t q) (order : p ≤ q) (e : v ≡ replace_range w p q s) where
+  front : IsUtf8 (take p w)
+  front = IsUtf8-take w p h.utf8 (boundary h from)
+
+  both : IsUtf8 (take p w ++ s)
+  both = IsUtf8-append _ _ front a.utf8
+
+  pub range-utf8 : IsUtf8 v
+  range-utf8 = rw e (IsUtf8-append _ _ both (IsUtf8-drop w q h.utf8 (boundary h to)))
+
+  pub range-chars : IsRangeReplaced t p q u (chars v)
+  range-chars =
+      replaced_between (cut_at h p (boundary h from)) (cut_at h q (boundary h to)) order
+      (ap chars e ∙ chars-append _ (drop q w) both
+      ∙ rw (chars-append (take p w) s front, a.shown) refl)
+
+  pub range-bytes : bytes_of (chars v) ≡ replace_range (bytes_of t) p q s
+  range-bytes =
+      encodes-chars v range-utf8 ∙ e ∙ ap (λ x. replace_range x p q s) (bytes_are h)
+
+-- the clauses on a range that was replaced
+pub size-replaced_range : {t u v : List ℕ} {p q : ℕ} → IsRangeReplaced t p q u v
+    → size v + (q - p) ≡ size t + size u
+size-replaced_range {u = u} r =
+    omega (
+      arith,
+      ap size r.joined,
+      size-append (r.front ++ u) r.back,
+      size-append r.front u,
+      ap size r.after.joined,
+      size-append (r.front ++ r.middle) r.back,
+      size-append r.front r.middle,
+      r.before.before,
+      r.after.before,
+    )
+
+pub place_past_range : {t u v : List ℕ} {p q : ℕ} → IsRangeReplaced t p q u v
+    → IsPlace v (p + size u)
+place_past_range {u = u} r = (
+  r.front ++ u,
+  r.back,
+  record {
+    joined = r.joined;
+    before = size-append r.front u ∙ ap (λ n. n + size u) r.before.before;
+  },
+)
+
+module _ {bs t v : List ℕ} {p q : ℕ} (u : IsUtf8 bs) (r : IsRangeReplaced t p q (chars bs) v) where
+  pub size-replaced_str : size v + (q - p) ≡ size t + length bs
+  size-replaced_str = rw (size-chars bs u) at (size-replaced_range r)
+
+  pub place_past_str : IsPlace v (p + length bs)
+  place_past_str = rw (size-chars bs u) at (place_past_range r)
+
+pub ascii-replaced : {t v : List ℕ} {p q : ℕ} (bs : List ℕ) → list_all is_ascii bs ≡ true
+    → IsRangeReplaced t p q (chars bs) v → IsRangeReplaced t p q bs v
+ascii-replaced {t} {v} {p} {q} bs a r =
+    subst (λ u. IsRangeReplaced t p q u v) (ascii_chars bs a) r
+
+-- a call that fails only for want of room succeeds where there is room
+pub ok_where_it_fits : {T E : Type 0} (r : Result T E) {m n : ℕ} → OnErr r (m < n) → n ≤ m
+    → IsOk r
+ok_where_it_fits (Ok x) full le = refl
+ok_where_it_fits (Err x) full le = absurd (omega (arith, full, le))

@@ -1,0 +1,12 @@
+-- A text with one of its ranges replaced.
+use Rattle.std.specs.Prelude.{◌≡◌, ℕ, List, ◌++◌}
+use Rattle.inlinable_string.specs.Text.{IsCut}
+
+-- v is the text t with u in the place of what t has between the places p and q
+pub record IsRangeReplaced (t : List ℕ) (p q : ℕ) (u v : List ℕ) : Type 0 where
+  pub front : List ℕ
+  pub middle : List ℕ
+  pub back : List ℕ
+  pub before : IsCut t p front (middle ++ back)
+  pub after : IsCut t q (front ++ middle) back
+  pub joined : v ≡ front ++ u ++ back
