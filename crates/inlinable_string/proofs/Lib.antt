@@ -5,6 +5,7 @@ pub mod Subparts
 pub mod Table
 pub mod Makers
 pub mod Cut
+pub mod AsciiCase
 pub mod Edits
 pub mod Window
 pub mod Lawful

@@ -16,8 +16,10 @@ use std::error::Error;
 use std::marker::Model;
 use std::{fmt, str};
 
+mod ascii_case;
 mod borrowed;
 mod compared;
+mod copied;
 mod joins;
 mod printed;
 #[cfg(test)]
