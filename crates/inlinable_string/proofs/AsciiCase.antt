@@ -1,5 +1,5 @@
 -- Texts of which ASCII alone is changed, byte by byte.
-use Rattle.inlinable_string.proofs.Common.{◌≡◌, ℕ, ◌<◌, ◌≤◌, true, List, [], ◌∷◌, length, map, get_or, suc, refl, sym, ap, ◌∙◌, arith, subst, append-nil, map-append, ⊎_elim, cases_lt, and_parts, encode_utf8, all_scalars, IsUtf8, IsUtf8-append, IsUtf8-encode, IsUtf8-from_ascii, scalars-chars, bytes_of}
+use Rattle.inlinable_string.proofs.Common.{◌≡◌, ℕ, ◌<◌, ◌≤◌, true, List, [], ◌∷◌, length, map, get_or, suc, refl, sym, ap, ◌∙◌, arith, subst, append-nil, map-append, ⊎_elim, cases_lt, and_parts, encode_utf8, all_scalars, IsUtf8, IsUtf8-append, IsUtf8-encode, IsUtf8-from_ascii, scalars-chars, chars, length-map, bytes_of, size}
 use Rattle.std.specs.Char.{to_ascii_lowercase, to_ascii_uppercase}
 use Rattle.std.proofs.lemmas.Str.{IsUtf8-nil, encode_ascii, inside_one}
 use Rattle.std.proofs.lemmas.Str.Ascii.{IsAscii-nil, IsAscii-cons, lowercase_ascii, lowercase_is, uppercase_ascii, uppercase_is}
@@ -57,15 +57,25 @@ module _ (f : ℕ → ℕ) (low : (b : ℕ) → b < 128 → f b < 128) (high : (
       let same = ap (map f) (bytes_are h) in
       holds (subst IsUtf8 (sym same) (utf8_changed t are)) (same ∙ bytes_changed t)
 
-module _ {t w : List ℕ} {l : ℕ} (h : Holds t w l) where
-  pub uppercase_held : Holds (map to_ascii_uppercase t) (map to_ascii_uppercase w)
-      (length (map to_ascii_uppercase w))
-  uppercase_held =
-      changed to_ascii_uppercase uppercase_ascii
-      (λ b past. (uppercase_is b).2 (omega arith)) h
+  -- the text of changed bytes
+  cased : {t w v : List ℕ} {l : ℕ} → Holds t w l → v ≡ map f w
+      → ∥ IsUtf8 v ∥₁ × (chars v ≡ map f t) × (bytes_of (chars v) ≡ map f (bytes_of t))
+      × (size (chars v) ≡ size t)
+  cased {t} h e =
+      let new = changed h in
+      let text = ap chars e ∙ new.shown in
+      let bytes = ap bytes_of text ∙ sym (bytes_changed t) in
+      (∣ rw e new.utf8 ∣₁, text, bytes, ap length bytes ∙ length-map (bytes_of t) f)
 
-  pub lowercase_held : Holds (map to_ascii_lowercase t) (map to_ascii_lowercase w)
-      (length (map to_ascii_lowercase w))
-  lowercase_held =
-      changed to_ascii_lowercase lowercase_ascii
-      (λ b past. (lowercase_is b).2 (omega arith)) h
+module _ {t w v : List ℕ} {l : ℕ} (h : Holds t w l) where
+  pub uppercased : v ≡ map to_ascii_uppercase w → ∥ IsUtf8 v ∥₁
+      × (chars v ≡ map to_ascii_uppercase t)
+      × (bytes_of (chars v) ≡ map to_ascii_uppercase (bytes_of t)) × (size (chars v) ≡ size t)
+  uppercased =
+      cased to_ascii_uppercase uppercase_ascii (λ b past. (uppercase_is b).2 (omega arith)) h
+
+  pub lowercased : v ≡ map to_ascii_lowercase w → ∥ IsUtf8 v ∥₁
+      × (chars v ≡ map to_ascii_lowercase t)
+      × (bytes_of (chars v) ≡ map to_ascii_lowercase (bytes_of t)) × (size (chars v) ≡ size t)
+  lowercased =
+      cased to_ascii_lowercase lowercase_ascii (λ b past. (lowercase_is b).2 (omega arith)) h

@@ -6,6 +6,7 @@ pub mod Table
 pub mod Makers
 pub mod Cut
 pub mod AsciiCase
+pub mod Parts
 pub mod Edits
 pub mod Window
 pub mod Lawful

@@ -22,6 +22,7 @@ mod compared;
 mod copied;
 mod joins;
 mod printed;
+mod split;
 #[cfg(test)]
 mod tests;
 
