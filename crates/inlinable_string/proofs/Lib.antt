@@ -5,6 +5,8 @@ pub mod Subparts
 pub mod Table
 pub mod Makers
 pub mod Cut
+pub mod AsciiCase
+pub mod Parts
 pub mod Edits
 pub mod Window
 pub mod Lawful

@@ -4,7 +4,10 @@ ghost use Rattle.std.specs.Char.{is_ascii};
 ghost use Rattle.std.specs.List.{list_all};
 ghost use Rattle.std.specs.Str.{chars};
 ghost use Rattle.inlinable_string.specs.Text.{size};
-ghost use Rattle.inlinable_string.specs.Values.{inlinable_state};
+ghost use Rattle.inlinable_string.specs.State.{storage_when_made};
+ghost use Rattle.inlinable_string.specs.StringValues.{string_state};
+ghost use Rattle.inlinable_string.specs.Values.{inlinable_policy, inlinable_state};
+ghost use Rattle.inlinable_string.specs.declared.string_ext.Storage.TheVariants.{Heap, Inline};
 
 use crate::boxable_string::BoxableString;
 use crate::inlinable_string::{InlinableString, InlinableStringN};
@@ -72,6 +75,50 @@ impl<const N: usize> TryFrom<InlinableStringN<N>> for InlineStringN<N> {
             return Err(text);
         }
         Ok(Self::from(text.as_str()))
+    }
+}
+
+/// Copies the text of a `String`. Fails exactly if it has more than `N` bytes, and then returns it.
+impl<const N: usize> TryFrom<String> for InlineStringN<N> {
+    type Error = String;
+
+    ghost try_from_gives = { λ string result. MatchResult result
+        (λ made. (made ≡ (string_state string).text) × (size (string_state string).text ≤ N))
+        (λ back. (back ≡ string) × (N < size (string_state string).text)) };
+
+    fn try_from(string: String) -> Result<Self, String> {
+        if N < string.len() {
+            return Err(string);
+        }
+        Ok(Self::from(string.as_str()))
+    }
+}
+
+/// The same as [`InlinableStringN::from_string`], with the `String`'s allocator.
+impl<const N: usize> From<String> for InlinableStringN<N> {
+    ghost from_gives = { λ string made.
+        ((inlinable_state N made).text ≡ (string_state string).text)
+        × ((inlinable_state N made).storage
+        ≡ storage_when_made (inlinable_policy N) (size (string_state string).text))
+        × ((inlinable_state N made).storage ≡ Heap
+        → (inlinable_state N made).capacity ≡ (string_state string).capacity) };
+
+    fn from(string: String) -> Self {
+        let alloc = *string.allocator();
+        Self::from_string(alloc, string)
+    }
+}
+
+/// The same as [`InlinableStringN::into_string`]: if the allocation fails, the text is returned.
+impl<const N: usize> TryFrom<InlinableStringN<N>> for String {
+    type Error = InlinableStringN<N>;
+
+    ghost try_from_gives = { λ text result. MatchResult result
+        (λ made. (string_state made).text ≡ (inlinable_state N text).text)
+        (λ back. (back ≡ text) × ((inlinable_state N text).storage ≡ Inline)) };
+
+    fn try_from(text: InlinableStringN<N>) -> Result<Self, InlinableStringN<N>> {
+        text.into_string()
     }
 }
 

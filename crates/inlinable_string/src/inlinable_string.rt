@@ -9,10 +9,12 @@ use crate::inline_string::{INLINE_STRING_CAPACITY, InlineStringN, ReplaceError};
 use crate::string_ext::{Storage, StringExt};
 use std::alloc::{AllocError, Global};
 
+mod ascii_case;
 mod borrowed;
 mod collected;
 mod compared;
 mod emptied;
+mod into_string;
 mod joins;
 mod limits;
 mod makers;
@@ -20,6 +22,7 @@ mod printed;
 mod promotion;
 mod replaced;
 mod retained;
+mod split;
 
 /// An [`InlinableStringN`] of 30 bytes inline, the capacity of the Rust crate.
 pub type InlinableString = InlinableStringN<INLINE_STRING_CAPACITY>;

@@ -16,12 +16,15 @@ use std::error::Error;
 use std::marker::Model;
 use std::{fmt, str};
 
+mod ascii_case;
 mod borrowed;
 mod compared;
+mod copied;
 mod joins;
 mod printed;
 mod replaced;
 mod retained;
+mod split;
 #[cfg(test)]
 mod tests;
 

@@ -20,5 +20,8 @@ mod well_formed;
 
 pub use boxable_string::BoxableString;
 pub use inlinable_string::{InlinableString, InlinableStringN};
-pub use inline_string::{INLINE_STRING_CAPACITY, InlineString, InlineStringN};
+pub use inline_json::JsonError;
+pub use inline_string::{
+    INLINE_STRING_CAPACITY, InlineString, InlineStringN, NotEnoughSpaceError, ReplaceError,
+};
 pub use string_ext::{Storage, StringExt, StringMake, Utf16Error};
