@@ -29,8 +29,10 @@ BESIDE_OF_EACH = dict.fromkeys((
           'partial_cmp'),
     *each(f'{OURS} String', 'collect with_capacity from_utf8 from_utf8_unchecked from_utf8_lossy from_utf16 '
           'from_utf16_lossy extend reserve reserve_exact shrink_to_fit capacity heap'),
-    *each(OURS, 'from_str from_string from_chars from_strs add extend_chars extend_char_refs extend_strs'),
-    *each(f'InlineString {OURS}', 'default inline'), *each('insert insert_str truncate remove', 'bad_place'),
+    *each(OURS, 'from_str from_string add extend_char_refs into_string'), 'InlineString copy',
+    *each(f'InlineString {OURS}', 'default inline from_chars from_strs extend_chars extend_strs retain '
+          'replace_range split_off make_ascii_uppercase make_ascii_lowercase'),
+    *each('insert insert_str truncate remove replace_range split_off', 'bad_place'),
     *each('eq eq_str', 'true false'), *each('cmp partial_cmp', 'less equal greater'), *each(GROWTHS, 'full'),
     *each('write_str write_char', 'write_fault'), *each('from eq', 'too_long'), 'pop none',
     *each('reserve reserve_exact with_capacity', 'no_memory'), *each('from_utf8', 'done not_utf8'),

@@ -13,11 +13,13 @@ TYPES = {ARRAY: 'inline', HEAP: 'inline', SHORT: 'inline8', STRING: 'string'}
 READERS = 'from_utf8 from_utf8_unchecked from_utf8_lossy from_utf16 from_utf16_lossy'
 JOINS = 'add extend extend_chars extend_char_refs extend_strs'
 OWN_MAKERS = 'from_str from_string from_chars from_strs'
+EDITS = 'retain replace_range split_off make_ascii_uppercase make_ascii_lowercase'
 # By kind: how often it comes beside the others, more often where there is more to answer, and the words
 # that are drawn most.
 KINDS = {
     'growths': (1, 'push push_str insert insert_str write_str write_char'),
     'cuts': (1, 'pop remove truncate clear'),
+    'edits': (3, f'{EDITS} into_string copy'),
     'slides': (1, 'slide pop remove'),
     'makers': (1, f'new default from clone {OWN_MAKERS} collect with_capacity'),
     'room': (2, 'reserve reserve_exact with_capacity shrink_to_fit capacity push_str'),
@@ -32,14 +34,17 @@ SCRIPTED = LINES.keys() - {'replace_bytes'}
 BETWEEN = 'push push_str insert insert_str pop remove truncate slide'.split()
 # What a type lacks.
 LACKING = {
-    ARRAY: f'{READERS} {OWN_MAKERS} {JOINS} collect with_capacity reserve reserve_exact shrink_to_fit '
-           'capacity',
-    HEAP: '', SHORT: '', STRING: f'default {OWN_MAKERS} add extend_chars extend_char_refs extend_strs'}
+    ARRAY: f'{READERS} from_str from_string add extend extend_char_refs collect with_capacity reserve '
+           'reserve_exact shrink_to_fit capacity into_string',
+    HEAP: 'copy', SHORT: 'copy',
+    STRING: f'default {OWN_MAKERS} {EDITS} add copy extend_chars extend_char_refs extend_strs into_string'}
 # Of a kind with fewer words than FEWEST there is none on a type. A text is cut at LONGEST.
 FEWEST, LONGEST = 3, 40
 # How many calls there are at most, behind the one that a text begins with.
 TURNS = (3, 6, 6, 6, 20)
 SIZES = (0, 1, 2, 7, 8, 9, 26, 27, 28, 28, 29, 29, 30, 30, 31, 32)
+# A range is a number: its start is the quotient by this, and its end the rest.
+RANGE = 2 ** 16
 # How a text that is compared comes about, with how many bytes more it had; or on the heap. How many scripts
 # of a hundred have one byte wrong.
 WAYS, ON_HEAP, SPOILT = {0: 0, 1: 4, 3: 4}, 2, 10
@@ -131,6 +136,23 @@ def emptied(_, played, word):
     return token(word)
 
 
+def kept(draw, _, word):
+    """Which of the characters, in four ways."""
+    return token(word, draw.randrange(4))
+
+
+def split(draw, played, word):
+    """At a place that is drawn as for a cut."""
+    return word + scripted(played, line_of(draw, played.text, 'truncate'))[len('truncate'):]
+
+
+def ranged(draw, played, word):
+    """From a place to another, of which one is bad at times."""
+    _, place, added = command_of(line_of(draw, played.text, 'insert_str'))
+    start, end = sorted((place % RANGE, draw.choice(list(played.text.places()))))
+    return token(word, RANGE * start + end, alike(added))
+
+
 def with_capacity(draw, played, word):
     capacity = draw.choice((0, 1, 7, 8, 9, 29, 30, 31, 32, 100, 2 ** 48, 2 ** 63 - 1, 2 ** 63, GREATEST))
     if capacity < 2 ** 48:
@@ -177,7 +199,8 @@ def printed(draw, played, word):
 
 # The words that are not SCRIPTED; any other is a call alone.
 SORTS = {
-    slide: 'slide', emptied: 'new default into_bytes', with_capacity: 'with_capacity', read: READERS,
+    slide: 'slide', emptied: 'new default into_bytes into_string', with_capacity: 'with_capacity',
+    read: READERS, kept: 'retain', split: 'split_off', ranged: 'replace_range',
     joined: f'from {OWN_MAKERS} collect write_str write_char {JOINS}',
     compared: 'eq eq_str cmp partial_cmp', printed: 'padded cut'}
 DRAWN = {word: sort for sort, words in SORTS.items() for word in words.split()}

@@ -2,7 +2,7 @@
 use crate::Played;
 use crate::call::{Call, bytes, character, done, order};
 use crate::departures::{Departure, Departures};
-use crate::printed;
+use crate::{edits, printed};
 use original_30::{INLINE_STRING_CAPACITY, InlineString};
 use std::fmt::Write;
 use std::mem;
@@ -13,11 +13,22 @@ impl Played for InlineString {
         if is_refused(self, call, &string, departures) {
             return Some("bad_place".into());
         }
+        if let Some((answer, own)) = edits::of_string(self, call, &string, departures) {
+            if own.len() > INLINE_STRING_CAPACITY {
+                return Some("full".into());
+            }
+            *self = InlineString::from(&own[..]);
+            return Some(answer);
+        }
         let added = || string.chars().next();
         Some(match call.word {
             "new" => done(*self = InlineString::new()),
             "default" => done(*self = InlineString::default()),
-            "clone" => done(*self = self.clone()),
+            "clone" | "copy" => done(*self = self.clone()),
+            "from_chars" => made(self, |made| string.chars().try_for_each(|ch| made.push(ch))),
+            "from_strs" => made(self, |made| string.split(',').try_for_each(|each| made.push_str(each))),
+            "extend_chars" => or(string.chars().try_for_each(|ch| self.push(ch)), "full"),
+            "extend_strs" => or(string.split(',').try_for_each(|each| self.push_str(each)), "full"),
             "from" | "eq" | "cmp" | "partial_cmp" if string.len() > INLINE_STRING_CAPACITY => {
                 let make = || InlineString::from(&string[..]);
                 departures.meet_panic(Departure::LongerThanArray, make);
@@ -57,6 +68,16 @@ impl Played for InlineString {
     fn text(&self) -> &str {
         self
     }
+}
+
+/// Makes a text by additions to an empty one.
+fn made<E>(text: &mut InlineString, fill: impl FnOnce(&mut InlineString) -> Result<(), E>) -> String {
+    let mut made = InlineString::new();
+    let filled = fill(&mut made);
+    if filled.is_ok() {
+        *text = made;
+    }
+    or(filled, "full")
 }
 
 fn or<E>(added: Result<(), E>, fault: &str) -> String {

@@ -3,7 +3,7 @@
 use crate::Played;
 use crate::call::{Call, bytes, character, done, order};
 use crate::departures::{Departure, Departures};
-use crate::printed;
+use crate::{edits, printed};
 use original::{INLINE_STRING_CAPACITY, InlinableString, StringExt};
 use std::borrow::Cow;
 use std::fmt::{Debug, Write};
@@ -56,6 +56,11 @@ pub fn played<T: Text>(text: &mut T, call: &Call, departures: &mut Departures) -
     }
     if is_refused(text, call, &string, departures) {
         return Some("bad_place".into());
+    }
+    if let Some((answer, own)) = edits::of_string(text, call, &string, departures) {
+        text.clear();
+        text.push_str(&own);
+        return Some(answer);
     }
     edited(text, call, &string, departures).or_else(|| viewed(text, call, &string, departures))
 }
@@ -190,7 +195,7 @@ fn edited<T: Text>(
         "reserve_exact" => return Some(reserved(text, place, T::reserve_exact, departures)),
         "pop" => character(text.pop()),
         "remove" => character(Some(text.remove(place))),
-        "into_bytes" => bytes("bytes", &mem::take(text).into_bytes()),
+        "into_bytes" | "into_string" => bytes("bytes", &mem::take(text).into_bytes()),
         "replace_bytes" if call.bytes.len() != text.len() => "wrong_length".into(),
         // only what is UTF-8 comes so far
         "replace_bytes" => done(unsafe { text.as_mut_slice() }.copy_from_slice(&call.bytes)),

@@ -7,6 +7,7 @@ use std::fmt::Write;
 mod array;
 mod call;
 mod departures;
+mod edits;
 mod printed;
 mod script;
 

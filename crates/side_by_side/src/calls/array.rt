@@ -1,6 +1,8 @@
 //! The calls of `InlineString`.
 
-use crate::calls::views::{bytes, character, compare, done_or, edited, truth, view};
+use crate::calls::views::{
+    RANGE, bytes, changed, character, compare, done_or, edited, is_kept, truth, view,
+};
 use crate::calls::{Answer, Call, Played, first_of};
 use crate::fault::LineFault;
 use inlinable_string::{INLINE_STRING_CAPACITY, InlineString, Storage};
@@ -36,7 +38,16 @@ fn make(
         "new" => InlineString::new(),
         "default" => InlineString::default(),
         "clone" => text.clone()?,
+        "copy" => text.copy(),
         "from" => InlineString::from(string),
+        "from_chars" => match InlineString::from_chars(string.chars()) {
+            Ok(made) => made,
+            Err(_) => return Ok(Answer::Word("full")),
+        },
+        "from_strs" => match InlineString::from_strs(string.split(',')) {
+            Ok(made) => made,
+            Err(_) => return Ok(Answer::Word("full")),
+        },
         _ => return edit(alloc, text, call, string),
     };
     *text = made;
@@ -84,7 +95,28 @@ fn edit(
         call,
         string,
         "full",
-        more(alloc, text, call, string)
+        change(alloc, text, call, string)
+    )
+}
+
+/// The calls of `String` that the traits have not, and those that join.
+fn change(
+    alloc: Global,
+    text: &mut InlineString,
+    call: Call,
+    string: &str,
+) -> Result<Answer, LineFault> {
+    changed!(
+        text,
+        call,
+        string,
+        "full",
+        match call.word {
+            "split_off" => bytes(alloc, "bytes", text.split_off(call.number).as_bytes()),
+            "extend_chars" => done_or(text.extend_chars(string.chars()), "full"),
+            "extend_strs" => done_or(text.extend_strs(string.split(',')), "full"),
+            _ => more(alloc, text, call, string),
+        }
     )
 }
 

@@ -1,7 +1,7 @@
 //! The calls that `InlinableStringN` and `String` have by themselves, beside those of the traits.
 
 use crate::calls::text::{is_reader, play_text, put, read};
-use crate::calls::views::done_or;
+use crate::calls::views::{RANGE, bytes, changed, done_or, is_kept};
 use crate::calls::{Answer, Call, Played};
 use crate::fault::LineFault;
 use inlinable_string::{InlinableStringN, Storage, StringExt, StringMake};
@@ -25,7 +25,7 @@ impl<const N: usize> Played for InlinableStringN<N> {
             "add" | "extend" | "extend_chars" | "extend_char_refs" | "extend_strs" => {
                 return done_or(join(alloc, self, call, &string)?, "no_memory");
             }
-            _ => return play_text(alloc, self, call, &string),
+            _ => return change(alloc, self, call, &string),
         };
         Ok(put(self, made))
     }
@@ -33,6 +33,29 @@ impl<const N: usize> Played for InlinableStringN<N> {
     fn seen(&self) -> (Storage, &str) {
         (self.storage(), StringExt::as_str(self))
     }
+}
+
+/// The calls of `String` that the traits have not; else those of the traits.
+fn change<const N: usize>(
+    alloc: Global,
+    text: &mut InlinableStringN<N>,
+    call: Call,
+    string: &str,
+) -> Result<Answer, LineFault> {
+    changed!(
+        text,
+        call,
+        string,
+        "no_memory",
+        match call.word {
+            "split_off" => bytes(alloc, "bytes", text.split_off(call.number)?.as_bytes()),
+            "into_string" => match mem::replace(text, InlinableStringN::new(alloc)).into_string() {
+                Ok(given) => Ok(Answer::Bytes("bytes", given.into_bytes())),
+                Err(_) => Err(LineFault::NoMemory),
+            },
+            _ => play_text(alloc, text, call, string),
+        }
+    )
 }
 
 /// The calls that add several pieces.

@@ -38,6 +38,45 @@ macro_rules! edited {
 
 pub(crate) use edited;
 
+/// What a call answers that `String` has and the traits have not; else what `others` do.
+macro_rules! changed {
+    ($text:ident, $call:ident, $string:ident, $fault:literal, $others:expr) => {
+        match $call.word {
+            "retain" => {
+                $text.retain(|ch| is_kept(ch, $call.number));
+                Ok(Answer::Word("done"))
+            }
+            "make_ascii_uppercase" => {
+                $text.make_ascii_uppercase();
+                Ok(Answer::Word("done"))
+            }
+            "make_ascii_lowercase" => {
+                $text.make_ascii_lowercase();
+                Ok(Answer::Word("done"))
+            }
+            "replace_range" => {
+                let (from, to) = ($call.number / RANGE, $call.number % RANGE);
+                if to < from || !$text.is_char_boundary(from) || !$text.is_char_boundary(to) {
+                    return Ok(Answer::Word("bad_place"));
+                }
+                done_or($text.replace_range(from..to, $string), $fault)
+            }
+            "split_off" if !$text.is_char_boundary($call.number) => Ok(Answer::Word("bad_place")),
+            _ => $others,
+        }
+    };
+}
+
+pub(crate) use changed;
+
+/// The end of a range is the rest of its number by this, and its start is the quotient.
+pub const RANGE: usize = 65_536;
+
+/// Which characters `retain` keeps: three of four.
+pub fn is_kept(ch: char, number: usize) -> bool {
+    ch as usize % 4 != number % 4
+}
+
 /// How a text compares with another.
 pub fn compare<T: Ord>(text: &T, other: &T, word: &str) -> Result<Answer, LineFault> {
     match word {
