@@ -1,7 +1,7 @@
 //! The characters of a text that pass a test.
-ghost use Rattle.std.specs.Prelude.{◌≡◌, ◌≤◌};
+ghost use Rattle.std.specs.Prelude.{◌≡◌, ◌≤◌, ℕ, Bool, filter};
 ghost use Rattle.inlinable_string.specs.Text.{size};
-ghost use Rattle.inlinable_string.specs.Retained.{IsRetained};
+ghost use Rattle.inlinable_string.specs.Retained.{IsRetained, Tests};
 ghost use Rattle.inlinable_string.specs.Values.{inlinable_state};
 
 use super::InlinableStringN;
@@ -13,6 +13,8 @@ impl<const N: usize> InlinableStringN<N> {
         requires { F.IsAlwaysCallable f }
         ensures text { IsRetained F.FnMut f (inlinable_state N self.old).text
             (inlinable_state N self.new).text }
+        ensures filtered { (test : ℕ → Bool) → Tests F.FnMut f test
+            → (inlinable_state N self.new).text ≡ filter test (inlinable_state N self.old).text }
         ensures bound { size (inlinable_state N self.new).text
             ≤ size (inlinable_state N self.old).text }
         ensures storage { (inlinable_state N self.new).storage

@@ -1,8 +1,8 @@
 //! The characters of a text in an array that pass a test.
-ghost use Rattle.std.specs.Prelude.{◌≡◌, ◌+◌, ◌≤◌, ◌<◌, ◌++◌, length, take, drop, encode_utf8, IsUtf8};
+ghost use Rattle.std.specs.Prelude.{◌≡◌, ℕ, Bool, ◌+◌, ◌≤◌, ◌<◌, ◌++◌, length, take, drop, encode_utf8, filter, IsUtf8};
 ghost use Rattle.std.specs.Str.{chars};
 ghost use Rattle.inlinable_string.specs.Text.{size};
-ghost use Rattle.inlinable_string.specs.Retained.{IsRetained};
+ghost use Rattle.inlinable_string.specs.Retained.{IsRetained, Tests};
 
 use super::{InlineStringN, char_at};
 use std::str;
@@ -13,6 +13,8 @@ impl<const N: usize> InlineStringN<N> {
     pub fn retain<F: FnMut(char) -> bool>(&mut self, f: F)
         requires { F.IsAlwaysCallable f }
         ensures text { IsRetained F.FnMut f self.old self.new }
+        ensures filtered { (test : ℕ → Bool) → Tests F.FnMut f test
+            → self.new ≡ filter test self.old }
         ensures bound { size self.new ≤ size self.old }
     {
         let (start, end) = (self.start, self.start + self.len);
@@ -27,6 +29,8 @@ fn retain_in_front<F: FnMut(char) -> bool>(cells: &mut [u8], mut keep: F) -> usi
     requires utf8 { IsUtf8 cells.old }
     requires callable { F.IsAlwaysCallable keep }
     ensures text { IsRetained F.FnMut keep (chars cells.old) (chars (take result cells.new)) }
+    ensures filtered { (test : ℕ → Bool) → Tests F.FnMut keep test
+        → chars (take result cells.new) ≡ filter test (chars cells.old) }
     ensures bound { size (chars (take result cells.new)) ≤ size (chars cells.old) }
     ensures utf8 { IsUtf8 (take result cells.new) }
     ensures within { result ≤ length cells.old }

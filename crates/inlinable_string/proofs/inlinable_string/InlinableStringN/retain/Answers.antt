@@ -1,4 +1,5 @@
 use Rattle.inlinable_string.proofs.Common.{IsUtf8-string_bytes}
+use Rattle.std.proofs.lemmas.Fn.{filter_same}
 use Rattle.inlinable_string.proofs.Retained.{retained-chars, size-retained}
 use Rattle.inlinable_string.proofs.inlinable_string.InlinableStringN.retain.Goals as goal
 
@@ -10,3 +11,7 @@ returns-in-Heap-clause-text g c =
 
 pub returns-in-Heap-clause-bound : goal.returns-in-Heap-clause-bound
 returns-in-Heap-clause-bound g c = size-retained _ _ _ _ (returns-in-Heap-clause-text g c)
+
+pub returns-in-Heap-clause-filtered : goal.returns-in-Heap-clause-filtered
+returns-in-Heap-clause-filtered g c test says =
+    filter_same _ test _ says _ _ (returns-in-Heap-clause-text g c)

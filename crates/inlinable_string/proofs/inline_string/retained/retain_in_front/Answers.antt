@@ -1,6 +1,6 @@
 use Rattle.inlinable_string.proofs.Common.{◌≡◌, ◌-◌, ◌≤◌, ◌++◌, arith, length, length-drop, take, take_all, drop, encode_utf8, refl, ◌∙◌}
 use Rattle.std.proofs.Common.{of_calls}
-use Rattle.std.proofs.lemmas.Fn.{called}
+use Rattle.std.proofs.lemmas.Fn.{called, filter_same}
 use Rattle.inlinable_string.proofs.Retained.{all_read, dropped_more, kept_more, none_read, size-retained}
 use Rattle.inlinable_string.proofs.inline_string.retained.retain_in_front.Goals.{then-keep, else-keep}
 use Rattle.inlinable_string.proofs.inline_string.retained.retain_in_front.Goals as goal
@@ -41,3 +41,6 @@ returns-clause-text g c =
 
 pub returns-clause-bound : goal.returns-clause-bound
 returns-clause-bound g c = size-retained _ _ _ _ (returns-clause-text g c)
+
+pub returns-clause-filtered : goal.returns-clause-filtered
+returns-clause-filtered g c test says = filter_same _ test _ says _ _ (returns-clause-text g c)
