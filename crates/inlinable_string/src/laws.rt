@@ -28,7 +28,7 @@ pub use compared::{
     order_is_that_of_the_bytes,
 };
 pub use conversions::{
-    alloc_errors_are_no_memory, boxed_as_it_is, conversions_succeed_where_it_fits,
+    alloc_errors_are_no_memory, boxed_as_it_is, conversions_succeed_where_it_fits, strings_convert,
 };
 pub use encodings::{
     bytes_give_the_text_back, lossy_reading_is_by_parts, paired_units_are_texts,
