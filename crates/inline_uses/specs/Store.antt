@@ -1,8 +1,9 @@
 -- What the contracts of a store cite: its whole state is a list of keys with their values, each as
 -- its bytes, in which each key stands once, in the order of the keys.
-use Rattle.std.specs.Prelude.{ℕ, List, [], Option, Some, map, option_and_then}
+use Rattle.std.specs.Prelude.{◌≡◌, ◌<◌, ◌≤◌, ◌&&◌, not, ℕ, List, [], Option, Some, map, length, filter, slice_index_or, option_and_then}
 use Rattle.std.specs.declared.cmp.Ordering.{Ordering}
-use Rattle.std.specs.Ordering.{nat_cmp}
+use Rattle.std.specs.declared.cmp.Ordering.TheVariants.{Less, Greater}
+use Rattle.std.specs.Ordering.{nat_cmp, is_gt}
 use Rattle.std.specs.Cmp.Lexicographic.{slice_cmp}
 use Rattle.std.specs.List.Sorted.{IsStrictlySortedBy}
 use Rattle.std.specs.Map.{keys_of, lookup, remove_entry}
@@ -38,13 +39,24 @@ with_value entries key value = insert_entry key_order entries key value
 abbrev pub without : Entries → List ℕ → Entries
 without entries key = remove_entry (is_at (key_order key)) entries
 
+-- the entries whose keys are from one up to and not including another
+abbrev pub entries_between : Entries → List ℕ → List ℕ → Entries
+entries_between entries from to = filter
+    (λ e. not (is_gt (key_order from e.0)) && is_gt (key_order to e.0)) entries
+
+-- the index at which a key goes among others: those before it are below the key, the others above
+abbrev pub IsGap : List (List ℕ) → List ℕ → ℕ → Type 0
+IsGap keys key at = (at ≤ length keys)
+    × ((i : ℕ) → i < at → key_order key (slice_index_or keys i []) ≡ Greater)
+    × ((i : ℕ) → at ≤ i → i < length keys → key_order key (slice_index_or keys i []) ≡ Less)
+
 -- a key with its value, which lie anywhere
 abbrev pub entry_of : InlinableStringN 30 × InlinableStringN 30 → List ℕ × List ℕ
 entry_of entry = (bytes_at entry.0, bytes_at entry.1)
 
 -- the keys of a store with their values
 abbrev pub entries_of : Inside → Entries
-entries_of a = map entry_of a.entries.entries
+entries_of a = map entry_of a.entries.items
 
 -- the entries with the members of a JSON object put in one after another, if each is a string
 abbrev pub with_members : Entries → Members → Option Entries
