@@ -4,8 +4,8 @@ use Rattle.std.specs.Prelude.{slice_get}
 use Rattle.std.specs.List.{insert}
 use Rattle.std.specs.Map.{keys_of}
 use Rattle.inlinable_string.specs.declared.inlinable_string.InlinableStringN.{InlinableStringN}
-use Rattle.inline_uses.specs.Symbols.{bytes_at}
-use Rattle.inline_uses.specs.Store.{Entries, AreInOrder, IsGap, entry_of, with_value}
+use Rattle.inline_uses.specs.Symbols.{bytes_at, IsGap}
+use Rattle.inline_uses.specs.Store.{Entries, AreInOrder, entry_of, with_value}
 use Rattle.inline_uses.proofs.Search.{replaced, inserted, inserted_seen, ordered_put}
 
 -- the new entries are the old ones with a value under a key, and in order

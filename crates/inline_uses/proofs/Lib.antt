@@ -1,5 +1,6 @@
 pub mod Cursor
 pub mod Entries
+pub mod Ids
 pub mod Members
 pub mod Search
 pub mod Shown

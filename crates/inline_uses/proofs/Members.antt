@@ -7,7 +7,8 @@ use Rattle.std.specs.List.Sorted.{IsStrictlySortedBy}
 use Rattle.std.specs.Map.{keys_of}
 use Rattle.std.specs.Ordering.{ordering_reverse, match_ordering}
 use Rattle.serde_json.specs.Data.{string, Members, no_members, member, put, members_depth}
-use Rattle.inline_uses.specs.Store.{Entries, key_order, AreInOrder, with_value, with_members}
+use Rattle.inline_uses.specs.Symbols.{key_order}
+use Rattle.inline_uses.specs.Store.{Entries, AreInOrder, with_value, with_members}
 
 -- f of either of an order
 by_order : {A B : Type 0} (f : A → B) (o : Ordering) (x y z : A) (w : B) → f z ≡ w

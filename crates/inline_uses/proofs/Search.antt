@@ -11,10 +11,10 @@ use Rattle.std.specs.List.Sorted.{IsStrictlySortedBy, IsSearchInRange, IsBinaryS
 use Rattle.std.specs.Map.{keys_of, lookup, remove_entry}
 use Rattle.std.specs.BTreeMap.{is_at, insert_entry}
 use Rattle.std.specs.Ordering.{ordering_reverse, ordering_index, match_ordering, is_gt}
-use Rattle.inline_uses.specs.Store.{key_order, IsGap}
+use Rattle.inline_uses.specs.Symbols.{key_order, IsGap}
 
 -- a key is equal to itself, and above one that is below it
-itself : (key : List ℕ) → key_order key key ≡ Equal
+pub itself : (key : List ℕ) → key_order key key ≡ Equal
 itself key = by (key_order key key) (nat_list_cmp_total.antisymm key key)
   where
     by : (o : Ordering) → o ≡ ordering_reverse o → o ≡ Equal

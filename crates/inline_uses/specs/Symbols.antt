@@ -1,7 +1,10 @@
--- What the contracts of a symbol table cite: its texts, each as its bytes, by their ids.
-use Rattle.std.specs.Prelude.{◌≡◌, ◌↔◌, ◌<◌, ℕ, List, [], Some, map, length, slice_get, slice_index_or}
+-- What the contracts of a symbol table cite: its texts, each as its bytes, by their ids, and the
+-- order of texts, in which it looks them up.
+use Rattle.std.specs.Prelude.{◌≡◌, ◌↔◌, ◌<◌, ◌≤◌, ℕ, List, [], Some, map, length, slice_get, slice_index_or}
+use Rattle.std.specs.declared.cmp.Ordering.{Ordering}
+use Rattle.std.specs.declared.cmp.Ordering.TheVariants.{Less, Greater}
 use Rattle.std.specs.Cmp.Lexicographic.{slice_cmp}
-use Rattle.std.specs.List.{All}
+use Rattle.std.specs.List.{AllByRecursion}
 use Rattle.std.specs.List.Sorted.{IsStrictlySortedBy}
 use Rattle.std.specs.Map.{keys_of, lookup}
 use Rattle.std.specs.BTreeMap.{is_at}
@@ -14,6 +17,16 @@ use Rattle.inline_uses.specs.declared.symbols.Symbols.TheInside.{Inside}
 -- the bytes of a text that lies anywhere
 abbrev pub bytes_at : InlinableStringN 30 → List ℕ
 bytes_at t = bytes_of (inlinable_state 30 t).text
+
+-- how keys are ordered: by their bytes, a front before the whole
+abbrev pub key_order : List ℕ → List ℕ → Ordering
+key_order = slice_cmp nat_cmp
+
+-- the index at which a key goes among others: those before it are below the key, the others above
+abbrev pub IsGap : List (List ℕ) → List ℕ → ℕ → Type 0
+IsGap keys key at = (at ≤ length keys)
+    × ((i : ℕ) → i < at → key_order key (slice_index_or keys i []) ≡ Greater)
+    × ((i : ℕ) → at ≤ i → i < length keys → key_order key (slice_index_or keys i []) ≡ Less)
 
 -- no text has two ids
 abbrev pub HaveOneId : {X : Type 0} → List X → Type 0
@@ -34,10 +47,11 @@ texts_of a = map bytes_at a.texts.items
 
 -- the ids are in the order of their texts, and each text is found under its own
 pub record IsOrderOf (texts : List (List ℕ)) (ids : List ℕ) : Type 0 where
-  pub sorted : IsStrictlySortedBy (slice_cmp nat_cmp) (keys_of (with_ids texts ids))
-  pub within : All (λ id. id < length texts) ids
-  pub found : (text : List ℕ) (id : ℕ) → (lookup (is_at (slice_cmp nat_cmp text)) (with_ids texts ids)
-      ≡ Some id) ↔ (slice_get texts id ≡ Some text)
+  pub sorted : IsStrictlySortedBy key_order (keys_of (with_ids texts ids))
+  pub within : AllByRecursion (λ id. id < length texts) ids
+  pub found : (text : List ℕ) (id : ℕ)
+      → (lookup (is_at (key_order text)) (with_ids texts ids) ≡ Some id)
+      ↔ (slice_get texts id ≡ Some text)
 
 abbrev pub IsIndexed : Inside → Type 0
 IsIndexed a = IsOrderOf (texts_of a) a.order.items

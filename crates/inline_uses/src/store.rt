@@ -2,7 +2,8 @@
 ghost use Rattle.std.specs.Prelude.{◌≡◌, ℕ, ◌<◌, ◌≤◌, true, false, [], Some, length, map, slice_get, slice_index_or, is_some, option_copied, IfOk, IfErr, OnOk, OnErr, IsOk, IsSome};
 ghost use Rattle.std.specs.Map.{keys_of};
 ghost use Rattle.std.specs.Ordering.{is_gt};
-ghost use Rattle.inline_uses.specs.Store.{AreInOrder, IsGap, key_order, entry_of, entries_between, value_of, with_value, without};
+ghost use Rattle.inline_uses.specs.Symbols.{IsGap, key_order};
+ghost use Rattle.inline_uses.specs.Store.{AreInOrder, entry_of, entries_between, value_of, with_value, without};
 
 use inlinable_string::laws::bytes_of_parts;
 use inlinable_string::{InlinableString, StringExt};

@@ -1,8 +1,8 @@
 //! A symbol table: each text has an id, and each id its text.
-ghost use Rattle.std.specs.Prelude.{◌≡◌, ℕ, ◌≤◌, ◌<◌, ◌↔◌, List, [], ◌∷◌, ◌++◌, map, length, slice_get, slice_index_or, Some, Ok, IfOk, IfErr, OnErr, OnOk, IsTrue, All, option_copied};
+ghost use Rattle.std.specs.Prelude.{◌≡◌, ℕ, ◌↔◌, List, [], ◌∷◌, ◌++◌, map, length, slice_get, Some, Ok, IfOk, IfErr, OnErr, OnOk, IsTrue, option_copied};
 ghost use Rattle.std.specs.Map.{keys_of};
-ghost use Rattle.inline_uses.specs.Store.{IsGap, key_order, AreInOrder};
-ghost use Rattle.inline_uses.specs.Symbols.{bytes_at, with_ids, text_at};
+ghost use Rattle.std.specs.List.Sorted.{IsStrictlySortedBy};
+ghost use Rattle.inline_uses.specs.Symbols.{IsGap, bytes_at, key_order, text_at, with_ids};
 
 use inlinable_string::laws::bytes_of_parts;
 use inlinable_string::{InlinableString, StringExt};
@@ -90,6 +90,7 @@ impl Symbols {
             Err(at) => {
                 let id = self.texts.len();
                 let text = InlinableString::from(self.alloc, text)?;
+                // With room in the list of ids, an id can always be inserted.
                 self.order.reserve(1)?;
                 self.texts.push(text)?;
                 self.order.insert(at, id)?;
@@ -101,7 +102,8 @@ impl Symbols {
 
 /// The index of a text's id among ids in the order of their texts, or the one at which it goes.
 fn place_of(texts: &[InlinableString], order: &[usize], text: &str) -> Result<usize, usize>
-    requires { AreInOrder (with_ids (map bytes_at texts.now) order.now) }
+    requires { IsStrictlySortedBy key_order
+        (keys_of (with_ids (map bytes_at texts.now) order.now)) }
     ensures found { IfOk result (λ at.
         slice_get (keys_of (with_ids (map bytes_at texts.now) order.now)) at ≡ Some text.now) }
     ensures gap { IfErr result (λ at.

@@ -3,8 +3,8 @@ use Rattle.std.proofs.lemmas.Fn.{always_returns_same}
 use Rattle.std.proofs.lemmas.Simd.{map-map}
 use Rattle.std.specs.Map.{keys_of}
 use Rattle.std.specs.Prelude.{IfOk, IfErr, slice_get, Some}
-use Rattle.inline_uses.specs.Symbols.{bytes_at}
-use Rattle.inline_uses.specs.Store.{key_order, IsGap, entry_of}
+use Rattle.inline_uses.specs.Symbols.{bytes_at, key_order, IsGap}
+use Rattle.inline_uses.specs.Store.{entry_of}
 use Rattle.inline_uses.proofs.Search.{searched}
 use Rattle.inline_uses.proofs.store.Store.search.Goals as goal
 
