@@ -52,59 +52,59 @@ equal Greater h = cc
 
 module _ (texts : List (List ℕ)) (ids : List ℕ) (text : List ℕ) (at : ℕ)
     (order : IsOrderOf texts ids) (gap : IsGap (keys_of (with_ids texts ids)) text at)
-    where
-  -- a text that goes at an index has no id
-  pub no_id : (id : ℕ) → slice_get texts id ≡ Some text → ⊥
-  no_id id is =
-      let found = (order.found text id).1 is in
-      let absent = (none text (with_ids texts ids) at gap).0 in
-      cc
+  where
+    -- a text that goes at an index has no id
+    pub no_id : (id : ℕ) → slice_get texts id ≡ Some text → ⊥
+    no_id id is =
+        let found = (order.found text id).1 is in
+        let absent = (none text (with_ids texts ids) at gap).0 in
+        cc
 
-  grown : with_ids (texts ++ text ∷ []) (insert ids at (length texts))
-      ≡ insert (with_ids texts ids) at (text, length texts)
-  grown = inserted_seen (λ id. (text_at (texts ++ text ∷ []) id, id)) ids at (length texts)
-      ∙ rw (with_ids_more texts text ids order.within, get_or-append_seam) refl
+    grown : with_ids (texts ++ text ∷ []) (insert ids at (length texts))
+        ≡ insert (with_ids texts ids) at (text, length texts)
+    grown = inserted_seen (λ id. (text_at (texts ++ text ∷ []) id, id)) ids at (length texts)
+        ∙ rw (with_ids_more texts text ids order.within, get_or-append_seam) refl
 
-  -- the new text is found under the next id, and the others under theirs
-  found_anew : (q : List ℕ) (id : ℕ) (b : Bool) → eq_by_cmp key_order text q ≡ b
-      → (cond b (Some (length texts)) (lookup (is_at (key_order q)) (with_ids texts ids)) ≡ Some id)
-      ↔ (slice_get (texts ++ text ∷ []) id ≡ Some q)
-  found_anew q id true is =
-      let same : text ≡ q = exact_bytes text q (equal (key_order text q) is) in (
-        (λ h. let e : length texts ≡ id = cc in
-            subst (λ n. slice_get (texts ++ text ∷ []) n ≡ Some q) e
-            (at_push texts text ∙ ap Some same)),
-        λ h. elim (from_push texts q text id h) [
-          | inl old ↦ absurd (no_id id (old ∙ ap Some (sym same)))
-          | inr new ↦ ap Some (sym new.0)
-        ],
-      )
-  found_anew q id false is = (
-    (λ h. before_push texts q text id ((order.found q id).0 h)),
-    λ h. elim (from_push texts q text id h) [
-      | inl old ↦ (order.found q id).1 old
-      | inr new ↦ let e : eq_by_cmp key_order text q ≡ true
-        = subst (λ x. eq_by_cmp key_order text x ≡ true) new.1 (ap is_eq (itself text)) in cc
-    ],
-  )
+    -- the new text is found under the next id, and the others under theirs
+    found_anew : (q : List ℕ) (id : ℕ) (b : Bool) → eq_by_cmp key_order text q ≡ b
+        → (cond b (Some (length texts)) (lookup (is_at (key_order q)) (with_ids texts ids)) ≡ Some id)
+        ↔ (slice_get (texts ++ text ∷ []) id ≡ Some q)
+    found_anew q id true is =
+        let same : text ≡ q = exact_bytes text q (equal (key_order text q) is) in (
+          (λ h. let e : length texts ≡ id = cc in
+              subst (λ n. slice_get (texts ++ text ∷ []) n ≡ Some q) e
+              (at_push texts text ∙ ap Some same)),
+          λ h. elim (from_push texts q text id h) [
+            | inl old ↦ absurd (no_id id (old ∙ ap Some (sym same)))
+            | inr new ↦ ap Some (sym new.0)
+          ],
+        )
+    found_anew q id false is = (
+      (λ h. before_push texts q text id ((order.found q id).0 h)),
+      λ h. elim (from_push texts q text id h) [
+        | inl old ↦ (order.found q id).1 old
+        | inr new ↦ let e : eq_by_cmp key_order text q ≡ true
+            = subst (λ x. eq_by_cmp key_order text x ≡ true) new.1 (ap is_eq (itself text)) in cc
+      ],
+    )
 
-  pub added : IsOrderOf (texts ++ text ∷ []) (insert ids at (length texts))
-  added =
-      let n = length texts in
-      let es = with_ids texts ids in
-      let count : length (texts ++ text ∷ []) ≡ suc n
-      = omega (arith, length-append texts (text ∷ [])) in
-      let looks : (q : List ℕ) → lookup (is_at (key_order q)) (insert es at (text, n))
-      ≡ cond (eq_by_cmp key_order text q) (Some n) (lookup (is_at (key_order q)) es)
-      = λ q. lookup-insert (eq_by_cmp_equiv nat_list_cmp_total) text n q es at
-      (none_passes_from_lookup (eq_by_cmp key_order text) es (none text es at gap).0) in
-      record {
-        sorted = rw (grown, ← inserted text es at n gap) (ordered_put es text n order.sorted);
-        within = rw count (all_inserted (λ id. id < suc n) ids at n
-            (all_below_more ids n order.within) (omega arith));
-        found = λ q id. rw (grown, looks q)
-            (found_anew q id (eq_by_cmp key_order text q) refl);
-      }
+    pub added : IsOrderOf (texts ++ text ∷ []) (insert ids at (length texts))
+    added =
+        let n = length texts in
+        let es = with_ids texts ids in
+        let count : length (texts ++ text ∷ []) ≡ suc n
+        = omega (arith, length-append texts (text ∷ [])) in
+        let looks : (q : List ℕ) → lookup (is_at (key_order q)) (insert es at (text, n))
+        ≡ cond (eq_by_cmp key_order text q) (Some n) (lookup (is_at (key_order q)) es)
+        = λ q. lookup-insert (eq_by_cmp_equiv nat_list_cmp_total) text n q es at
+        (none_passes_from_lookup (eq_by_cmp key_order text) es (none text es at gap).0) in
+        record {
+          sorted = rw (grown, ← inserted text es at n gap) (ordered_put es text n order.sorted);
+          within = rw count (all_inserted (λ id. id < suc n) ids at n
+              (all_below_more ids n order.within) (omega arith));
+          found = λ q id. rw (grown, looks q)
+              (found_anew q id (eq_by_cmp key_order text q) refl);
+        }
 
 -- an id that is at the index of a text is its own, and a text that goes at one has none
 pub found_at : (texts : List (List ℕ)) (ids : List ℕ) (text : List ℕ) (at x : ℕ)
@@ -117,4 +117,4 @@ found_at texts ids text at x order is read id =
 
 pub empty : IsOrderOf [] []
 unfolding IsStrictlySortedBy
-empty = record { sorted = tt; within = tt; found = λ text id. ((λ h. cc), λ h. cc); }
+empty = record { sorted = tt; within = tt; found = λ text id. ((λ h. cc), λ h. cc) }

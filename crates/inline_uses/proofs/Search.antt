@@ -147,8 +147,7 @@ module _ {X : Type 0} (key : List ℕ) where
   unfolding IsStrictlySortedBy
   there [] at sorted is = cc
   there (e ∷ es) zero sorted is =
-      let same : e.0 ≡ key = cc in
-      (
+      let same : e.0 ≡ key = cc in (
         e.1,
         ap (λ k. Some (k, e.1)) same,
         rw (same, itself key) refl,
@@ -284,17 +283,17 @@ removed_seen f xs at = rw (map-append, take-map, drop-map) refl
 module _ {A X : Type 0} (f : A → List ℕ × X) (xs : List A) (at : ℕ) (x : A) (key : List ℕ)
     (sorted : IsStrictlySortedBy key_order (keys_of (map f xs)))
     (is : slice_get (keys_of (map f xs)) at ≡ Some key) (read : x ≡ get_or xs at x)
-    where
-  pub seen_at : ((f x).0 ≡ key) × (lookup (is_at (key_order key)) (map f xs) ≡ Some (f x).1)
-  seen_at =
-      let entry = there key (map f xs) at sorted is in
-      let within = slice_get_within (map f xs) at _ entry.1 in
-      let seen : slice_get (map f xs) at ≡ Some (f x)
-      = slice_get-map f xs at ∙ ap (option_map f)
-      (slice_get-get_or xs at x (rw length-map at within) ∙ ap Some (sym read)) in
-      (cc, entry.2 ∙ cc)
+  where
+    pub seen_at : ((f x).0 ≡ key) × (lookup (is_at (key_order key)) (map f xs) ≡ Some (f x).1)
+    seen_at =
+        let entry = there key (map f xs) at sorted is in
+        let within = slice_get_within (map f xs) at _ entry.1 in
+        let seen : slice_get (map f xs) at ≡ Some (f x)
+        = slice_get-map f xs at ∙ ap (option_map f)
+        (slice_get-get_or xs at x (rw length-map at within) ∙ ap Some (sym read)) in
+        (cc, entry.2 ∙ cc)
 
-  pub replaced : (y : A) (value : X) → f y ≡ ((f x).0, value)
-      → map f (set xs at y) ≡ insert_entry key_order (map f xs) key value
-  replaced y value e = map-set f xs at y ∙ ap (set (map f xs) at)
-      (e ∙ ap (λ k. (k, value)) seen_at.0) ∙ sym (written key (map f xs) at value sorted is)
+    pub replaced : (y : A) (value : X) → f y ≡ ((f x).0, value)
+        → map f (set xs at y) ≡ insert_entry key_order (map f xs) key value
+    replaced y value e = map-set f xs at y ∙ ap (set (map f xs) at)
+        (e ∙ ap (λ k. (k, value)) seen_at.0) ∙ sym (written key (map f xs) at value sorted is)

@@ -31,8 +31,8 @@ fn first_with_other_id(symbols: &mut Symbols) -> Result<Option<usize>, AllocErro
 
 /// The first text that is not found by its id, or whose id is not found.
 fn first_not_found(symbols: &Symbols) -> Option<usize> {
-    MET.iter()
-        .position(|(text, id)| symbols.find(text) != Some(*id) || symbols.text(*id) != Some(*text))
+    MET.iter().position(|(text, id)| symbols.find(text) != Some(*id)
+        || symbols.text(*id) != Some(*text))
 }
 
 #[test]
