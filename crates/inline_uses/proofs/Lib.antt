@@ -1,6 +1,8 @@
 pub mod Cursor
 pub mod Entries
+pub mod Ids
 pub mod Members
+pub mod Search
 pub mod Shown
 pub mod Tables
 pub mod Trees

@@ -1,14 +1,21 @@
 -- The entries of a store, and the members of a JSON object.
-use Rattle.std.proofs.Common.{◌≡◌, ℕ, List, [], ◌∷◌, ◌++◌, Some, Less, Greater, refl, sym, ap, ◌∙◌, append-nil}
+use Rattle.std.proofs.Common.{◌≡◌, ℕ, List, [], ◌∷◌, ◌++◌, Some, Ordering, Less, Equal, Greater, refl, sym, ap, ◌∙◌, append-nil}
 use Rattle.std.proofs.lemmas.Cmp.{nat_list_cmp_total}
 use Rattle.std.proofs.lemmas.List.{append_assoc}
 use Rattle.std.specs.List.{AllByRecursion}
 use Rattle.std.specs.List.Sorted.{IsStrictlySortedBy}
 use Rattle.std.specs.Map.{keys_of}
-use Rattle.std.specs.Ordering.{ordering_reverse}
+use Rattle.std.specs.Ordering.{ordering_reverse, match_ordering}
 use Rattle.serde_json.specs.Data.{string, Members, no_members, member, put, members_depth}
-use Rattle.inline_uses.proofs.Entries.{by_order}
-use Rattle.inline_uses.specs.Store.{Entries, key_order, AreInOrder, with_value, with_members}
+use Rattle.inline_uses.specs.Symbols.{key_order}
+use Rattle.inline_uses.specs.Store.{Entries, AreInOrder, with_value, with_members}
+
+-- f of either of an order
+by_order : {A B : Type 0} (f : A → B) (o : Ordering) (x y z : A) (w : B) → f z ≡ w
+    → f (match_ordering o x y z) ≡ match_ordering o (f x) (f y) w
+by_order f Less x y z w e = refl
+by_order f Equal x y z w e = refl
+by_order f Greater x y z w e = e
 
 -- the members of a JSON object with the values as strings under their keys
 abbrev pub members_of : Entries → Members

@@ -24,16 +24,6 @@ from_push (z ∷ xs) x y (suc i) is = elim (from_push xs x y i is) [
   | inr new ↦ inr (ap suc new.0, new.1)
 ]
 
--- what is found has p, and where nothing is found none has
-pub if_found : (o : Option ℕ) (p : ℕ → Type 0) → ((i : ℕ) → o ≡ Some i → p i) → IfSome o p
-if_found None p found = search rules
-if_found (Some i) p found = found i refl
-
-pub if_not_found : (o : Option ℕ) (p : ℕ → Type 0) → ((i : ℕ) → p i → o ≡ Some i)
-    → IfNone o ((i : ℕ) → ¬ (p i))
-if_not_found None p finds = λ i h. let e : None ≡ Some i = finds i h in cc
-if_not_found (Some i) p finds = search rules
-
 -- a text that has no id gets one
 pub one_id_pushed : {X : Type 0} (texts : List X) (text : X)
     → ((i : ℕ) → ¬ (slice_get texts i ≡ Some text)) → HaveOneId texts
@@ -49,35 +39,3 @@ one_id_pushed texts text none once i j t is js =
         | inr newer ↦ new.0 ∙ sym newer.0
       ]
     ]
-
--- and is found under it, where f found the others under theirs
-pub found_pushed : {K : Type 0} (f g : K → Option ℕ) (bytes : K → List ℕ) (same : K → Bool)
-    (k : K) (texts : List (List ℕ))
-    → ((i : ℕ) → ¬ (slice_get texts i ≡ Some (bytes k)))
-    → ((q : K) → Decides (same q) (bytes k ≡ bytes q))
-    → ((q : K) (id : ℕ) → (f q ≡ Some id) ↔ (slice_get texts id ≡ Some (bytes q)))
-    → ((q : K) → g q ≡ cond (same q) (Some (length texts)) (f q))
-    → (q : K) (id : ℕ)
-    → (g q ≡ Some id) ↔ (slice_get (texts ++ bytes k ∷ []) id ≡ Some (bytes q))
-found_pushed f g bytes same k texts none tells found sets q id =
-    by_test (same q) (tells q) (sets q)
-  where
-    by_test : (b : Bool) → Decides b (bytes k ≡ bytes q)
-        → g q ≡ cond b (Some (length texts)) (f q)
-        → (g q ≡ Some id) ↔ (slice_get (texts ++ bytes k ∷ []) id ≡ Some (bytes q))
-    by_test true told is = (
-      (λ h. let e : length texts ≡ id = cc in
-          subst (λ n. slice_get (texts ++ bytes k ∷ []) n ≡ Some (bytes q)) e
-          (at_push texts (bytes k) ∙ ap Some (told.0 refl))),
-      λ h. elim (from_push texts (bytes q) (bytes k) id h) [
-        | inl old ↦ absurd (none id (old ∙ ap Some (sym (told.0 refl))))
-        | inr new ↦ is ∙ ap Some (sym new.0)
-      ],
-    )
-    by_test false told is = (
-      (λ h. before_push texts (bytes q) (bytes k) id ((found q id).0 (sym is ∙ h))),
-      λ h. elim (from_push texts (bytes q) (bytes k) id h) [
-        | inl old ↦ is ∙ (found q id).1 old
-        | inr new ↦ let e : false ≡ true = told.1 new.1 in cc
-      ],
-    )

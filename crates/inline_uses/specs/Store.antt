@@ -1,26 +1,20 @@
 -- What the contracts of a store cite: its whole state is a list of keys with their values, each as
 -- its bytes, in which each key stands once, in the order of the keys.
-use Rattle.std.specs.Prelude.{ℕ, List, [], Option, Some, map, option_and_then}
-use Rattle.std.specs.declared.cmp.Ordering.{Ordering}
-use Rattle.std.specs.Ordering.{nat_cmp}
-use Rattle.std.specs.Cmp.Lexicographic.{slice_cmp}
+use Rattle.std.specs.Prelude.{◌&&◌, not, ℕ, List, [], Option, Some, map, filter, option_and_then}
+use Rattle.std.specs.Ordering.{is_gt}
 use Rattle.std.specs.List.Sorted.{IsStrictlySortedBy}
 use Rattle.std.specs.Map.{keys_of, lookup, remove_entry}
 use Rattle.std.specs.BTreeMap.{is_at, insert_entry}
 use Rattle.serde_json.specs.Data.{Members, no_members, member}
 use Rattle.serde_json.specs.Find.{as_object, as_str}
 use Rattle.serde_json.specs.Read.{read}
-use Rattle.inline_uses.specs.Symbols.{bytes_at}
+use Rattle.inline_uses.specs.Symbols.{bytes_at, key_order}
 use Rattle.inlinable_string.specs.declared.inlinable_string.InlinableStringN.{InlinableStringN}
 use Rattle.inline_uses.specs.declared.store.Store.TheInside.{Inside}
 
 -- keys with their values
 abbrev pub Entries : Type 0
 Entries = List (List ℕ × List ℕ)
-
--- how keys are ordered: by their bytes, a front before the whole
-abbrev pub key_order : List ℕ → List ℕ → Ordering
-key_order = slice_cmp nat_cmp
 
 -- each key is below those after it
 abbrev pub AreInOrder : Entries → Type 0
@@ -38,13 +32,18 @@ with_value entries key value = insert_entry key_order entries key value
 abbrev pub without : Entries → List ℕ → Entries
 without entries key = remove_entry (is_at (key_order key)) entries
 
+-- the entries whose keys are from one up to and not including another
+abbrev pub entries_between : Entries → List ℕ → List ℕ → Entries
+entries_between entries from to = filter
+    (λ e. not (is_gt (key_order from e.0)) && is_gt (key_order to e.0)) entries
+
 -- a key with its value, which lie anywhere
 abbrev pub entry_of : InlinableStringN 30 × InlinableStringN 30 → List ℕ × List ℕ
 entry_of entry = (bytes_at entry.0, bytes_at entry.1)
 
 -- the keys of a store with their values
 abbrev pub entries_of : Inside → Entries
-entries_of a = map entry_of a.entries.entries
+entries_of a = map entry_of a.entries.items
 
 -- the entries with the members of a JSON object put in one after another, if each is a string
 abbrev pub with_members : Entries → Members → Option Entries

@@ -1,44 +1,52 @@
 //! A store of texts under texts, in the order of their keys.
-ghost use Rattle.std.specs.Prelude.{◌≡◌, ◌≤◌, [], length, map, is_some, option_copied, IfOk, OnOk, OnErr, IsOk, IsSome};
-ghost use Rattle.inline_uses.specs.Store.{AreInOrder, entry_of, value_of, with_value, without};
+ghost use Rattle.std.specs.Prelude.{◌≡◌, ℕ, ◌<◌, ◌≤◌, true, false, [], Some, length, map, slice_get, slice_index_or, is_some, option_copied, IfOk, IfErr, OnOk, OnErr, IsOk, IsSome};
+ghost use Rattle.std.specs.Map.{keys_of};
+ghost use Rattle.std.specs.Ordering.{is_gt};
+ghost use Rattle.inline_uses.specs.Symbols.{IsGap, key_order};
+ghost use Rattle.inline_uses.specs.Store.{AreInOrder, entry_of, entries_between, value_of, with_value, without};
 
 use inlinable_string::laws::bytes_of_parts;
 use inlinable_string::{InlinableString, StringExt};
 use std::alloc::{AllocError, Global};
-use std::collections::BTreeMap;
-use std::collections::btree_map::Iter;
 use std::marker::Model;
 
 pub mod json;
 
-/// Texts under texts. A contract sees the list of the keys with their values, each as its bytes.
+/// A key and its value.
+pub type Entry = (InlinableString, InlinableString);
+
+/// Texts under texts, in the order of their keys. A search takes a number of comparisons that is
+/// logarithmic in the number of keys, and an insertion or a removal moves the entries after it: each
+/// is stored once, and a look-up allocates nothing. A contract sees the list of the keys with their
+/// values, each as its bytes.
 #[derive(Drop)]
 pub struct Store {
     alloc: Global,
-    entries: BTreeMap<InlinableString, InlinableString>,
+    entries: Vec<Entry>,
 }
 
 impl Model for Store {
-    ghost use Rattle.inline_uses.specs.Store.{Entries, entries_of};
+    ghost use Rattle.inline_uses.specs.Store.{Entries, entries_of, AreInOrder};
 
     ghost Value = { Entries };
 
     ghost view = { entries_of };
+
+    ghost invariant = { λ s. AreInOrder (entries_of s) };
 }
 
 impl Store {
-    /// The store of nothing.
+    /// Returns the store of no key.
     pub fn new(alloc: Global) -> Self
         ensures { result ≡ [] }
     {
         Store {
             alloc,
-            entries: BTreeMap::new(alloc),
+            entries: Vec::new(alloc),
         }
     }
 
-    /// How many keys have a value.
-    #[tactic(auto, using(crate::proofs::Entries::in_order))]
+    /// Returns the number of keys.
     pub fn len(&self) -> usize
         ensures count { result ≡ length self.now }
         ensures order { AreInOrder self.now }
@@ -46,56 +54,91 @@ impl Store {
         self.entries.len()
     }
 
-    /// The value under a key, if it has one. Only a key of more than 30 bytes can be refused
-    /// memory.
-    pub fn get(&self, key: &str) -> Result<Option<&str>, AllocError>
-        ensures value { IfOk result (λ value. option_copied value ≡ value_of self.now key.now) }
-        ensures short { length key.now ≤ 30 → IsOk result }
+    /// Returns the value under a key, if it has one. Cannot fail, whatever the key's length.
+    pub fn get(&self, key: &str) -> Option<&str>
+        ensures { option_copied result ≡ value_of self.now key.now }
     {
-        bytes_of_parts();
-        let key = InlinableString::from(self.alloc, key)?;
-        let Some(value) = self.entries.get(&key) else {
-            return Ok(None);
-        };
-        Ok(Some(value.as_str()))
-    }
-
-    /// Puts a value under a key, in the place of the one that it had. A short value under a short
-    /// key that has one is not refused.
-    pub fn put(&mut self, key: &str, value: &str) -> Result<(), AllocError>
-        ensures ok { OnOk result (self.new ≡ with_value self.old key.now value.now) }
-        ensures err { OnErr result (self.new ≡ self.old) }
-        ensures short { IsSome (value_of self.old key.now) → length key.now ≤ 30
-            → length value.now ≤ 30 → IsOk result }
-    {
-        bytes_of_parts();
-        let key = InlinableString::from(self.alloc, key)?;
-        let value = InlinableString::from(self.alloc, value)?;
-        match self.entries.insert(key, value) {
-            Ok(_) => Ok(()),
-            Err(_) => Err(AllocError),
+        match self.search(key) {
+            Ok(at) => Some(self.entries[at].1.as_str()),
+            Err(_) => None,
         }
     }
 
-    /// Takes a key out with its value, and tells whether it was there. Only a key of more than 30
-    /// bytes can be refused memory.
-    pub fn delete(&mut self, key: &str) -> Result<bool, AllocError>
-        ensures ok { OnOk result (self.new ≡ without self.old key.now) }
-        ensures found { IfOk result (λ found. found ≡ is_some (value_of self.old key.now)) }
+    /// Puts a value under a key, in place of the one that it had. Fails only if an allocation does,
+    /// and never if the key has a value and the new one has at most 30 bytes; the store is then
+    /// unchanged.
+    pub fn put(&mut self, key: &str, value: &str) -> Result<(), AllocError>
+        ensures ok { OnOk result (self.new ≡ with_value self.old key.now value.now) }
         ensures err { OnErr result (self.new ≡ self.old) }
-        ensures short { length key.now ≤ 30 → IsOk result }
+        ensures short { IsSome (value_of self.old key.now) → length value.now ≤ 30 → IsOk result }
     {
         bytes_of_parts();
-        let key = InlinableString::from(self.alloc, key)?;
-        Ok(self.entries.remove(&key).is_some())
+        let value = InlinableString::from(self.alloc, value)?;
+        match self.search(key) {
+            Ok(at) => self.entries[at].1 = value,
+            Err(at) => {
+                let key = InlinableString::from(self.alloc, key)?;
+                self.entries.insert(at, (key, value))?;
+            }
+        }
+        Ok(())
     }
 
-    /// The keys with their values, in the order of the keys.
-    #[tactic(auto, using(crate::proofs::Entries::in_order))]
-    pub fn scan(&self) -> Iter<'_, InlinableString, InlinableString>
-        ensures all { map entry_of result ≡ self.now }
+    /// Removes a key with its value, and returns whether it was there. Cannot fail.
+    pub fn delete(&mut self, key: &str) -> bool
+        ensures left { self.new ≡ without self.old key.now }
+        ensures found { result ≡ is_some (value_of self.old key.now) }
+    {
+        match self.search(key) {
+            Ok(at) => {
+                let _ = self.entries.remove(at);
+                true
+            }
+            Err(_) => false,
+        }
+    }
+
+    /// Returns the keys with their values, in the order of the keys.
+    pub fn scan(&self) -> &[Entry]
+        ensures all { map entry_of result.now ≡ self.now }
         ensures order { AreInOrder self.now }
     {
-        self.entries.iter()
+        &self.entries
+    }
+
+    /// Returns the keys from `from` up to and not including `to` with their values, in the order of
+    /// the keys: none if `to` is not after `from`.
+    pub fn range(&self, from: &str, to: &str) -> &[Entry]
+        ensures between { map entry_of result.now ≡ entries_between self.now from.now to.now }
+        ensures order { AreInOrder self.now }
+    {
+        let start = self.first_from(from);
+        let end = self.first_from(to).max(start);
+        &self.entries[start..end]
+    }
+
+    /// The index of the first key that is not below this one.
+    fn first_from(&self, key: &str) -> usize
+        ensures within { result ≤ length self.now }
+        ensures below { (i : ℕ) → i < result
+            → is_gt (key_order key.now (slice_index_or (keys_of self.now) i [])) ≡ true }
+        ensures above { (i : ℕ) → result ≤ i → i < length self.now
+            → is_gt (key_order key.now (slice_index_or (keys_of self.now) i [])) ≡ false }
+    {
+        match self.search(key) {
+            Ok(at) => at,
+            Err(at) => at,
+        }
+    }
+
+    /// The index of a key, or the one at which it would be inserted.
+    fn search(&self, key: &str) -> Result<usize, usize>
+        ensures order { AreInOrder self.now }
+        ensures found { IfOk result (λ at. slice_get (keys_of self.now) at ≡ Some key.now) }
+        ensures gap { IfErr result (λ at. IsGap (keys_of self.now) key.now at) }
+    {
+        bytes_of_parts();
+        self.entries
+            .binary_search_by(|entry| entry.0.as_str().as_bytes().cmp(key.as_bytes()))
     }
 }

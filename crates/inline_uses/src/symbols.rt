@@ -1,20 +1,24 @@
 //! A symbol table: each text has an id, and each id its text.
-ghost use Rattle.std.specs.Prelude.{◌≡◌, ℕ, ◌≤◌, ◌↔◌, List, [], ◌∷◌, ◌++◌, length, slice_get, Some, Ok, IfOk, OnErr, IfSome, IfNone, OnOk, IsOk, IsTrue, option_copied};
-ghost use Rattle.inline_uses.specs.Symbols.{bytes_at};
+ghost use Rattle.std.specs.Prelude.{◌≡◌, ℕ, ◌↔◌, List, [], ◌∷◌, ◌++◌, map, length, slice_get, Some, Ok, IfOk, IfErr, OnErr, OnOk, IsTrue, option_copied};
+ghost use Rattle.std.specs.Map.{keys_of};
+ghost use Rattle.std.specs.List.Sorted.{IsStrictlySortedBy};
+ghost use Rattle.inline_uses.specs.Symbols.{IsGap, bytes_at, key_order, text_at, with_ids};
 
 use inlinable_string::laws::bytes_of_parts;
 use inlinable_string::{InlinableString, StringExt};
 use std::alloc::{AllocError, Global};
-use std::collections::HashMap;
+use std::cmp::Ordering;
 use std::marker::Model;
 
-/// Texts with their ids: a new text gets the number of those before it. A contract sees the list of
-/// the texts, each as its bytes.
+/// Texts with their ids: a new text gets the number of those before it. Each is stored once, beside
+/// a list of the ids in the order of their texts. A search takes a number of comparisons that is
+/// logarithmic in the number of texts, whatever they are, since nothing is hashed; a new text moves
+/// the ids after its own in that list. A contract sees the list of the texts, each as its bytes.
 #[derive(Drop)]
 pub struct Symbols {
     alloc: Global,
-    ids: HashMap<InlinableString, usize>,
     texts: Vec<InlinableString>,
+    order: Vec<usize>,
 }
 
 impl Model for Symbols {
@@ -30,18 +34,18 @@ impl Model for Symbols {
 }
 
 impl Symbols {
-    /// The table of no text.
+    /// Returns the table of no text.
     pub fn new(alloc: Global) -> Self
         ensures { result ≡ [] }
     {
         Symbols {
             alloc,
-            ids: HashMap::new(alloc),
             texts: Vec::new(alloc),
+            order: Vec::new(alloc),
         }
     }
 
-    /// How many texts have an id.
+    /// Returns the number of texts that have an id.
     pub fn len(&self) -> usize
         ensures count { result ≡ length self.now }
         ensures once { (i j : ℕ) (text : List ℕ)
@@ -50,50 +54,17 @@ impl Symbols {
         self.texts.len()
     }
 
-    /// The id of a text, if it has one. Only a text of more than 30 bytes can be refused memory.
-    pub fn find(&self, text: &str) -> Result<Option<usize>, AllocError>
-        ensures known { IfOk result (λ id. IfSome id
-            (λ id. slice_get self.now id ≡ Some text.now)) }
-        ensures unknown { IfOk result (λ id. IfNone id
-            ((i : ℕ) → ¬ (slice_get self.now i ≡ Some text.now))) }
-        ensures short { length text.now ≤ 30 → IsOk result }
+    /// Returns the id of a text, if it has one. Cannot fail, whatever the text's length.
+    pub fn find(&self, text: &str) -> Option<usize>
+        ensures { (id : ℕ) → (result ≡ Some id) ↔ (slice_get self.now id ≡ Some text.now) }
     {
-        bytes_of_parts();
-        let key = InlinableString::from(self.alloc, text)?;
-        Ok(self.id_of(&key))
-    }
-
-    /// The id of a text that is there as a key.
-    fn id_of(&self, key: &InlinableString) -> Option<usize>
-        ensures known { IfSome result (λ id. slice_get self.now id ≡ Some (bytes_at key.now)) }
-        ensures unknown { IfNone result
-            ((i : ℕ) → ¬ (slice_get self.now i ≡ Some (bytes_at key.now))) }
-        ensures only { (id : ℕ) → slice_get self.now id ≡ Some (bytes_at key.now)
-            → result ≡ Some id }
-    {
-        self.ids.get(key).copied()
-    }
-
-    /// Gives the next id to a text that has none.
-    fn add(&mut self, key: InlinableString) -> Result<usize, AllocError>
-        requires { (i : ℕ) → ¬ (slice_get self.old i ≡ Some (bytes_at key)) }
-        ensures id { IfOk result (λ id. id ≡ length self.old) }
-        ensures ok { OnOk result (self.new ≡ self.old ++ bytes_at key ∷ []) }
-        ensures err { OnErr result (self.new ≡ self.old) }
-    {
-        let copy = key.clone()?;
-        let id = self.texts.len();
-        self.texts.push(copy)?;
-        match self.ids.insert(key, id) {
-            Ok(_) => Ok(id),
-            Err(_) => {
-                let _ = self.texts.pop();
-                Err(AllocError)
-            }
+        match place_of(&self.texts, &self.order, text) {
+            Ok(at) => Some(self.order[at]),
+            Err(_) => None,
         }
     }
 
-    /// The text of an id.
+    /// Returns the text of an id.
     pub fn text(&self, id: usize) -> Option<&str>
         ensures { option_copied result ≡ slice_get self.now id }
     {
@@ -101,14 +72,12 @@ impl Symbols {
         Some(text.as_str())
     }
 
-    /// The id of a text, which gets the next one if it has none. A short text that is known is not
-    /// refused.
+    /// Returns the id of a text, which gets the next one if it has none. Cannot fail if the text has
+    /// one, whatever its length; after a failure the table is unchanged.
     pub fn intern(&mut self, text: &str) -> Result<usize, AllocError>
         ensures id { IfOk result (λ id. slice_get self.new id ≡ Some text.now) }
         ensures known { (id : ℕ) → slice_get self.old id ≡ Some text.now
-            → (self.new ≡ self.old) × IfOk result (λ given. given ≡ id) }
-        ensures short { (id : ℕ) → slice_get self.old id ≡ Some text.now
-            → length text.now ≤ 30 → result ≡ Ok id }
+            → (self.new ≡ self.old) × (result ≡ Ok id) }
         ensures new { OnOk result (((i : ℕ) → ¬ (slice_get self.old i ≡ Some text.now))
             → self.new ≡ self.old ++ text.now ∷ []) }
         ensures kept { (i : ℕ) (known : List ℕ) → slice_get self.old i ≡ Some known
@@ -116,31 +85,52 @@ impl Symbols {
         ensures err { OnErr result (self.new ≡ self.old) }
     {
         bytes_of_parts();
-        ids_are_kept();
-        let key = InlinableString::from(self.alloc, text)?;
-        match self.id_of(&key) {
-            Some(id) => Ok(id),
-            None => self.add(key),
+        match place_of(&self.texts, &self.order, text) {
+            Ok(at) => Ok(self.order[at]),
+            Err(at) => {
+                let id = self.texts.len();
+                let text = InlinableString::from(self.alloc, text)?;
+                // With room in the list of ids, an id can always be inserted.
+                self.order.reserve(1)?;
+                self.texts.push(text)?;
+                self.order.insert(at, id)?;
+                Ok(id)
+            }
         }
     }
 }
 
-/// A new text leaves the others under their ids, and gets the next one.
-fn ids_are_kept()
-    ensures kept { (texts : List (List ℕ)) (new known : List ℕ) (i : ℕ)
-        → slice_get texts i ≡ Some known → slice_get (texts ++ new ∷ []) i ≡ Some known }
-    ensures next { (texts : List (List ℕ)) (new : List ℕ)
-        → slice_get (texts ++ new ∷ []) (length texts) ≡ Some new }
-{}
-
-/// Gives both texts an id, and tells whether it is the same: exactly if the texts are equal. Those
-/// that had an id keep it, also if memory is refused.
-pub fn have_same_id(symbols: &mut Symbols, one: &str, other: &str) -> Result<bool, AllocError>
-    ensures same { IfOk result (λ same. IsTrue same ↔ (one.now ≡ other.now)) }
-    ensures kept { (i : ℕ) (known : List ℕ) → slice_get symbols.old i ≡ Some known
-        → slice_get symbols.new i ≡ Some known }
+/// The index of a text's id among ids in the order of their texts, or the one at which it goes.
+fn place_of(texts: &[InlinableString], order: &[usize], text: &str) -> Result<usize, usize>
+    requires { IsStrictlySortedBy key_order
+        (keys_of (with_ids (map bytes_at texts.now) order.now)) }
+    ensures found { IfOk result (λ at.
+        slice_get (keys_of (with_ids (map bytes_at texts.now) order.now)) at ≡ Some text.now) }
+    ensures gap { IfErr result (λ at.
+        IsGap (keys_of (with_ids (map bytes_at texts.now) order.now)) text.now at) }
 {
-    let first = symbols.intern(one)?;
-    let second = symbols.intern(other)?;
-    Ok(first == second)
+    order.binary_search_by(|id| compare(texts, *id, text))
+}
+
+/// How the text of an id compares to a text. Without such an id, it is compared as if empty.
+fn compare(texts: &[InlinableString], id: usize, text: &str) -> Ordering
+    ensures { result ≡ key_order (text_at (map bytes_at texts.now) id) text.now }
+{
+    let known = match texts.get(id) {
+        Some(known) => known.as_str(),
+        None => "",
+    };
+    known.as_bytes().cmp(text.as_bytes())
+}
+
+/// Returns whether both texts have an id, and the same: exactly if they are equal and known. Cannot
+/// fail, and gives neither an id.
+pub fn have_same_id(symbols: &Symbols, one: &str, other: &str) -> bool
+    ensures { IsTrue result
+        ↔ ((one.now ≡ other.now) × ((id : ℕ) × (slice_get symbols.now id ≡ Some one.now))) }
+{
+    match (symbols.find(one), symbols.find(other)) {
+        (Some(first), Some(second)) => first == second,
+        _ => false,
+    }
 }

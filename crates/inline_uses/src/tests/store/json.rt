@@ -26,23 +26,19 @@ fn is_written(store: &Store, json: &str) -> Result<bool, AllocError> {
 }
 
 /// Whether the store has these values, and so many in all.
-fn has_values(
-    store: &Store,
-    entries: &[(&str, &str, &str)],
-    count: usize,
-) -> Result<bool, AllocError> {
+fn has_values(store: &Store, entries: &[(&str, &str, &str)], count: usize) -> bool {
     for (key, value, _) in entries {
-        if store.get(key)? != Some(*value) {
-            return Ok(false);
+        if store.get(key) != Some(*value) {
+            return false;
         }
     }
-    Ok(store.len() == count)
+    store.len() == count
 }
 
 /// Whether the bytes are read as a store of this entry alone.
 fn is_read(alloc: Global, bytes: &str, entry: (&str, &str, &str)) -> Result<bool, ReadError> {
     let store = Store::from_bytes(alloc, bytes.as_bytes())?;
-    Ok(has_values(&store, &[entry], 1)?)
+    Ok(has_values(&store, &[entry], 1))
 }
 
 /// The first entry that alone is not written as its JSON or not read back. Each is put into `all`
@@ -66,7 +62,7 @@ fn is_copied(
     count: usize,
 ) -> Result<bool, ReadError> {
     let copy = copied(store)?;
-    Ok(has_values(&copy, entries, count)?)
+    Ok(has_values(&copy, entries, count))
 }
 
 #[test]
@@ -94,7 +90,7 @@ const OTHER: &[(&str, &str)] = &[
 fn of_a_key_that_is_there_twice_the_last_value_stays(rt: HostRuntime) -> Result<(), Fail> {
     for (json, value) in OTHER {
         let store = Store::from_bytes(rt.alloc(), json.as_bytes())?;
-        assert!(rt; store.get("a")? == Some(*value));
+        assert!(rt; store.get("a") == Some(*value));
     }
     Ok(())
 }
@@ -142,7 +138,7 @@ fn want_of_memory_is_told_from_what_is_no_store(rt: HostRuntime) -> Result<(), F
     drop(hoard);
     assert!(rt; written);
     assert!(rt; is_no_memory);
-    assert!(rt; store.get("key")? == Some("value"));
-    assert!(rt; copied(&store)?.get("key")? == Some("value"));
+    assert!(rt; store.get("key") == Some("value"));
+    assert!(rt; copied(&store)?.get("key") == Some("value"));
     Ok(())
 }

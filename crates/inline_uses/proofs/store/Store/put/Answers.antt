@@ -1,17 +1,45 @@
-use Rattle.std.proofs.Common.{rules, ◌≡◌}
-use Rattle.inline_uses.specs.Symbols.{bytes_at}
-use Rattle.inline_uses.proofs.Entries.{finds, puts}
+use Rattle.std.proofs.Common.{rules, ◌∙◌}
+use Rattle.inline_uses.proofs.Entries.{over, anew}
+use Rattle.inline_uses.proofs.Search.{none}
+use Rattle.inline_uses.proofs.store.Store.put.Goals.{in-Heap-2, in-Inline-2}
 use Rattle.inline_uses.proofs.store.Store.put.Goals as goal
+
+pub invariant_of-self : goal.invariant_of-self
+invariant_of-self c = (over c.args.self.now c.args.key.now c.args.value.now c.in_ok-value.value c.in-Ok.at
+    c.self.inside.entries.items c.self.view_is c.search.ensures.order (search rules)
+    c.index_mut.result.now c.in-Ok.ensures.found c.index_mut.ensures.value).1
+
+pub invariant_of-self-in-Ok-2 : goal.invariant_of-self-in-Ok-2
+invariant_of-self-in-Ok-2 c = (over c.args.self.now c.args.key.now c.args.value.now c.in_ok-value.value c.in-Ok.at
+    c.self.inside.entries.items c.self.view_is c.search.ensures.order (search rules)
+    c.index_mut.result.now c.in-Ok.ensures.found c.index_mut.ensures.value).1
 
 pub returns-in-Ok-clause-ok : goal.returns-in-Ok-clause-ok
 returns-in-Ok-clause-ok c =
-    let key : bytes_at c.in_ok-key.key ≡ c.args.key.now = search rules in
-    let value : bytes_at c.in_ok-value.value ≡ c.args.value.now = search rules in
-    rw (← c.self.view_is, ← key, ← value, c.in-Ok.ensures.entries)
-    (puts c.in_ok-key.key c.in_ok-value.value c.self.inside.entries.entries)
+    let put = over c.args.self.now c.args.key.now c.args.value.now c.in_ok-value.value c.in-Ok.at
+    c.self.inside.entries.items c.self.view_is c.search.ensures.order (search rules)
+    c.index_mut.result.now c.in-Ok.ensures.found c.index_mut.ensures.value in
+    elim c.match-index_mut-value.branch [
+      | in-Heap-2 w ↦ w.self-is ∙ put.0
+      | in-Inline-2 w ↦ w.self-is ∙ put.0
+    ]
 
-pub returns-clause-short : goal.returns-clause-short
-returns-clause-short c =
-    let key : bytes_at c.in_ok-key.key ≡ c.args.key.now = search rules in
-    rw (← c.self.view_is, ← key, ← finds c.in_ok-key.key c.self.inside.entries.entries)
-    (search rules)
+pub invariant_of-self-in-Continue-branch-3 : goal.invariant_of-self-in-Continue-branch-3
+invariant_of-self-in-Continue-branch-3 c =
+    rw c.in_ok-insert-in-Err.ensures.items (anew c.args.self.now c.args.key.now c.args.value.now c.in_ok-value.value c.in-Err.at
+    c.self.inside.entries.items c.self.view_is c.search.ensures.order (search rules)
+    c.in_ok-key-in-Err.key c.in-Err.ensures.gap (search rules)).1
+
+pub returns-in_ok-insert-in-Err-clause-ok : goal.returns-in_ok-insert-in-Err-clause-ok
+returns-in_ok-insert-in-Err-clause-ok c =
+    rw c.in_ok-insert-in-Err.ensures.items (anew c.args.self.now c.args.key.now c.args.value.now c.in_ok-value.value c.in-Err.at
+    c.self.inside.entries.items c.self.view_is c.search.ensures.order (search rules)
+    c.in_ok-key-in-Err.key c.in-Err.ensures.gap (search rules)).0
+
+pub returns-in_err-key-in-Err-clause-short : goal.returns-in_err-key-in-Err-clause-short
+returns-in_err-key-in-Err-clause-short c =
+    rw (none c.args.key.now c.args.self.now c.in-Err.at c.in-Err.ensures.gap).0 (search rules)
+
+pub returns-in_err-insert-in-Err-clause-short : goal.returns-in_err-insert-in-Err-clause-short
+returns-in_err-insert-in-Err-clause-short c =
+    rw (none c.args.key.now c.args.self.now c.in-Err.at c.in-Err.ensures.gap).0 (search rules)

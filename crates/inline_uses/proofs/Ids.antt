@@ -1,0 +1,120 @@
+-- The ids of texts in the order of their texts, and how a new text is found among them.
+use Rattle.std.proofs.Common.{arith, ◌≡◌, ◌↔◌, ℕ, zero, suc, ◌<◌, ◌≤◌, List, [], ◌∷◌, ◌++◌, length, get_or, Option, Some, None, Bool, true, false, cond, Ordering, Less, Equal, Greater, is_eq, refl, sym, ap, subst, ◌∙◌, inl, inr}
+use Rattle.std.specs.Prelude.{slice_get}
+use Rattle.std.specs.Bool.{Decides}
+use Rattle.std.specs.List.{AllByRecursion, insert}
+use Rattle.std.specs.List.Sorted.{IsStrictlySortedBy}
+use Rattle.std.specs.Map.{keys_of, lookup}
+use Rattle.std.specs.BTreeMap.{is_at}
+use Rattle.std.specs.Ordering.{eq_by_cmp}
+use Rattle.std.proofs.lemmas.Cmp.{nat_list_cmp_total, eq_by_cmp_equiv}
+use Rattle.std.proofs.lemmas.List.{get_or_append_left, length-append}
+use Rattle.std.proofs.lemmas.Map.{lookup-insert, none_passes_from_lookup}
+use Rattle.std.proofs.lemmas.Map.Lookups.{exact_bytes}
+use Rattle.std.proofs.Math.Seq.{get_or-append_seam}
+use Rattle.inline_uses.specs.Symbols.{key_order, IsGap, HaveOneId, text_at, with_ids, IsOrderOf}
+use Rattle.inline_uses.proofs.Search.{itself, seen_at, inserted, inserted_seen, none, ordered_put}
+use Rattle.inline_uses.proofs.Tables.{at_push, before_push, from_push}
+
+-- no text has two ids
+pub once : (texts : List (List ℕ)) (ids : List ℕ) → IsOrderOf texts ids → HaveOneId texts
+once texts ids order i j text is js =
+    let e = (order.found text i).1 is in
+    let f = (order.found text j).1 js in
+    cc
+
+-- each id of a list has what is so of all, also after a new one that has it
+all_inserted : (P : ℕ → Type 0) (xs : List ℕ) (at x : ℕ) → AllByRecursion P xs → P x
+    → AllByRecursion P (insert xs at x)
+all_inserted P [] zero x all p = (p, tt)
+all_inserted P [] (suc at) x all p = (p, tt)
+all_inserted P (y ∷ xs) zero x all p = (p, all)
+all_inserted P (y ∷ xs) (suc at) x all p = (all.0, all_inserted P xs at x all.1 p)
+
+all_below_more : (xs : List ℕ) (n : ℕ) → AllByRecursion (λ x. x < n) xs
+    → AllByRecursion (λ x. x < suc n) xs
+all_below_more [] n all = tt
+all_below_more (x ∷ xs) n all = (omega (arith, all.0), all_below_more xs n all.1)
+
+-- ids keep their texts when there is one more
+with_ids_more : (texts : List (List ℕ)) (text : List ℕ) (ids : List ℕ)
+    → AllByRecursion (λ id. id < length texts) ids
+    → with_ids (texts ++ text ∷ []) ids ≡ with_ids texts ids
+with_ids_more texts text [] all = refl
+with_ids_more texts text (id ∷ ids) all =
+    rw (get_or_append_left texts (text ∷ []) [] id all.0)
+    (ap (λ rest. (text_at texts id, id) ∷ rest) (with_ids_more texts text ids all.1))
+
+equal : (o : Ordering) → is_eq o ≡ true → o ≡ Equal
+equal Less h = cc
+equal Equal h = refl
+equal Greater h = cc
+
+module _ (texts : List (List ℕ)) (ids : List ℕ) (text : List ℕ) (at : ℕ)
+    (order : IsOrderOf texts ids) (gap : IsGap (keys_of (with_ids texts ids)) text at)
+  where
+    -- a text that goes at an index has no id
+    pub no_id : (id : ℕ) → slice_get texts id ≡ Some text → ⊥
+    no_id id is =
+        let found = (order.found text id).1 is in
+        let absent = (none text (with_ids texts ids) at gap).0 in
+        cc
+
+    grown : with_ids (texts ++ text ∷ []) (insert ids at (length texts))
+        ≡ insert (with_ids texts ids) at (text, length texts)
+    grown = inserted_seen (λ id. (text_at (texts ++ text ∷ []) id, id)) ids at (length texts)
+        ∙ rw (with_ids_more texts text ids order.within, get_or-append_seam) refl
+
+    -- the new text is found under the next id, and the others under theirs
+    found_anew : (q : List ℕ) (id : ℕ) (b : Bool) → eq_by_cmp key_order text q ≡ b
+        → (cond b (Some (length texts)) (lookup (is_at (key_order q)) (with_ids texts ids)) ≡ Some id)
+        ↔ (slice_get (texts ++ text ∷ []) id ≡ Some q)
+    found_anew q id true is =
+        let same : text ≡ q = exact_bytes text q (equal (key_order text q) is) in (
+          (λ h. let e : length texts ≡ id = cc in
+              subst (λ n. slice_get (texts ++ text ∷ []) n ≡ Some q) e
+              (at_push texts text ∙ ap Some same)),
+          λ h. elim (from_push texts q text id h) [
+            | inl old ↦ absurd (no_id id (old ∙ ap Some (sym same)))
+            | inr new ↦ ap Some (sym new.0)
+          ],
+        )
+    found_anew q id false is = (
+      (λ h. before_push texts q text id ((order.found q id).0 h)),
+      λ h. elim (from_push texts q text id h) [
+        | inl old ↦ (order.found q id).1 old
+        | inr new ↦ let e : eq_by_cmp key_order text q ≡ true
+            = subst (λ x. eq_by_cmp key_order text x ≡ true) new.1 (ap is_eq (itself text)) in cc
+      ],
+    )
+
+    pub added : IsOrderOf (texts ++ text ∷ []) (insert ids at (length texts))
+    added =
+        let n = length texts in
+        let es = with_ids texts ids in
+        let count : length (texts ++ text ∷ []) ≡ suc n
+        = omega (arith, length-append texts (text ∷ [])) in
+        let looks : (q : List ℕ) → lookup (is_at (key_order q)) (insert es at (text, n))
+        ≡ cond (eq_by_cmp key_order text q) (Some n) (lookup (is_at (key_order q)) es)
+        = λ q. lookup-insert (eq_by_cmp_equiv nat_list_cmp_total) text n q es at
+        (none_passes_from_lookup (eq_by_cmp key_order text) es (none text es at gap).0) in
+        record {
+          sorted = rw (grown, ← inserted text es at n gap) (ordered_put es text n order.sorted);
+          within = rw count (all_inserted (λ id. id < suc n) ids at n
+              (all_below_more ids n order.within) (omega arith));
+          found = λ q id. rw (grown, looks q)
+              (found_anew q id (eq_by_cmp key_order text q) refl);
+        }
+
+-- an id that is at the index of a text is its own, and a text that goes at one has none
+pub found_at : (texts : List (List ℕ)) (ids : List ℕ) (text : List ℕ) (at x : ℕ)
+    → IsOrderOf texts ids → slice_get (keys_of (with_ids texts ids)) at ≡ Some text
+    → x ≡ get_or ids at x → (id : ℕ) → (Some x ≡ Some id) ↔ (slice_get texts id ≡ Some text)
+found_at texts ids text at x order is read id =
+    subst (λ o. (o ≡ Some id) ↔ (slice_get texts id ≡ Some text))
+    (seen_at (λ id. (text_at texts id, id)) ids at x text order.sorted is read).1
+    (order.found text id)
+
+pub empty : IsOrderOf [] []
+unfolding IsStrictlySortedBy
+empty = record { sorted = tt; within = tt; found = λ text id. ((λ h. cc), λ h. cc) }

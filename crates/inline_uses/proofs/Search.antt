@@ -1,0 +1,299 @@
+-- What a search among keys in order finds, and what an edit there does to the entries.
+use Rattle.std.proofs.Common.{arith, ◌≡◌, ℕ, zero, suc, ◌+◌, ◌-◌, ◌<◌, ◌≤◌, List, [], ◌∷◌, map, length, get_or, set, Some, None, Option, Result, Ok, Err, IfOk, IfErr, Bool, true, false, cond, Ordering, Less, Equal, Greater, is_eq, refl, sym, ap, subst, ◌∙◌, take, drop, option_map}
+use Rattle.std.specs.Prelude.{slice_get}
+use Rattle.std.proofs.lemmas.Cmp.{nat_list_cmp_total}
+use Rattle.std.proofs.lemmas.List.{get_or-map, length-map, map-append, map-set, take-map, drop-map}
+use Rattle.std.proofs.lemmas.Map.Keys.{Less-from_sorted}
+use Rattle.std.proofs.lemmas.Map.Lookups.{exact_bytes}
+use Rattle.std.proofs.lemmas.Option.{slice_get-get_or, slice_get-map, slice_get_within, get_or_from_slice_get}
+use Rattle.std.specs.List.{AllByRecursion, insert, remove, filter}
+use Rattle.std.specs.List.Sorted.{IsStrictlySortedBy, IsSearchInRange, IsBinarySearchResult, IsNonDecreasingBy}
+use Rattle.std.specs.Map.{keys_of, lookup, remove_entry}
+use Rattle.std.specs.BTreeMap.{is_at, insert_entry}
+use Rattle.std.specs.Ordering.{ordering_reverse, ordering_index, match_ordering, is_gt}
+use Rattle.inline_uses.specs.Symbols.{key_order, IsGap}
+
+-- a key is equal to itself, and above one that is below it
+pub itself : (key : List ℕ) → key_order key key ≡ Equal
+itself key = by (key_order key key) (nat_list_cmp_total.antisymm key key)
+  where
+    by : (o : Ordering) → o ≡ ordering_reverse o → o ≡ Equal
+    by Less h = cc
+    by Equal h = refl
+    by Greater h = cc
+
+turned : (a b : List ℕ) (o : Ordering) → key_order a b ≡ o → key_order b a ≡ ordering_reverse o
+turned a b o h = nat_list_cmp_total.antisymm b a ∙ ap ordering_reverse h
+
+-- comparisons with a key rise from a key to one above it
+rise : (a b key : List ℕ) → key_order a b ≡ Less
+    → ordering_index (key_order a key) ≤ ordering_index (key_order b key)
+rise a b key h = by (key_order a key) (key_order b key) refl refl
+  where
+    by : (o p : Ordering) → key_order a key ≡ o → key_order b key ≡ p
+        → ordering_index o ≤ ordering_index p
+    by Less p f g = omega arith
+    by Equal Less f g =
+        let above = turned a b Less h in
+        let e = ap (key_order b) (exact_bytes a key f) in cc
+    by Equal Equal f g = omega arith
+    by Equal Greater f g = omega arith
+    by Greater Less f g = let e = nat_list_cmp_total.trans a b key h g in cc
+    by Greater Equal f g = let e = ap (key_order a) (exact_bytes b key g) in cc
+    by Greater Greater f g = omega arith
+
+module _ {X : Type 0} (f : X → List ℕ) (xs : List X) (key : List ℕ) where
+  rises : IsStrictlySortedBy key_order (map f xs)
+      → IsNonDecreasingBy (λ x. ordering_index (key_order (f x) key)) xs
+  rises sorted i j d le within =
+      let rank = λ (k : ℕ). ordering_index (key_order (f (get_or xs k d)) key) in
+      let less : i < j → rank i ≤ rank j = λ l. rise _ _ key
+      (subst (λ q. key_order q (f (get_or xs j d)) ≡ Less) (get_or-map f xs i d (f d) (omega arith))
+      (subst (λ q. key_order (get_or (map f xs) i (f d)) q ≡ Less) (get_or-map f xs j d (f d) within)
+      (Less-from_sorted key_order (map f xs) i j (f d) sorted l (rw length-map within)))) in
+      let equal : i ≡ j → rank i ≡ rank j = λ e. ap rank e in
+      grind (arith, less, equal)
+
+  at_key : (P : List ℕ → Type 0) (i : ℕ) → i < length xs → ((d : X) → P (f (get_or xs i d)))
+      → P (get_or (map f xs) i [])
+  at_key P i within h = by xs within h
+    where
+      by : (ys : List X) → i < length ys → ((d : X) → P (f (get_or ys i d)))
+          → P (get_or (map f ys) i [])
+      by [] within h = absurd (omega arith)
+      by (y ∷ ys) within h = subst P (sym (get_or-map f (y ∷ ys) i y [] within)) (h y)
+
+  -- a search by a text among texts in order finds it, or the index at which it goes
+  pub searched : (r : Result ℕ ℕ) → IsStrictlySortedBy key_order (map f xs)
+      → IsSearchInRange r (length xs) → IsBinarySearchResult (λ x. key_order (f x) key) xs r
+      → (IfOk r (λ at. slice_get (map f xs) at ≡ Some key)) × IfErr r (IsGap (map f xs) key)
+  searched (Ok at) sorted within equal = (
+    slice_get-get_or (map f xs) at [] (rw length-map within)
+        ∙ ap Some (exact_bytes _ _ (at_key (λ k. key_order k key ≡ Equal) at within equal)),
+    tt,
+  )
+  searched (Err at) sorted within parted =
+      let parts = parted (rises sorted) in (
+        tt,
+        (
+          rw length-map within,
+          (λ i less. turned _ key Less (at_key (λ k. key_order k key ≡ Less) i (omega arith)
+              (λ d. parts.0 i d (omega arith) less))),
+          λ i le less. let below : i < length xs = rw length-map at less in
+              turned _ key Greater (at_key (λ k. key_order k key ≡ Greater) i below
+              (λ d. parts.1 i d le below)),
+        ),
+      )
+
+-- a key that is among others, each above one, is above it
+above : (key k : List ℕ) (ks : List (List ℕ)) (at : ℕ)
+    → AllByRecursion (λ q. key_order k q ≡ Less) ks → slice_get ks at ≡ Some key
+    → key_order key k ≡ Greater
+above key k [] at all is = cc
+above key k (q ∷ ks) zero all is =
+    let e : q ≡ key = cc in turned k key Less (subst (λ x. key_order k x ≡ Less) e all.0)
+above key k (q ∷ ks) (suc at) all is = above key k ks at all.1 is
+
+-- a key among entries: it goes at an index, or it is there
+module _ {X : Type 0} (key : List ℕ) where
+  gap_after : (e : List ℕ × X) (es : List (List ℕ × X)) (at : ℕ)
+      → IsGap (keys_of (e ∷ es)) key (suc at) → IsGap (keys_of es) key at
+  gap_after e es at gap = (
+    omega (arith, gap.0),
+    (λ i less. gap.1 (suc i) (omega arith)),
+    λ i le less. gap.2 (suc i) (omega arith) (omega arith),
+  )
+
+  pub inserted : (es : List (List ℕ × X)) (at : ℕ) (value : X) → IsGap (keys_of es) key at
+      → insert_entry key_order es key value ≡ insert es at (key, value)
+  inserted [] zero value gap = refl
+  inserted [] (suc at) value gap = absurd (omega (arith, gap.0))
+  inserted (e ∷ es) zero value gap = rw (gap.2 0 (omega arith) (omega arith)) refl
+  inserted (e ∷ es) (suc at) value gap = rw (gap.1 0 (omega arith))
+      (ap (λ rest. e ∷ rest) (inserted es at value (gap_after e es at gap)))
+
+  -- where it goes, none is
+  pub none : (es : List (List ℕ × X)) (at : ℕ) → IsGap (keys_of es) key at
+      → (lookup (is_at (key_order key)) es ≡ None)
+      × (remove_entry (is_at (key_order key)) es ≡ es)
+  none [] at gap = (refl, refl)
+  none (e ∷ es) zero gap =
+      let rest = none es zero (
+        omega arith,
+        (λ i less. absurd (omega arith)),
+        λ i le less. gap.2 (suc i) (omega arith) (omega arith),
+      ) in
+      rw (gap.2 0 (omega arith) (omega arith)) (rest.0, ap (λ es. e ∷ es) rest.1)
+  none (e ∷ es) (suc at) gap =
+      let rest = none es at (gap_after e es at gap) in
+      rw (gap.1 0 (omega arith)) (rest.0, ap (λ es. e ∷ es) rest.1)
+
+  -- one that is there gets a value, is looked up and is taken out at its index
+  pub written : (es : List (List ℕ × X)) (at : ℕ) (value : X)
+      → IsStrictlySortedBy key_order (keys_of es) → slice_get (keys_of es) at ≡ Some key
+      → insert_entry key_order es key value ≡ set es at (key, value)
+  unfolding IsStrictlySortedBy
+  written [] at value sorted is = cc
+  written (e ∷ es) zero value sorted is =
+      let same : e.0 ≡ key = cc in rw (same, itself key) refl
+  written (e ∷ es) (suc at) value sorted is = rw (above key e.0 (keys_of es) at sorted.0 is)
+      (ap (λ rest. e ∷ rest) (written es at value sorted.1 is))
+
+  pub there : (es : List (List ℕ × X)) (at : ℕ)
+      → IsStrictlySortedBy key_order (keys_of es) → slice_get (keys_of es) at ≡ Some key
+      → (value : X) × (slice_get es at ≡ Some (key, value))
+      × (lookup (is_at (key_order key)) es ≡ Some value)
+      × (remove_entry (is_at (key_order key)) es ≡ remove es at)
+  unfolding IsStrictlySortedBy
+  there [] at sorted is = cc
+  there (e ∷ es) zero sorted is =
+      let same : e.0 ≡ key = cc in (
+        e.1,
+        ap (λ k. Some (k, e.1)) same,
+        rw (same, itself key) refl,
+        rw (same, itself key) refl,
+      )
+  there (e ∷ es) (suc at) sorted is =
+      let rest = there es at sorted.1 is in (
+        rest.0,
+        rest.1,
+        rw (above key e.0 (keys_of es) at sorted.0 is) rest.2,
+        rw (above key e.0 (keys_of es) at sorted.0 is) (ap (λ es. e ∷ es) rest.3),
+      )
+
+-- those before the index of a key are below it, and the others are not
+pub parted_at : (key : List ℕ) (keys : List (List ℕ)) (at : ℕ)
+    → IsStrictlySortedBy key_order keys → slice_get keys at ≡ Some key
+    → ((i : ℕ) → i < at → is_gt (key_order key (get_or keys i [])) ≡ true)
+    × ((i : ℕ) → at ≤ i → i < length keys
+    → is_gt (key_order key (get_or keys i [])) ≡ false)
+parted_at key keys at sorted is =
+    let here = get_or_from_slice_get keys at key [] is in
+    let within = slice_get_within keys at key is in (
+      (λ i less. ap is_gt (turned _ key Less (subst (λ k. key_order (get_or keys i []) k ≡ Less)
+          here (Less-from_sorted key_order keys i at [] sorted less within)))),
+      λ i le below.
+          let more : at < i → is_gt (key_order key (get_or keys i [])) ≡ false
+          = λ l. ap is_gt (subst (λ k. key_order k (get_or keys i []) ≡ Less) here
+          (Less-from_sorted key_order keys at i [] sorted l below)) in
+          let equal : at ≡ i → is_gt (key_order key (get_or keys i [])) ≡ false
+          = λ e. ap is_gt (ap (key_order key) (ap (λ k. get_or keys k []) (sym e) ∙ here)
+          ∙ itself key) in
+          grind (arith, more, equal),
+    )
+
+-- the entries that pass a test of their keys, where these stand together
+pub run : {X : Type 0} (test : List ℕ → Bool) (es : List (List ℕ × X)) (i n : ℕ)
+    → ((k : ℕ) → k < i → k < length es → test (get_or (keys_of es) k []) ≡ false)
+    → ((k : ℕ) → i ≤ k → k < i + n → k < length es → test (get_or (keys_of es) k []) ≡ true)
+    → ((k : ℕ) → i + n ≤ k → k < length es → test (get_or (keys_of es) k []) ≡ false)
+    → filter (λ e. test e.0) es ≡ take n (drop i es)
+run test [] zero zero before within after = refl
+run test [] zero (suc n) before within after = refl
+run test [] (suc i) zero before within after = refl
+run test [] (suc i) (suc n) before within after = refl
+run test (e ∷ es) (suc i) n before within after =
+    rw (before 0 (omega arith) (omega arith))
+    (run test es i n (λ k l b. before (suc k) (omega arith) (omega arith))
+    (λ k l m b. within (suc k) (omega arith) (omega arith) (omega arith))
+    (λ k l b. after (suc k) (omega arith) (omega arith)))
+run test (e ∷ es) zero zero before within after =
+    rw (after 0 (omega arith) (omega arith))
+    (run test es zero zero (λ k l b. absurd (omega arith))
+    (λ k l m b. absurd (omega arith))
+    (λ k l b. after (suc k) (omega arith) (omega arith)))
+run test (e ∷ es) zero (suc n) before within after =
+    rw (within 0 (omega arith) (omega arith) (omega arith)) (ap (λ rest. e ∷ rest)
+    (run test es zero n (λ k l b. absurd (omega arith))
+    (λ k l m b. within (suc k) (omega arith) (omega arith) (omega arith))
+    (λ k l b. after (suc k) (omega arith) (omega arith))))
+
+-- the order stays
+all_put : {X : Type 0} (P : List ℕ → Type 0) (es : List (List ℕ × X)) (key : List ℕ) (value : X)
+    → AllByRecursion P (keys_of es) → P key
+    → AllByRecursion P (keys_of (insert_entry key_order es key value))
+all_put P [] key value all p = (p, tt)
+all_put P (e ∷ es) key value all p =
+    by (key_order key e.0) (all_put P es key value all.1 p)
+  where
+    by : (o : Ordering) → AllByRecursion P (keys_of (insert_entry key_order es key value))
+        → AllByRecursion P (keys_of (match_ordering o ((key, value) ∷ e ∷ es) ((e.0, value) ∷ es)
+        (e ∷ insert_entry key_order es key value)))
+    by Less rest = (p, all)
+    by Equal rest = all
+    by Greater rest = (all.0, rest)
+
+all_above : (k q : List ℕ) (ks : List (List ℕ)) → key_order k q ≡ Less
+    → AllByRecursion (λ x. key_order q x ≡ Less) ks → AllByRecursion (λ x. key_order k x ≡ Less) ks
+all_above k q [] h all = tt
+all_above k q (x ∷ ks) h all =
+    (nat_list_cmp_total.trans k q x h all.0, all_above k q ks h all.1)
+
+pub ordered_put : {X : Type 0} (es : List (List ℕ × X)) (key : List ℕ) (value : X)
+    → IsStrictlySortedBy key_order (keys_of es)
+    → IsStrictlySortedBy key_order (keys_of (insert_entry key_order es key value))
+unfolding IsStrictlySortedBy
+ordered_put [] key value sorted = (tt, tt)
+ordered_put (e ∷ es) key value sorted =
+    by (key_order key e.0) refl (ordered_put es key value sorted.1)
+  where
+    by : (o : Ordering) → key_order key e.0 ≡ o
+        → IsStrictlySortedBy key_order (keys_of (insert_entry key_order es key value))
+        → IsStrictlySortedBy key_order
+        (keys_of (match_ordering o ((key, value) ∷ e ∷ es) ((e.0, value) ∷ es)
+        (e ∷ insert_entry key_order es key value)))
+    by Less is rest = ((is, all_above key e.0 (keys_of es) is sorted.0), sorted)
+    by Equal is rest = sorted
+    by Greater is rest = (
+      all_put (λ q. key_order e.0 q ≡ Less) es key value sorted.0 (turned key e.0 Greater is),
+      rest,
+    )
+
+all_left : {X : Type 0} (P : List ℕ → Type 0) (es : List (List ℕ × X)) (test : List ℕ → Bool)
+    → AllByRecursion P (keys_of es) → AllByRecursion P (keys_of (remove_entry test es))
+all_left P [] test all = tt
+all_left P (e ∷ es) test all = by (test e.0) (all_left P es test all.1)
+  where
+    by : (b : Bool) → AllByRecursion P (keys_of (remove_entry test es)) → AllByRecursion P (keys_of (cond b es (e ∷ remove_entry test es)))
+    by true rest = all.1
+    by false rest = (all.0, rest)
+
+pub ordered_left : {X : Type 0} (es : List (List ℕ × X)) (test : List ℕ → Bool)
+    → IsStrictlySortedBy key_order (keys_of es)
+    → IsStrictlySortedBy key_order (keys_of (remove_entry test es))
+unfolding IsStrictlySortedBy
+ordered_left [] test sorted = tt
+ordered_left (e ∷ es) test sorted = by (test e.0) (ordered_left es test sorted.1)
+  where
+    by : (b : Bool) → IsStrictlySortedBy key_order (keys_of (remove_entry test es))
+        → IsStrictlySortedBy key_order (keys_of (cond b es (e ∷ remove_entry test es)))
+    by true rest = sorted.1
+    by false rest = (all_left _ es test sorted.0, rest)
+
+-- an edit of a list is one of what is seen of it
+pub inserted_seen : {A B : Type 0} (f : A → B) (xs : List A) (at : ℕ) (x : A)
+    → map f (insert xs at x) ≡ insert (map f xs) at (f x)
+inserted_seen f xs at x = rw (map-append, take-map, drop-map) refl
+
+pub removed_seen : {A B : Type 0} (f : A → B) (xs : List A) (at : ℕ)
+    → map f (remove xs at) ≡ remove (map f xs) at
+removed_seen f xs at = rw (map-append, take-map, drop-map) refl
+
+-- entries that are seen of the elements of a list in order, with the element of a key
+module _ {A X : Type 0} (f : A → List ℕ × X) (xs : List A) (at : ℕ) (x : A) (key : List ℕ)
+    (sorted : IsStrictlySortedBy key_order (keys_of (map f xs)))
+    (is : slice_get (keys_of (map f xs)) at ≡ Some key) (read : x ≡ get_or xs at x)
+  where
+    pub seen_at : ((f x).0 ≡ key) × (lookup (is_at (key_order key)) (map f xs) ≡ Some (f x).1)
+    seen_at =
+        let entry = there key (map f xs) at sorted is in
+        let within = slice_get_within (map f xs) at _ entry.1 in
+        let seen : slice_get (map f xs) at ≡ Some (f x)
+        = slice_get-map f xs at ∙ ap (option_map f)
+        (slice_get-get_or xs at x (rw length-map at within) ∙ ap Some (sym read)) in
+        (cc, entry.2 ∙ cc)
+
+    pub replaced : (y : A) (value : X) → f y ≡ ((f x).0, value)
+        → map f (set xs at y) ≡ insert_entry key_order (map f xs) key value
+    replaced y value e = map-set f xs at y ∙ ap (set (map f xs) at)
+        (e ∙ ap (λ k. (k, value)) seen_at.0) ∙ sym (written key (map f xs) at value sorted is)

@@ -1,0 +1,5 @@
+use Rattle.inline_uses.proofs.Ids.{empty}
+use Rattle.inline_uses.proofs.symbols.Symbols.new.Goals as goal
+
+pub invariant_of-result : goal.invariant_of-result
+invariant_of-result c = rw (c.new.ensures.items, c.new-2.ensures.items) empty
