@@ -1,9 +1,9 @@
 //! UTF-16 read as text: each unit by itself and its two neighbours.
-ghost use Rattle.std.specs.Prelude.{◌≡◌, ◌<◌, ◌≤◌, ◌^◌, ◌↔◌, [], ◌∷◌, length, IfOk, IsTrue, MatchOption};
+ghost use Rattle.std.specs.Prelude.{◌≡◌, ◌+◌, ◌%◌, ◌<◌, ◌≤◌, ◌^◌, ◌↔◌, [], ◌∷◌, ◌++◌, length, take, IfOk, IsTrue, MatchOption};
 ghost use Rattle.std.specs.Char.Utf16.{is_high_surrogate, is_low_surrogate, surrogate_pair_char};
 ghost use Rattle.std.specs.Str.{chars, IsAscii};
 ghost use Rattle.std.specs.String.{string_bytes};
-ghost use Rattle.inlinable_string.specs.Text.{size};
+ghost use Rattle.inlinable_string.specs.Text.{bytes_of, size};
 ghost use Rattle.inlinable_string.specs.Utf16.{is_unpaired, HasUnpaired, lossy_unit, lossy_utf16};
 
 use std::alloc::{AllocError, Global};
@@ -74,13 +74,83 @@ fn lossy_by_units(alloc: Global, units: &[u16]) -> Result<String, AllocError>
     let Some(len) = lossy_len(units) else {
         return Err(AllocError);
     };
-    let mut made = String::with_capacity(alloc, len)?;
+    let mut bytes = vec![in alloc; 0u8; len]?;
+    write_units(units, bytes.as_mut_slice());
+    Ok(unsafe { String::from_utf8_unchecked(bytes) })
+}
+
+/// Writes the UTF-8 of that text.
+#[tactic(auto, using(crate::proofs::Units::written))]
+fn write_units(units: &[u16], bytes: &mut [u8])
+    requires { length bytes.old ≡ size (lossy_utf16 units.now) }
+    ensures { bytes.new ≡ bytes_of (lossy_utf16 units.now) }
+{
+    let mut at = 0;
     for i in 0..units.len() {
-        if let Some(ch) = char_at(units, i) {
-            made.push(ch)?;
-        }
+        at = write_unit(units, i, bytes, at);
     }
-    Ok(made)
+}
+
+/// Writes the UTF-8 of what the unit at `i` gives from `at` on, and returns where that ends.
+#[inline(always)]
+fn write_unit(units: &[u16], i: usize, bytes: &mut [u8], at: usize) -> usize
+    requires unit { i < length units.now }
+    requires room { at + size (lossy_unit units.now i) ≤ length bytes.old }
+    ensures end { result ≡ at + size (lossy_unit units.now i) }
+    ensures bytes { take result bytes.new ≡ take at bytes.old ++ bytes_of (lossy_unit units.now i) }
+{
+    let unit = units[i];
+    // The usual case first: no neighbour is looked at.
+    if unit < 0xD800 || 0xE000 <= unit {
+        return write_char(unit_char(unit), bytes, at);
+    }
+    if is_high(unit) {
+        if 1 < units.len() - i && is_low(units[i + 1]) {
+            return write_char(pair_char(unit, units[i + 1]), bytes, at);
+        }
+    } else if 0 < i && is_high(units[i - 1]) {
+        return at;
+    }
+    write_char(char::REPLACEMENT_CHARACTER, bytes, at)
+}
+
+/// Writes the UTF-8 of a character from `at` on, and returns where it ends.
+#[inline(always)]
+#[tactic(auto, using(crate::proofs::Written::char_bytes))]
+fn write_char(ch: char, bytes: &mut [u8], at: usize) -> usize
+    requires room { at + size (ch ∷ []) ≤ length bytes.old }
+    ensures end { result ≡ at + size (ch ∷ []) }
+    ensures bytes { take result bytes.new ≡ take at bytes.old ++ bytes_of (ch ∷ []) }
+{
+    let code = ch as u32;
+    if code < 0x80 {
+        bytes[at] = code as u8;
+        return at + 1;
+    }
+    if code < 0x800 {
+        bytes[at] = (0xC0 + code / 0x40) as u8;
+        bytes[at + 1] = continuation_byte(code);
+        return at + 2;
+    }
+    if code < 0x1_0000 {
+        bytes[at] = (0xE0 + code / 0x1000) as u8;
+        bytes[at + 1] = continuation_byte(code / 0x40);
+        bytes[at + 2] = continuation_byte(code);
+        return at + 3;
+    }
+    bytes[at] = (0xF0 + code / 0x4_0000) as u8;
+    bytes[at + 1] = continuation_byte(code / 0x1000);
+    bytes[at + 2] = continuation_byte(code / 0x40);
+    bytes[at + 3] = continuation_byte(code);
+    at + 4
+}
+
+/// The byte of the six low bits.
+#[inline(always)]
+fn continuation_byte(bits: u32) -> u8
+    ensures { result ≡ 0x80 + bits % 0x40 }
+{
+    (0x80 + bits % 0x40) as u8
 }
 
 /// How many bytes that text has; `None` past `usize::MAX`.
@@ -150,7 +220,7 @@ fn pair_char(high: u16, low: u16) -> char
     requires low { IsTrue (is_low_surrogate low) }
     ensures { result ≡ surrogate_pair_char high low }
 {
-    let code = 0x1_0000 + (high as u32 - 0xD800) * 0x400 + (low as u32 - 0xDC00);
+    let code = 0x1_0000 + (high as u32 % 0x400) * 0x400 + low as u32 % 0x400;
     unsafe { char::from_u32_unchecked(code) }
 }
 
