@@ -5,7 +5,7 @@ use Rattle.std.specs.Char.Escape.{encode_utf16}
 use Rattle.std.specs.Char.Utf16.{is_high_surrogate, is_low_surrogate, surrogate_pair_char}
 use Rattle.inlinable_string.proofs.Text.{size-append}
 
-clash : {b : Bool} → b ≡ true → b ≡ false → ⊥
+pub clash : {b : Bool} → b ≡ true → b ≡ false → ⊥
 clash t f = cc
 
 -- past the end no unit is unpaired, so those before it decide
@@ -65,7 +65,7 @@ pub low_range : (u : ℕ) → is_low_surrogate u ≡ true → (0xDC00 ≤ u) × 
 low_range u h = let p = and_parts _ _ h in (leb-true _ _ p.0, ltb-true _ _ p.1)
 
 -- no surrogate is both
-high_is_not_low : (u : ℕ) → is_high_surrogate u ≡ true → is_low_surrogate u ≡ false
+pub high_is_not_low : (u : ℕ) → is_high_surrogate u ≡ true → is_low_surrogate u ≡ false
 high_is_not_low u h = and_left _ _ (lt-leb 0xDC00 u (high_range u h).1)
 
 -- a low unit that is paired has a high one before it
@@ -209,7 +209,7 @@ first_is_high c l h = grind (arith, common_steps)
 second_is_low : (c : ℕ) → is_low_surrogate (0xDC00 + (c - 0x1_0000) % 0x400) ≡ true
 second_is_low c = grind (arith, common_steps)
 
-low_is_not_high : (u : ℕ) → is_low_surrogate u ≡ true → is_high_surrogate u ≡ false
+pub low_is_not_high : (u : ℕ) → is_low_surrogate u ≡ true → is_high_surrogate u ≡ false
 low_is_not_high u l = and_right _ _ (le-ltb u 0xDC00 (low_range u l).0)
 
 pair_is_paired : (h l : ℕ) (v : List ℕ) → is_high_surrogate h ≡ true → is_low_surrogate l ≡ true
