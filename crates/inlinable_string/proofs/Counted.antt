@@ -1,6 +1,7 @@
 -- The length of the text of UTF-16, and whether a unit is unpaired, counted unit by unit.
 use Rattle.inlinable_string.proofs.Common.{common_steps, ◌≡◌, ℕ, zero, suc, ◌+◌, ◌-◌, ◌*◌, ◌<◌, ◌≤◌, Bool, true, false, not, ◌&&◌, ◌||◌, ◌↔◌, IsTrue, List, [], ◌∷◌, length, refl, ap, sym, ◌∙◌, arith, add-one, ⊎_elim, cases_Bool, cases_lt, subst, cond-true, cond-false, if◌then◌else◌, slice_index, get_or_past, len_utf8, length-encode, append-nil, encode_utf8, size, is_high_at, is_low_at, is_high_before, is_unpaired, HasUnpaired, lossy_unit, lossy_utf16_before, lossy_utf16}
 use Rattle.std.specs.Char.Utf16.{is_high_surrogate, is_low_surrogate, surrogate_pair_char}
+use mir.Val.{bool_byte}
 use Rattle.inlinable_string.specs.Utf16Count.{unit_len, mismatch, len_before, mismatches_before}
 use Rattle.inlinable_string.proofs.Text.{size-append}
 use Rattle.inlinable_string.proofs.Units.{clash, high_range, low_range, high_is_not_low, low_is_not_high, none_unpaired}
@@ -188,9 +189,17 @@ matched_paired v n e none last =
     paired_bools (is_high_at v i) (is_low_at v (i + 1)) (is_low_at v i) (is_high_before v i)
     (sym (before_next v i) ∙ same (i + 1) (omega arith)) (same i (omega arith)))
 
-pub last_before : (v : List ℕ) (n : ℕ) → 0 < n → is_high_before v n ≡ is_high_at v (n - 1)
+last_before : (v : List ℕ) (n : ℕ) → 0 < n → is_high_before v n ≡ is_high_at v (n - 1)
 last_before v zero h = absurd (omega arith)
 last_before v (suc n) h = ap (is_high_at v) (omega arith)
+
+byte : (b : Bool) → bool_byte b ≡ (if b then 1 else 0)
+byte true = refl
+byte false = refl
+
+pub last_counts : (v : List ℕ) (m n : ℕ) (b : Bool) → m ≡ bool_byte b → b ≡ is_high_at v (n - 1)
+    → 0 < n → m ≡ (if is_high_before v n then 1 else 0)
+last_counts v m n b e h some = e ∙ ap bool_byte (h ∙ sym (last_before v n some)) ∙ byte _
 
 module _ (v : List ℕ) (n m : ℕ) (e : n ≡ length v)
     (all : m ≡ mismatches_before v n + (if is_high_before v n then 1 else 0)) where

@@ -177,7 +177,11 @@ fn write_unit(units: &[u16], i: usize, bytes: &mut [u8], at: usize) -> usize
     ensures bytes { take result bytes.new ≡ take at bytes.old ++ bytes_of (lossy_unit units.now i) }
 {
     let unit = units[i];
-    // The usual case first: no neighbour is looked at.
+    // The usual cases first: no neighbour is looked at.
+    if unit < 0x80 {
+        bytes[at] = unit as u8;
+        return at + 1;
+    }
     if !is_surrogate(unit) {
         return write_char(unit_char(unit), bytes, at);
     }
