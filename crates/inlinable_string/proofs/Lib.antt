@@ -1,6 +1,8 @@
 pub mod Common
 pub mod Text
 pub mod Units
+pub mod Written
+pub mod Counted
 pub mod Subparts
 pub mod Table
 pub mod Makers

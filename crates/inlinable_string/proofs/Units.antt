@@ -1,10 +1,11 @@
 -- UTF-16: units with their neighbours, and the text that they give.
-use Rattle.inlinable_string.proofs.Common.{common_steps, ◌≡◌, ℕ, zero, suc, ◌+◌, ◌-◌, ◌/◌, ◌%◌, ◌<◌, ◌≤◌, true, false, not, Bool, ◌&&◌, ◌||◌, List, [], ◌∷◌, ◌++◌, length, take, refl, ap, sym, ◌∙◌, subst, arith, add-one, ⊎_elim, append-nil, append_assoc, rules, slice_index, if◌then◌else◌, IsScalar, all_scalars, IsAscii, scalar_cases, cases_lt, cases_Bool, and_parts, leb-true, ltb-true, cond-true, cond-false, lt-ltb, lt-leb, le-ltb, and_left, and_right, get_or_past, take_more, take_all, size, units_of, is_high_at, is_low_at, is_high_before, is_unpaired, HasUnpaired, lossy_unit, lossy_utf16_before, lossy_utf16}
+use Rattle.inlinable_string.proofs.Common.{common_steps, ◌≡◌, ℕ, zero, suc, ◌+◌, ◌-◌, ◌/◌, ◌%◌, ◌<◌, ◌≤◌, true, false, not, Bool, ◌&&◌, ◌||◌, List, [], ◌∷◌, ◌++◌, length, take, refl, ap, sym, ◌∙◌, subst, arith, add-one, ⊎_elim, append-nil, append_assoc, rules, slice_index, if◌then◌else◌, IsScalar, all_scalars, IsAscii, scalar_cases, cases_lt, cases_Bool, and_parts, leb-true, ltb-true, cond-true, cond-false, lt-ltb, lt-leb, le-ltb, and_left, and_right, get_or_past, take_more, take_all, encodes-append, chars, chars_from_encodes, IsUtf8, bytes_of, size, units_of, is_high_at, is_low_at, is_high_before, is_unpaired, HasUnpaired, lossy_unit, lossy_utf16_before, lossy_utf16}
+use Rattle.std.proofs.Math.Seq.{take-append_seam}
 use Rattle.std.specs.Char.Escape.{encode_utf16}
 use Rattle.std.specs.Char.Utf16.{is_high_surrogate, is_low_surrogate, surrogate_pair_char}
 use Rattle.inlinable_string.proofs.Text.{size-append}
 
-clash : {b : Bool} → b ≡ true → b ≡ false → ⊥
+pub clash : {b : Bool} → b ≡ true → b ≡ false → ⊥
 clash t f = cc
 
 -- past the end no unit is unpaired, so those before it decide
@@ -44,6 +45,14 @@ pub lossy_counted_within : (v : List ℕ) (i : ℕ) → i < length v
 lossy_counted_within v i h =
     omega (arith, lossy_counted v i, lossy_grows v (i + 1) (length v) (omega arith))
 
+-- so are its bytes
+pub lossy_bytes : (v : List ℕ) (i : ℕ) → bytes_of (lossy_utf16_before v (i + 1))
+    ≡ bytes_of (lossy_utf16_before v i) ++ bytes_of (lossy_unit v i)
+lossy_bytes v i =
+    ap bytes_of (lossy_more v i) ∙ encodes-append (lossy_utf16_before v i) (lossy_unit v i)
+
+pub ruleset written = (common_steps, lossy_counted, lossy_counted_within, lossy_bytes)
+
 units-append : (a b : List ℕ) → units_of (a ++ b) ≡ units_of a ++ units_of b
 units-append [] b = refl
 units-append (c ∷ a) b = grind (arith, common_steps, units-append a b)
@@ -56,7 +65,7 @@ pub low_range : (u : ℕ) → is_low_surrogate u ≡ true → (0xDC00 ≤ u) × 
 low_range u h = let p = and_parts _ _ h in (leb-true _ _ p.0, ltb-true _ _ p.1)
 
 -- no surrogate is both
-high_is_not_low : (u : ℕ) → is_high_surrogate u ≡ true → is_low_surrogate u ≡ false
+pub high_is_not_low : (u : ℕ) → is_high_surrogate u ≡ true → is_low_surrogate u ≡ false
 high_is_not_low u h = and_left _ _ (lt-leb 0xDC00 u (high_range u h).1)
 
 -- a low unit that is paired has a high one before it
@@ -152,6 +161,10 @@ module _ (v : List ℕ) (paired : (i : ℕ) → is_unpaired v i ≡ false) where
     pub units-lossy : units_of (lossy_utf16 v) ≡ v
     units-lossy = search (rules, get_or_past, read, cond-false, not_before, take_all)
 
+-- what fills the room is all that it shows
+pub filled : (xs ys v : List ℕ) (n : ℕ) → xs ≡ v → n ≡ length v → take n (xs ++ ys) ≡ v
+filled xs ys v n e l = rw (e, l) (take-append_seam v ys)
+
 -- units of ASCII are read as they are
 ascii_gives : (v : List ℕ) → IsAscii v → (i : ℕ) → lossy_unit v i ≡ slice_index v i ∷ []
 ascii_gives v a i = grind (arith, common_steps)
@@ -196,7 +209,7 @@ first_is_high c l h = grind (arith, common_steps)
 second_is_low : (c : ℕ) → is_low_surrogate (0xDC00 + (c - 0x1_0000) % 0x400) ≡ true
 second_is_low c = grind (arith, common_steps)
 
-low_is_not_high : (u : ℕ) → is_low_surrogate u ≡ true → is_high_surrogate u ≡ false
+pub low_is_not_high : (u : ℕ) → is_low_surrogate u ≡ true → is_high_surrogate u ≡ false
 low_is_not_high u l = and_right _ _ (le-ltb u 0xDC00 (low_range u l).0)
 
 pair_is_paired : (h l : ℕ) (v : List ℕ) → is_high_surrogate h ≡ true → is_low_surrogate l ≡ true
@@ -304,3 +317,27 @@ text_is_read (c ∷ t) s =
     ∙ pair_is_read _ _ (units_of t) (first_is_high c h (scalar_below c p.0)) (second_is_low c)
     ∙ (λ i. pair_of c h i ∷ rest i))
     (cases_lt c 0x1_0000)
+
+-- what units give are characters
+scalars-append : (a b : List ℕ) → all_scalars a ≡ true → all_scalars b ≡ true
+    → all_scalars (a ++ b) ≡ true
+scalars-append [] b p q = q
+scalars-append (c ∷ a) b p q =
+    let first : IsScalar c = (and_parts _ _ p).0 in
+    let rest : all_scalars (a ++ b) ≡ true = scalars-append a b (and_parts _ _ p).1 q in
+    rw (first, rest) refl
+
+module _ (v : List ℕ) (fits : (i : ℕ) → slice_index v i < 0x1_0000) where
+  unit_scalars : (i : ℕ) → all_scalars (lossy_unit v i) ≡ true
+  unit_scalars i = grind (arith, common_steps, fits i, fits (i + 1))
+
+  lossy_scalars : (n : ℕ) → all_scalars (lossy_utf16_before v n) ≡ true
+  lossy_scalars zero = refl
+  lossy_scalars (suc n) =
+      scalars-append (lossy_utf16_before v n) (lossy_unit v n) (lossy_scalars n) (unit_scalars n)
+
+  pub lossy_utf8 : IsUtf8 (bytes_of (lossy_utf16 v))
+  lossy_utf8 = (lossy_utf16 v, (lossy_scalars (length v), refl))
+
+  pub lossy_read : chars (bytes_of (lossy_utf16 v)) ≡ lossy_utf16 v
+  lossy_read = sym (chars_from_encodes (lossy_utf16 v) _ lossy_utf8 refl)

@@ -1,5 +1,6 @@
 pub mod Text
 pub mod Utf16
+pub mod Utf16Count
 pub mod Lossy
 pub mod Cells
 pub mod Ranges

@@ -119,10 +119,7 @@ pub trait StringMake: StringExt {
         ensures storage { IfOk result (λ made. (Self.state made).storage ≡ Storage.Heap) }
         ensures policy { IfOk result (λ made. (Self.state made).policy ≡ policy) }
     {
-        if utf16::has_unpaired(v) {
-            return Err(Utf16Error::Unpaired);
-        }
-        let read = utf16::lossy(alloc, v)?;
+        let read = utf16::paired(alloc, v)?;
         Ok(unsafe { Self::from_utf8_unchecked(alloc, read.into_bytes()) })
     }
 

@@ -1,37 +1,41 @@
 //! UTF-16 read as text: each unit by itself and its two neighbours.
-ghost use Rattle.std.specs.Prelude.{◌≡◌, ◌<◌, ◌≤◌, ◌^◌, ◌↔◌, [], ◌∷◌, length, IfOk, IsTrue, MatchOption};
+ghost use Rattle.std.specs.Prelude.{◌≡◌, ◌+◌, ◌-◌, ◌*◌, ◌%◌, ◌<◌, ◌≤◌, ◌↔◌, ◌||◌, [], ◌∷◌, ◌++◌, length, take, IfOk, IsTrue, Err};
 ghost use Rattle.std.specs.Char.Utf16.{is_high_surrogate, is_low_surrogate, surrogate_pair_char};
 ghost use Rattle.std.specs.Str.{chars, IsAscii};
 ghost use Rattle.std.specs.String.{string_bytes};
-ghost use Rattle.inlinable_string.specs.Text.{size};
-ghost use Rattle.inlinable_string.specs.Utf16.{is_unpaired, HasUnpaired, lossy_unit, lossy_utf16};
+ghost use Rattle.inlinable_string.specs.Text.{bytes_of, size};
+ghost use Rattle.inlinable_string.specs.Utf16.{HasUnpaired, lossy_unit, lossy_utf16};
+ghost use Rattle.inlinable_string.specs.Utf16Count.{unit_len, len_before, mismatches_before};
+ghost use Rattle.inlinable_string.specs.declared.string_ext.make.Utf16Error.TheVariants.{Unpaired};
 
+use super::make::Utf16Error;
 use std::alloc::{AllocError, Global};
 
-/// Whether some unit is a surrogate without its partner.
-pub(super) fn has_unpaired(units: &[u16]) -> bool
-    ensures { IsTrue result ↔ HasUnpaired units.now }
+/// The text of the units. Fails with [`Utf16Error::Unpaired`] exactly where a surrogate is without
+/// its partner, and otherwise as [`lossy`] does.
+pub(super) fn paired(alloc: Global, units: &[u16]) -> Result<String, Utf16Error>
+    ensures read { IfOk result (λ made. chars (string_bytes made) ≡ lossy_utf16 units.now) }
+    ensures unpaired { (result ≡ Err Unpaired) ↔ HasUnpaired units.now }
 {
     if is_ascii(units) {
-        return false;
+        return Ok(ascii_text(alloc, units)?);
     }
-    for i in 0..units.len() {
-        if is_unpaired(units, i) {
-            return true;
-        }
+    let counted = count(units);
+    if 0 < counted.unpaired {
+        return Err(Utf16Error::Unpaired);
     }
-    false
+    Ok(text_of_len(alloc, units, counted.len)?)
 }
 
 /// The text of the units, with U+FFFD for each that is unpaired. Memory is asked for once, for the
-/// exact size; a size past `usize::MAX` is want of memory.
+/// exact size.
 pub(super) fn lossy(alloc: Global, units: &[u16]) -> Result<String, AllocError>
     ensures { IfOk result (λ made. chars (string_bytes made) ≡ lossy_utf16 units.now) }
 {
     if is_ascii(units) {
         return ascii_text(alloc, units);
     }
-    lossy_by_units(alloc, units)
+    text_of_len(alloc, units, count(units).len)
 }
 
 /// Whether each unit is of ASCII.
@@ -67,67 +71,175 @@ fn write_ascii(units: &[u16], bytes: &mut [u8])
     }
 }
 
-/// The same as [`lossy`], unit by unit.
-fn lossy_by_units(alloc: Global, units: &[u16]) -> Result<String, AllocError>
+/// How many bytes the text of some units has, and how many units are unpaired.
+#[derive(Clone, Copy)]
+struct Counted {
+    len: usize,
+    unpaired: usize,
+}
+
+/// The units that are counted together.
+const LANES: usize = 16;
+
+/// Counts the units.
+// A unit is counted with the one before it; which of a pair's gives the character is left open.
+fn count(units: &[u16]) -> Counted
+    ensures len { result.len ≡ size (lossy_utf16 units.now) }
+    ensures unpaired { (0 < result.unpaired) ↔ HasUnpaired units.now }
+{
+    if units.is_empty() {
+        return Counted {
+            len: 0,
+            unpaired: 0,
+        };
+    }
+    let mut len = usize::from(unit_len(units[0]));
+    let mut unpaired = usize::from(is_low(units[0]));
+    let mut from = 1;
+    while LANES <= units.len() - from {
+        let part = count_part(units, from, from + LANES);
+        len += part.len;
+        unpaired += part.unpaired;
+        from += LANES;
+    }
+    let part = count_part(units, from, units.len());
+    unpaired += part.unpaired + usize::from(is_high(units[units.len() - 1]));
+    Counted {
+        len: len + part.len + unpaired,
+        unpaired,
+    }
+}
+
+/// Counts the units from `from` up to `to`: what each is by itself, and those that do not match the
+/// one before them.
+// In 16 bits and without a branch, so that several are counted at a time.
+#[inline(always)]
+#[tactic(auto, using(crate::proofs::Counted::counted_more))]
+fn count_part(units: &[u16], from: usize, to: usize) -> Counted
+    requires start { 0 < from }
+    requires end { from ≤ to }
+    requires bound { to ≤ length units.now }
+    requires few { to ≤ from + 16 }
+    ensures len { len_before units.now from + result.len ≡ len_before units.now to }
+    ensures unpaired { mismatches_before units.now from + result.unpaired
+        ≡ mismatches_before units.now to }
+    ensures len_bound { result.len ≤ 3 * (to - from) }
+    ensures unpaired_bound { result.unpaired ≤ to - from }
+{
+    let mut len: u16 = 0;
+    let mut unpaired: u16 = 0;
+    for i in from..to {
+        len += unit_len(units[i]);
+        unpaired += u16::from(is_high(units[i - 1]) != is_low(units[i]));
+    }
+    Counted {
+        len: usize::from(len),
+        unpaired: usize::from(unpaired),
+    }
+}
+
+/// How many bytes a unit counts for: a surrogate for half of the four of a pair.
+#[inline(always)]
+fn unit_len(unit: u16) -> u16
+    ensures { result ≡ unit_len unit }
+{
+    1 + u16::from(0x80 <= unit) + u16::from(0x800 <= unit && !is_surrogate(unit))
+}
+
+/// The text of the units, of which the length is known.
+fn text_of_len(alloc: Global, units: &[u16], len: usize) -> Result<String, AllocError>
+    requires { len ≡ size (lossy_utf16 units.now) }
     ensures { IfOk result (λ made. chars (string_bytes made) ≡ lossy_utf16 units.now) }
 {
-    let Some(len) = lossy_len(units) else {
-        return Err(AllocError);
-    };
-    let mut made = String::with_capacity(alloc, len)?;
-    for i in 0..units.len() {
-        if let Some(ch) = char_at(units, i) {
-            made.push(ch)?;
-        }
-    }
-    Ok(made)
+    let mut bytes = vec![in alloc; 0u8; len]?;
+    write_units(units, bytes.as_mut_slice());
+    Ok(unsafe { String::from_utf8_unchecked(bytes) })
 }
 
-/// How many bytes that text has; `None` past `usize::MAX`.
-fn lossy_len(units: &[u16]) -> Option<usize>
-    ensures { MatchOption result
-        (2 ^ 64 ≤ size (lossy_utf16 units.now)) (λ len. len ≡ size (lossy_utf16 units.now)) }
+/// Writes the UTF-8 of that text.
+#[tactic(auto, using(crate::proofs::Units::written))]
+fn write_units(units: &[u16], bytes: &mut [u8])
+    requires { length bytes.old ≡ size (lossy_utf16 units.now) }
+    ensures { bytes.new ≡ bytes_of (lossy_utf16 units.now) }
 {
-    let mut len: usize = 0;
+    let mut at = 0;
     for i in 0..units.len() {
-        if let Some(ch) = char_at(units, i) {
-            len = len.checked_add(ch.len_utf8())?;
-        }
+        at = write_unit(units, i, bytes, at);
     }
-    Some(len)
 }
 
-/// What the unit at `i` gives: a pair's character stands at its high surrogate, and nothing at its
-/// low one.
-fn char_at(units: &[u16], i: usize) -> Option<char>
-    requires { i < length units.now }
-    ensures { MatchOption result
-        (lossy_unit units.now i ≡ []) (λ ch. lossy_unit units.now i ≡ ch ∷ []) }
+/// Writes the UTF-8 of what the unit at `i` gives from `at` on, and returns where that ends.
+#[inline(always)]
+fn write_unit(units: &[u16], i: usize, bytes: &mut [u8], at: usize) -> usize
+    requires unit { i < length units.now }
+    requires room { at + size (lossy_unit units.now i) ≤ length bytes.old }
+    ensures end { result ≡ at + size (lossy_unit units.now i) }
+    ensures bytes { take result bytes.new ≡ take at bytes.old ++ bytes_of (lossy_unit units.now i) }
 {
     let unit = units[i];
-    // The usual case first: no neighbour is looked at.
-    if !is_high(unit) && !is_low(unit) {
-        return Some(unit_char(unit));
+    // The usual cases first: no neighbour is looked at.
+    if unit < 0x80 {
+        bytes[at] = unit as u8;
+        return at + 1;
     }
-    if is_unpaired(units, i) {
-        return Some(char::REPLACEMENT_CHARACTER);
+    if !is_surrogate(unit) {
+        return write_char(unit_char(unit), bytes, at);
     }
     if is_high(unit) {
-        return Some(pair_char(unit, units[i + 1]));
+        if 1 < units.len() - i && is_low(units[i + 1]) {
+            return write_char(pair_char(unit, units[i + 1]), bytes, at);
+        }
+    } else if 0 < i && is_high(units[i - 1]) {
+        return at;
     }
-    None
+    write_char(char::REPLACEMENT_CHARACTER, bytes, at)
 }
 
-/// Whether the unit at `i` is a surrogate without its partner.
-fn is_unpaired(units: &[u16], i: usize) -> bool
-    requires { i < length units.now }
-    ensures { result ≡ is_unpaired units.now i }
+/// Writes the UTF-8 of a character from `at` on, and returns where it ends.
+#[inline(always)]
+#[tactic(auto, using(crate::proofs::Written::char_bytes))]
+fn write_char(ch: char, bytes: &mut [u8], at: usize) -> usize
+    requires room { at + size (ch ∷ []) ≤ length bytes.old }
+    ensures end { result ≡ at + size (ch ∷ []) }
+    ensures bytes { take result bytes.new ≡ take at bytes.old ++ bytes_of (ch ∷ []) }
 {
-    if is_high(units[i]) {
-        units.len() - i < 2 || !is_low(units[i + 1])
-    } else {
-        is_low(units[i]) && (i == 0 || !is_high(units[i - 1]))
+    let code = ch as u32;
+    if code < 0x80 {
+        bytes[at] = code as u8;
+        return at + 1;
     }
+    if code < 0x800 {
+        bytes[at] = (0xC0 + code / 0x40) as u8;
+        bytes[at + 1] = continuation_byte(code);
+        return at + 2;
+    }
+    if code < 0x1_0000 {
+        bytes[at] = (0xE0 + code / 0x1000) as u8;
+        bytes[at + 1] = continuation_byte(code / 0x40);
+        bytes[at + 2] = continuation_byte(code);
+        return at + 3;
+    }
+    bytes[at] = (0xF0 + code / 0x4_0000) as u8;
+    bytes[at + 1] = continuation_byte(code / 0x1000);
+    bytes[at + 2] = continuation_byte(code / 0x40);
+    bytes[at + 3] = continuation_byte(code);
+    at + 4
+}
+
+/// The byte of the six low bits.
+#[inline(always)]
+fn continuation_byte(bits: u32) -> u8
+    ensures { result ≡ 0x80 + bits % 0x40 }
+{
+    (0x80 + bits % 0x40) as u8
+}
+
+/// Whether a unit is one of a pair's.
+#[inline(always)]
+fn is_surrogate(unit: u16) -> bool
+    ensures { result ≡ (is_high_surrogate unit || is_low_surrogate unit) }
+{
+    0xD800 <= unit && unit < 0xE000
 }
 
 /// Whether a unit is the first of a pair.
@@ -150,7 +262,7 @@ fn pair_char(high: u16, low: u16) -> char
     requires low { IsTrue (is_low_surrogate low) }
     ensures { result ≡ surrogate_pair_char high low }
 {
-    let code = 0x1_0000 + (high as u32 - 0xD800) * 0x400 + (low as u32 - 0xDC00);
+    let code = 0x1_0000 + (high as u32 % 0x400) * 0x400 + low as u32 % 0x400;
     unsafe { char::from_u32_unchecked(code) }
 }
 

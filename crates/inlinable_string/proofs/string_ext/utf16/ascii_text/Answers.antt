@@ -1,11 +1,6 @@
-use Rattle.inlinable_string.proofs.Common.{◌≡◌, ◌++◌, ℕ, List, take, length, sym, ap, ◌∙◌, subst, arith, IsUtf8, chars, IsUtf8-from_ascii, chars-IsAscii}
-use Rattle.std.proofs.Math.Seq.{take-append_seam}
-use Rattle.inlinable_string.proofs.Units.{lossy_ascii}
+use Rattle.inlinable_string.proofs.Common.{◌≡◌, length, sym, ap, ◌∙◌, subst, arith, IsUtf8, chars, IsUtf8-from_ascii, chars-IsAscii}
+use Rattle.inlinable_string.proofs.Units.{filled, lossy_ascii}
 use Rattle.inlinable_string.proofs.string_ext.utf16.ascii_text.Goals as goal
-
--- what fills the room is all that it shows
-filled : (xs ys v : List ℕ) (n : ℕ) → xs ≡ v → n ≡ length v → take n (xs ++ ys) ≡ v
-filled xs ys v n e l = rw (e, l) (take-append_seam v ys)
 
 pub from_utf8_unchecked-requires : goal.from_utf8_unchecked-requires
 from_utf8_unchecked-requires c =

@@ -10,8 +10,9 @@ from_utf8_unchecked-requires g c =
 pub returns-clause-text : goal.returns-clause-text
 returns-clause-text g c =
     let v = c.args.v.now in
-    let paired = all_paired v (λ some. let h = c.has_unpaired.ensures.1 some in cc) in
+    let paired =
+    all_paired v (λ some. let h = c.paired.ensures.unpaired.1 some in cc (h, c.in_ok-read.was)) in
     let bytes = c.into_bytes in
     let made = text_made _ c.in_ok-read.read bytes.result bytes.ensures.value in
-    ap units_of (made c.from_utf8_unchecked.ensures.text ∙ c.in_ok-read.ensures)
+    ap units_of (made c.from_utf8_unchecked.ensures.text ∙ c.in_ok-read.ensures.read)
     ∙ units-lossy v paired (λ i. let fits = c.type_inv.v i in omega arith)
