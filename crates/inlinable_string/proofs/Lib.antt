@@ -13,6 +13,7 @@ pub mod Edits
 pub mod Window
 pub mod Lawful
 pub mod Starts
+pub mod LossyText
 pub mod WellFormed
 pub mod Steps
 pub mod Runs

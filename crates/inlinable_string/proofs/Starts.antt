@@ -1,5 +1,5 @@
 -- What bytes begin with, by the row of the table of well-formed UTF-8 for the first of them.
-use Rattle.inlinable_string.proofs.Common.{common_steps, ◌≡◌, inl, ℕ, zero, suc, ◌+◌, ◌-◌, ◌<◌, ◌≤◌, List, [], ◌∷◌, ◌++◌, length, take, drop, refl, ap, sym, ◌∙◌, arith, subst, ⊎_elim, append-nil, length-append, length-take-le, drop-drop, take-append-drop, nil_from_length, slice_index, cases_lt, encode_utf8, IsScalar, scalar_cases, following, count_in, subpart_len, char_len}
+use Rattle.inlinable_string.proofs.Common.{common_steps, ◌≡◌, inl, ℕ, suc, ◌+◌, ◌-◌, ◌<◌, ◌≤◌, List, [], ◌∷◌, ◌++◌, length, take, drop, refl, ap, sym, ◌∙◌, arith, subst, ⊎_elim, append-nil, length-append, length-take-le, drop-drop, take-append-drop, nil_from_length, slice_index, cases_lt, encode_utf8, IsScalar, scalar_cases, following, count_in, subpart_len, char_len}
 use Rattle.std.specs.Prelude.{replicate}
 use Rattle.std.proofs.str.Laws.{Shape, of1, of2, of3, of4, shape, one}
 use Rattle.inlinable_string.proofs.Subparts.{Begins, len_of_char, len_of_none}
@@ -115,41 +115,46 @@ rowless bs some above none =
     )
 
 -- the row of a byte that begins a character of more: the range of the second, and k more behind it
-pub record HasRow (a : ℕ) (r : ℕ × ℕ) : Type 0 where
-  pub k : ℕ
-  pub is : following a ≡ r ∷ replicate k (0x80, 0xBF)
-  pub two : a < 224 → k ≡ 0
-  pub more : 224 ≤ a → 0 < k
-  pub three : a < 240 → k ≤ 1
-  pub four : 240 ≤ a → k ≡ 2
+record HasRow (a : ℕ) : Type 0 where
+  range : ℕ × ℕ
+  k : ℕ
+  is : following a ≡ range ∷ replicate k (0x80, 0xBF)
+  two : a < 224 → k ≡ 0
+  more : 224 ≤ a → 1 ≤ k
+  three : a < 240 → k ≤ 1
+  four : 240 ≤ a → k ≡ 2
 
--- the second byte's range is the row's first
-by_first : (a : ℕ) (r s : ℕ × ℕ) (k : ℕ) → following a ≡ s ∷ replicate k (0x80, 0xBF)
-    → take 1 (following a) ≡ r ∷ [] → following a ≡ r ∷ replicate k (0x80, 0xBF)
-by_first a r s k is second = grind (arith, common_steps)
-
-row_with : (a : ℕ) (r s : ℕ × ℕ) (n : ℕ) → following a ≡ s ∷ replicate n (0x80, 0xBF)
-    → take 1 (following a) ≡ r ∷ [] → (a < 224 → n ≡ 0) → (224 ≤ a → 0 < n) → (a < 240 → n ≤ 1)
-    → (240 ≤ a → n ≡ 2) → HasRow a r
-row_with a r s n is second p q x y = record {
-  k = n;
-  is = by_first a r s n is second;
-  two = p;
-  more = q;
-  three = x;
-  four = y;
-}
-
-pub row_is : (a : ℕ) (r : ℕ × ℕ) → 194 ≤ a → a ≤ 244 → take 1 (following a) ≡ r ∷ [] → HasRow a r
-row_is a r from to second =
+row_is : (a : ℕ) → 194 ≤ a → a ≤ 244 → HasRow a
+row_is a from to =
     ⊎_elim
-    (λ two. row_with a r _ 0 (row_two a from two) second (λ h. refl) (λ h. absurd (omega arith))
-    (λ h. omega arith) (λ h. absurd (omega arith)))
-    (λ more. ⊎_elim
-    (λ three. row_with a r _ 1 (row_three a more three) second (λ h. absurd (omega arith))
-    (λ h. omega arith) (λ h. omega arith) (λ h. absurd (omega arith)))
-    (λ most. row_with a r _ 2 (row_four a most (omega arith)) second (λ h. absurd (omega arith))
-    (λ h. omega arith) (λ h. absurd (omega arith)) (λ h. refl))
+    (λ below. record {
+      range = _;
+      k = 0;
+      is = row_two a from below;
+      two = λ h. refl;
+      more = λ h. absurd (omega arith);
+      three = λ h. omega arith;
+      four = λ h. absurd (omega arith);
+    })
+    (λ above. ⊎_elim
+    (λ below. record {
+      range = _;
+      k = 1;
+      is = row_three a above below;
+      two = λ h. absurd (omega arith);
+      more = λ h. omega arith;
+      three = λ h. omega arith;
+      four = λ h. absurd (omega arith);
+    })
+    (λ most. record {
+      range = _;
+      k = 2;
+      is = row_four a most (omega arith);
+      two = λ h. absurd (omega arith);
+      more = λ h. omega arith;
+      three = λ h. absurd (omega arith);
+      four = λ h. refl;
+    })
     (cases_lt a 240)) (cases_lt a 224)
 
 -- the n bytes behind the first are in the row, and these ranges of it are left
@@ -197,59 +202,68 @@ ended bs n r left so outside =
       omega (arith, so.count, none, subpart_at bs so.some),
     )
 
--- k bytes of the row are left, all of one range
-abbrev pub Left : List ℕ → ℕ → ℕ → Type 0
-Left bs n k = Reached bs n (replicate k (0x80, 0xBF))
-
--- the second byte has a range of its own
-pub no_second : (bs : List ℕ) (r : ℕ × ℕ) → 0 < length bs → 194 ≤ slice_index bs 0
-    → slice_index bs 0 ≤ 244 → take 1 (row bs) ≡ r ∷ [] → count_in (r ∷ []) (drop 1 bs) ≡ 0
-    → (char_len bs ≡ 0) × (subpart_len bs ≡ 1)
-no_second bs r some from to first outside =
-    let has = row_is (slice_index bs 0) r from to first in
-    ended bs 0 r _ (at_first bs _ some has.is) outside
-
-pub second : (bs : List ℕ) (r : ℕ × ℕ) (k : ℕ) → 0 < length bs
-    → row bs ≡ r ∷ replicate k (0x80, 0xBF) → count_in (r ∷ []) (drop 1 bs) ≡ 1 → Left bs 1 k
-second bs r k some is inside = further bs 0 r _ (at_first bs _ some is) inside
-
-pub no_later : (bs : List ℕ) (n k : ℕ) → Left bs n k → 0 < k
-    → count_in ((0x80, 0xBF) ∷ []) (drop (1 + n) bs) ≡ 0
-    → (char_len bs ≡ 0) × (subpart_len bs ≡ 1 + n)
-no_later bs n zero so more outside = absurd (omega arith)
-no_later bs n (suc k) so more outside = ended bs n _ _ so outside
-
-pub later : (bs : List ℕ) (n k : ℕ) → Left bs n k → 0 < k
-    → count_in ((0x80, 0xBF) ∷ []) (drop (1 + n) bs) ≡ 1 → Left bs (1 + n) (k - 1)
-later bs n zero so more inside = absurd (omega arith)
-later bs n (suc k) so more inside =
-    let less : k ≡ suc k - 1 = omega arith in
-    subst (Left bs (1 + n)) less (further bs n _ _ so inside)
-
--- two bytes behind the first are in the row, and one more is left where it is one of four
-pub record HasThree (bs : List ℕ) : Type 0 where
+-- n bytes behind the first are in its row, and k more are left, all of one range
+pub record InRow (bs : List ℕ) (n : ℕ) : Type 0 where
   pub k : ℕ
-  pub left : Left bs 2 k
-  pub three : slice_index bs 0 < 240 → k ≡ 0
-  pub four : 240 ≤ slice_index bs 0 → k ≡ 1
+  pub reached : Reached bs n (replicate k (0x80, 0xBF))
+  pub two : slice_index bs 0 < 224 → n + k ≡ 1
+  pub more : 224 ≤ slice_index bs 0 → 2 ≤ n + k
+  pub three : slice_index bs 0 < 240 → n + k ≤ 2
+  pub four : 240 ≤ slice_index bs 0 → n + k ≡ 3
 
-pub third : (bs : List ℕ) (r : ℕ × ℕ) → 0 < length bs → 224 ≤ slice_index bs 0
-    → slice_index bs 0 ≤ 244 → take 1 (row bs) ≡ r ∷ [] → count_in (r ∷ []) (drop 1 bs) ≡ 1
-    → count_in ((0x80, 0xBF) ∷ []) (drop 2 bs) ≡ 1 → HasThree bs
-third bs r some from to first inside next =
-    let has = row_is (slice_index bs 0) r (omega (arith, from)) to first in
-    let more = has.more from in
+-- the second byte is in its range
+pub second : (bs : List ℕ) → 0 < length bs → 194 ≤ slice_index bs 0 → slice_index bs 0 ≤ 244
+    → (194 ≤ slice_index bs 0 → slice_index bs 0 ≤ 244
+    → count_in (take 1 (row bs)) (drop 1 bs) ≡ 1) → InRow bs 1
+second bs some from to inside =
+    let has = row_is (slice_index bs 0) from to in
+    let one = ap (λ r. count_in (take 1 r) (drop 1 bs)) (sym has.is) ∙ inside from to in
     record {
-      k = has.k - 1;
-      left = later bs 1 has.k (second bs r has.k some has.is inside) more next;
-      three = λ below. let k = has.three below in omega (arith, k, more);
-      four = λ above. let k = has.four above in omega (arith, k);
+      k = has.k;
+      reached = further bs 0 has.range _ (at_first bs _ some has.is) one;
+      two = λ h. omega (arith, has.two h);
+      more = λ h. omega (arith, has.more h);
+      three = λ h. omega (arith, has.three h);
+      four = λ h. omega (arith, has.four h);
     }
 
+-- it is not
+pub no_second : (bs : List ℕ) → 0 < length bs → 194 ≤ slice_index bs 0 → slice_index bs 0 ≤ 244
+    → (194 ≤ slice_index bs 0 → slice_index bs 0 ≤ 244
+    → count_in (take 1 (row bs)) (drop 1 bs) ≡ 0) → (char_len bs ≡ 0) × (subpart_len bs ≡ 1)
+no_second bs some from to outside =
+    let has = row_is (slice_index bs 0) from to in
+    let none = ap (λ r. count_in (take 1 r) (drop 1 bs)) (sym has.is) ∙ outside from to in
+    ended bs 0 has.range _ (at_first bs _ some has.is) none
+
+-- so is the next
+pub next : (bs : List ℕ) (n : ℕ) → (so : InRow bs n) → 0 < so.k
+    → count_in ((0x80, 0xBF) ∷ []) (drop (1 + n) bs) ≡ 1 → InRow bs (1 + n)
+next bs n so more inside =
+    let less : so.k ≡ suc (so.k - 1) = omega arith in
+    let left = subst (λ k. Reached bs n (replicate k (0x80, 0xBF))) less so.reached in
+    record {
+      k = so.k - 1;
+      reached = further bs n _ _ left inside;
+      two = λ h. omega (arith, so.two h);
+      more = λ h. omega (arith, so.more h);
+      three = λ h. omega (arith, so.three h);
+      four = λ h. omega (arith, so.four h);
+    }
+
+-- it is not
+pub no_next : (bs : List ℕ) (n : ℕ) → (so : InRow bs n) → 0 < so.k
+    → count_in ((0x80, 0xBF) ∷ []) (drop (1 + n) bs) ≡ 0
+    → (char_len bs ≡ 0) × (subpart_len bs ≡ 1 + n)
+no_next bs n so more outside =
+    let less : so.k ≡ suc (so.k - 1) = omega arith in
+    let left = subst (λ k. Reached bs n (replicate k (0x80, 0xBF))) less so.reached in
+    ended bs n _ _ left outside
+
 -- none is left: it is a character
-pub complete : (bs : List ℕ) (n k : ℕ) → Left bs n k → 0 < n → k ≡ 0 → char_len bs ≡ 1 + n
-complete bs n (suc k) so some none = absurd (omega (arith, none))
-complete bs n zero so some none =
-    let all : count_in (row bs) (drop 1 bs) ≡ n = omega (arith, so.count) in
-    let long = filled bs so.some (omega (arith, so.long)) (omega (arith, all, so.long)) in
-    omega (arith, long, so.long)
+pub complete : (bs : List ℕ) (n : ℕ) → (so : InRow bs n) → 0 < n → so.k ≡ 0 → char_len bs ≡ 1 + n
+complete bs n so some none =
+    let left = subst (λ k. Reached bs n (replicate k (0x80, 0xBF))) none so.reached in
+    let all : count_in (row bs) (drop 1 bs) ≡ n = omega (arith, left.count) in
+    let long = filled bs left.some (omega (arith, left.long)) (omega (arith, all, left.long)) in
+    omega (arith, long, left.long)

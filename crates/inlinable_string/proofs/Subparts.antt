@@ -1,7 +1,7 @@
 -- Bytes read as text: characters, and the maximal subparts between them.
-use Rattle.inlinable_string.proofs.Common.{common_steps, ◌≡◌, ℕ, zero, suc, ◌+◌, ◌-◌, ◌<◌, ◌≤◌, true, false, Bool, cond, nat_eq, List, [], ◌∷◌, ◌++◌, length, take, drop, refl, ap, sym, ◌∙◌, arith, subst, ⊎_elim, Option, Some, None, MatchOption, append-nil, append_assoc, length-append, take-append-drop, length-take, length-drop, drop-drop, rules, encode_utf8, IsScalar, chars, IsUtf8, is_utf8, all_scalars, encode_utf8_all, cases_Bool, and_parts, cond-true, cond-false, nat_tests, take_at, drop_at, IsUtf8-from_is_utf8, is_utf8-from_IsUtf8, IsUtf8-encode, IsUtf8-append, length-encode, len_utf8_bounds, encode_same, scalars-chars, encodes-chars, size, char_len, subpart_len, lossy_utf8_past, lossy_utf8}
+use Rattle.inlinable_string.proofs.Common.{common_steps, ◌≡◌, ℕ, zero, suc, ◌+◌, ◌-◌, ◌<◌, ◌≤◌, true, false, Bool, cond, nat_eq, List, [], ◌∷◌, ◌++◌, length, take, drop, refl, ap, sym, ◌∙◌, arith, subst, ⊎_elim, append-nil, append_assoc, length-append, take-append-drop, length-take, rules, encode_utf8, IsScalar, chars, IsUtf8, is_utf8, all_scalars, encode_utf8_all, cases_Bool, and_parts, cond-true, cond-false, nat_tests, take_at, drop_at, IsUtf8-from_is_utf8, is_utf8-from_IsUtf8, IsUtf8-encode, IsUtf8-append, length-encode, len_utf8_bounds, encode_same, scalars-chars, encodes-chars, char_len, subpart_len, lossy_utf8_past, lossy_utf8}
 use Rattle.std.proofs.Math.Seq.{take-add}
-use Rattle.inlinable_string.proofs.Text.{size-append, popped-chars}
+use Rattle.inlinable_string.proofs.Text.{popped-chars}
 use Rattle.inlinable_string.proofs.Window.{chars_one}
 
 -- a character c begins the bytes, and rest follows it
@@ -136,7 +136,7 @@ pub lossy_all : (bs : List ℕ) → IsUtf8 bs → lossy_utf8 bs ≡ chars bs
 lossy_all bs u = ap lossy_utf8 (sym (append-nil bs)) ∙ lossy_valid bs [] u ∙ append-nil (chars bs)
 
 -- where none begins, U+FFFD comes, and the maximal subpart is passed over
-no_char : (bs : List ℕ) → 0 < length bs → char_len bs ≡ 0
+pub no_char : (bs : List ℕ) → 0 < length bs → char_len bs ≡ 0
     → lossy_utf8 bs ≡ 0xFFFD ∷ lossy_utf8 (drop (subpart_len bs) bs)
 no_char [] h none = absurd (omega arith)
 no_char (x ∷ bs) h none =
@@ -158,48 +158,8 @@ one_more bs n k u is some =
     ∙ first_passes (λ l. is_utf8 (take l (drop n bs))) (omega (arith, is)) in
     subst IsUtf8 (sym (take-add n k bs)) (IsUtf8-append _ _ u (IsUtf8-from_is_utf8 _ more))
 
--- one step over a text of n bytes and the maximal subpart of k behind it
-pub past_fault : (bs : List ℕ) (n k : ℕ) → n < length bs → IsUtf8 (take n bs)
-    → char_len (drop n bs) ≡ 0 → subpart_len (drop n bs) ≡ k
-    → lossy_utf8 bs ≡ chars (take n bs) ++ 0xFFFD ∷ lossy_utf8 (drop (n + k) bs)
-past_fault bs n k less u none is =
-    let some : 0 < length (drop n bs) = omega (arith, length-drop n bs) in
-    sym (ap lossy_utf8 (take-append-drop n bs))
-    ∙ lossy_valid (take n bs) (drop n bs) u
-    ∙ ap (λ t. chars (take n bs) ++ t)
-    (no_char (drop n bs) some none
-    ∙ ap (λ l. 0xFFFD ∷ lossy_utf8 l) (ap (λ l. drop l (drop n bs)) is ∙ drop-drop k n bs))
-
 -- the characters of bytes that end with the three of U+FFFD
 pub replaced-chars : (old new : List ℕ) → IsUtf8 old → IsUtf8 new
     → old ≡ new ++ 0xEF ∷ 0xBF ∷ 0xBD ∷ [] → chars old ≡ chars new ++ 0xFFFD ∷ []
 unfolding lib.Utf8.encode
 replaced-chars old new u v is = popped-chars old new 0xFFFD u v is
-
--- the bytes bs are read as the text t, and where more is left, U+FFFD and what that is read as
-abbrev pub ReadInParts : {A : Type 0} → Option A → (A → List ℕ) → List ℕ → List ℕ → Type 0
-ReadInParts left rest bs t = MatchOption left
-    (lossy_utf8 bs ≡ t) (λ l. lossy_utf8 bs ≡ t ++ 0xFFFD ∷ lossy_utf8 (rest l))
-
--- nothing is left
-pub read_whole : {A : Type 0} (left : Option A) (rest : A → List ℕ) (bs t : List ℕ) → left ≡ None
-    → ReadInParts left rest bs t → lossy_utf8 bs ≡ t
-read_whole left rest bs t e m = subst (λ o. ReadInParts o rest bs t) e m
-
--- this is left
-pub read_on : {A : Type 0} (left : Option A) (rest : A → List ℕ) (bs t : List ℕ) (l : A)
-    → left ≡ Some l → ReadInParts left rest bs t
-    → lossy_utf8 bs ≡ t ++ 0xFFFD ∷ lossy_utf8 (rest l)
-read_on left rest bs t l e m = subst (λ o. ReadInParts o rest bs t) e m
-
--- how many bytes that is
-pub size_on : {A : Type 0} (left : Option A) (rest : A → List ℕ) (bs t : List ℕ) (l : A)
-    → left ≡ Some l → ReadInParts left rest bs t
-    → size (lossy_utf8 bs) ≡ size t + (length (encode_utf8 0xFFFD) + size (lossy_utf8 (rest l)))
-size_on left rest bs t l e m = grind (arith, common_steps, read_on, size-append)
-
--- in either case the text t is in front
-pub size_within : {A : Type 0} (left : Option A) (rest : A → List ℕ) (bs t : List ℕ)
-    → ReadInParts left rest bs t → size t ≤ size (lossy_utf8 bs)
-size_within None rest bs t m = omega (arith, ap size m)
-size_within (Some l) rest bs t m = omega (arith, size_on (Some l) rest bs t l refl m)

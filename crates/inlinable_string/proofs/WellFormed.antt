@@ -304,3 +304,9 @@ is_text bs n read =
           (λ later. absurd (ends n later (both.0 (subst IsUtf8 (sym whole) u))))
           (cases_Bool (nat_eq n 0))),
     )
+
+-- nor is it text, whatever follows, in the last
+pub no_text : (bs rest : List ℕ) (n : ℕ) → IsReadTo bs rest n → n ≡ 48 → IsUtf8 bs → ⊥
+no_text bs rest n (front, is, read) last u =
+    none_follows rest (subst (λ m. Follows (ranges_of m) rest) last
+    ((read.rest rest).0 (subst IsUtf8 is u)))

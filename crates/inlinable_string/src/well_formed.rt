@@ -59,6 +59,9 @@ const ROWS: &[u64] = &[
     FOUR, AT_F4, BAD, BAD, BAD, BAD, BAD, BAD, BAD, BAD, BAD, BAD, BAD,
 ];
 
+/// The state after bytes that are no UTF-8.
+const NO_TEXT: u64 = 0o60;
+
 /// The bytes that are tested for ASCII together.
 const LANES: usize = 16;
 
@@ -72,6 +75,9 @@ pub(crate) fn is_utf8(bytes: &[u8]) -> bool
         let (block, after) = rest.split_at(LANES);
         if bits & 63 != 0 || !is_ascii(block) {
             bits = read(bits, block);
+            if bits & 63 == NO_TEXT {
+                return false;
+            }
         }
         rest = after;
     }

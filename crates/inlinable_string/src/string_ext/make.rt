@@ -96,7 +96,8 @@ pub trait StringMake: StringExt {
     /// The text of any bytes, with U+FFFD for each maximal subpart that is no character.
     ///
     /// Bytes that are UTF-8 are borrowed: it takes no memory, and is not refused. Of others memory
-    /// is asked for once, for the exact size.
+    /// is asked for once: a byte for each that is ASCII, and three for each that is not. What the
+    /// text does not take of it is its spare capacity.
     final fn from_utf8_lossy(alloc: Global, v: &[u8]) -> Result<CowStr, AllocError>
         ensures text { IfOk result (λ read. cow_str_bytes read ≡ bytes_of (lossy_utf8 v.now)) }
         ensures borrowed { IfOk result (λ read. IsBorrowedStr read ↔ IsUtf8 v.now) }

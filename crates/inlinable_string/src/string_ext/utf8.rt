@@ -1,72 +1,94 @@
 //! Bytes read as text, whatever they are: the parts that are UTF-8 whole, and U+FFFD between them.
-ghost use Rattle.std.specs.Prelude.{◌≡◌, ◌+◌, ◌<◌, ◌≤◌, ◌^◌, [], ◌∷◌, ◌++◌, length, take, drop, if◌then◌else◌, IfOk, IfSome, MatchOption, MatchResult, IsUtf8};
+ghost use Rattle.std.specs.Prelude.{◌≡◌, ◌+◌, ◌<◌, ◌≤◌, ◌∷◌, [], ◌++◌, length, take, drop, if◌then◌else◌, IfOk, IfSome, MatchResult, IsUtf8};
 ghost use Rattle.std.specs.Str.{chars};
 ghost use Rattle.std.specs.String.{string_bytes};
 ghost use Rattle.inlinable_string.specs.Text.{size};
 ghost use Rattle.inlinable_string.specs.Lossy.{lossy_utf8, char_len, subpart_len, count_in, following};
 
 use std::alloc::{AllocError, Global};
-use std::str;
 
 /// The text of the bytes, with U+FFFD for each maximal subpart that is no character. Memory is
-/// asked for once, for the exact size; a size past `usize::MAX` is want of memory.
+/// asked for once, of the size that [`room_for`] gives.
 pub(super) fn lossy(alloc: Global, bytes: &[u8]) -> Result<String, AllocError>
     ensures { IfOk result (λ made. chars (string_bytes made) ≡ lossy_utf8 bytes.now) }
 {
-    let Some(len) = lossy_len(bytes) else {
+    let Some(room) = room_for(bytes) else {
         return Err(AllocError);
     };
-    let mut made = String::with_capacity(alloc, len)?;
-    let mut rest = bytes;
-    loop {
-        let (text, left) = split_invalid(rest);
-        made.push_str(text)?;
-        let Some(left) = left else {
-            return Ok(made);
-        };
-        made.push_str("\u{FFFD}")?;
-        rest = left;
-    }
+    let mut made = vec![in alloc; 0u8; room]?;
+    let len = write(bytes, made.as_mut_slice());
+    made.truncate(len);
+    Ok(unsafe { String::from_utf8_unchecked(made) })
 }
 
-/// How many bytes that text has; `None` past `usize::MAX`.
-fn lossy_len(bytes: &[u8]) -> Option<usize>
-    ensures { MatchOption result
-        (2 ^ 64 ≤ size (lossy_utf8 bytes.now)) (λ len. len ≡ size (lossy_utf8 bytes.now)) }
+/// How many bytes that text has at most: one for each byte of ASCII, and three for each other, as
+/// if all of these were replaced. `None` past `usize::MAX`.
+fn room_for(bytes: &[u8]) -> Option<usize>
+    ensures { IfSome result (λ room. size (lossy_utf8 bytes.now) ≤ room) }
 {
-    let mut len: usize = 0;
-    let mut rest = bytes;
-    loop {
-        let (text, left) = split_invalid(rest);
-        len = len.checked_add(text.len())?;
-        let Some(left) = left else {
-            return Some(len);
-        };
-        len = len.checked_add(char::REPLACEMENT_CHARACTER.len_utf8())?;
-        rest = left;
+    let mut others: usize = 0;
+    for i in 0..bytes.len() {
+        if 0x80 <= bytes[i] {
+            others += 1;
+        }
     }
+    others.checked_mul(2)?.checked_add(bytes.len())
 }
 
-/// The longest front that is UTF-8, and what is left behind the maximal subpart that follows it;
-/// `None` where that front is the whole.
-fn split_invalid(bytes: &[u8]) -> (&str, Option<&[u8]>)
-    ensures text { MatchOption result.1
-        (lossy_utf8 bytes.now ≡ chars result.0.now)
-        (λ left. lossy_utf8 bytes.now ≡ chars result.0.now ++ 0xFFFD ∷ lossy_utf8 left.now) }
-    ensures utf8 { IsUtf8 result.0.now }
-    ensures less { IfSome result.1 (λ left. length left.now < length bytes.now) }
+/// Writes that text to the front of `made`, and returns how many bytes it has.
+fn write(bytes: &[u8], made: &mut [u8]) -> usize
+    requires { size (lossy_utf8 bytes.now) ≤ length made.old }
+    ensures utf8 { IsUtf8 (take result made.new) }
+    ensures text { chars (take result made.new) ≡ lossy_utf8 bytes.now }
 {
+    let mut rest = bytes;
     let mut end = 0;
-    while end < bytes.len() {
-        match char_or_subpart_len(&bytes[end..]) {
-            Ok(len) => end += len,
+    while 0 < rest.len() {
+        match char_or_subpart_len(rest) {
+            Ok(len) => {
+                write_char(rest, len, made, end);
+                rest = &rest[len..];
+                end += len;
+            }
             Err(len) => {
-                let text = unsafe { str::from_utf8_unchecked(&bytes[..end]) };
-                return (text, Some(&bytes[end + len..]));
+                write_replacement(made, end);
+                rest = &rest[len..];
+                end += 3;
             }
         }
     }
-    (unsafe { str::from_utf8_unchecked(bytes) }, None)
+    end
+}
+
+/// Writes the first `len` of these bytes.
+// No loop and no `copy_from_slice`: for so few bytes each takes longer.
+#[inline(always)]
+fn write_char(bytes: &[u8], len: usize, made: &mut [u8], at: usize)
+    requires char { (0 < len) × (len ≤ 4) × (len ≤ length bytes.now) }
+    requires room { at + len ≤ length made.old }
+    ensures { take (at + len) made.new ≡ take at made.old ++ take len bytes.now }
+{
+    made[at] = bytes[0];
+    if 1 < len {
+        made[at + 1] = bytes[1];
+        if 2 < len {
+            made[at + 2] = bytes[2];
+            if 3 < len {
+                made[at + 3] = bytes[3];
+            }
+        }
+    }
+}
+
+/// Writes U+FFFD.
+#[inline(always)]
+fn write_replacement(made: &mut [u8], at: usize)
+    requires { at + 3 ≤ length made.old }
+    ensures { take (at + 3) made.new ≡ take at made.old ++ 0xEF ∷ 0xBF ∷ 0xBD ∷ [] }
+{
+    made[at] = 0xEF;
+    made[at + 1] = 0xBF;
+    made[at + 2] = 0xBD;
 }
 
 /// How many bytes the character has that begins `bytes`; where none does, how many the maximal
@@ -74,7 +96,7 @@ fn split_invalid(bytes: &[u8]) -> (&str, Option<&[u8]>)
 fn char_or_subpart_len(bytes: &[u8]) -> Result<usize, usize>
     requires { 0 < length bytes.now }
     ensures len { MatchResult result
-        (λ len. (char_len bytes.now ≡ len) × (0 < len))
+        (λ len. (char_len bytes.now ≡ len) × (0 < len) × (len ≤ 4))
         (λ len. (char_len bytes.now ≡ 0) × (subpart_len bytes.now ≡ len) × (0 < len)) }
     ensures within { MatchResult result
         (λ len. len ≤ length bytes.now) (λ len. len ≤ length bytes.now) }
@@ -86,8 +108,7 @@ fn char_or_subpart_len(bytes: &[u8]) -> Result<usize, usize>
     if first < 0xC2 || 0xF4 < first {
         return Err(1);
     }
-    let (least, most) = second_byte_range(first);
-    if !byte_in_range(bytes, 1, least, most) {
+    if !second_in_range(bytes, first) {
         return Err(1);
     }
     if first < 0xE0 {
@@ -113,15 +134,16 @@ fn byte_in_range(bytes: &[u8], index: usize, least: u8, most: u8) -> bool
     index < bytes.len() && least <= bytes[index] && bytes[index] <= most
 }
 
-/// The range of the byte behind the first one of a character that has more.
-fn second_byte_range(first: u8) -> (u8, u8)
-    ensures { 0xC2 ≤ first → first ≤ 0xF4 → take 1 (following first) ≡ result ∷ [] }
+/// Whether there is a second byte, and it is in the range that the first has behind it.
+fn second_in_range(bytes: &[u8], first: u8) -> bool
+    ensures { 0xC2 ≤ first → first ≤ 0xF4
+        → count_in (take 1 (following first)) (drop 1 bytes.now) ≡ (if result then 1 else 0) }
 {
     match first {
-        0xE0 => (0xA0, 0xBF),
-        0xED => (0x80, 0x9F),
-        0xF0 => (0x90, 0xBF),
-        0xF4 => (0x80, 0x8F),
-        _ => (0x80, 0xBF),
+        0xE0 => byte_in_range(bytes, 1, 0xA0, 0xBF),
+        0xED => byte_in_range(bytes, 1, 0x80, 0x9F),
+        0xF0 => byte_in_range(bytes, 1, 0x90, 0xBF),
+        0xF4 => byte_in_range(bytes, 1, 0x80, 0x8F),
+        _ => byte_in_range(bytes, 1, 0x80, 0xBF),
     }
 }

@@ -1,8 +1,19 @@
-use Rattle.inlinable_string.proofs.WellFormed.{read_block, read_to_end, ascii_block, is_text}
+use Rattle.inlinable_string.proofs.WellFormed.{read_block, read_to_end, ascii_block, is_text, no_text}
+use Rattle.std.proofs.lemmas.Bool.{false≢true}
 use Rattle.inlinable_string.proofs.well_formed.is_utf8.Goals as goal
 
-pub loop-rest-preserved-then-bits-ne0 : goal.loop-rest-preserved-then-bits-ne0
-loop-rest-preserved-then-bits-ne0 c =
+pub returns-then-bits-eq-NO_TEXT : goal.returns-then-bits-eq-NO_TEXT
+returns-then-bits-eq-NO_TEXT c = (
+  (λ false_is. absurd (false≢true false_is)),
+  (λ text. absurd
+      (no_text _ _ _
+          (read_block _ _ _ _ _ _ c.loop-rest.invariant c.split_at.ensures.by_index.0
+              c.read-bits.ensures)
+          c.if-bits-eq-NO_TEXT.true text)),
+)
+
+pub loop-rest-preserved-else-bits-eq-NO_TEXT : goal.loop-rest-preserved-else-bits-eq-NO_TEXT
+loop-rest-preserved-else-bits-eq-NO_TEXT c =
     read_block _ _ _ _ _ _ c.loop-rest.invariant c.split_at.ensures.by_index.0 c.read-bits.ensures
 
 pub loop-rest-preserved : goal.loop-rest-preserved

@@ -1,0 +1,177 @@
+-- The lossy reading of UTF-8 written as bytes: how far it is written, and the room that it takes.
+use Rattle.inlinable_string.proofs.Common.{◌≡◌, ℕ, zero, suc, ◌+◌, ◌-◌, ◌<◌, ◌≤◌, nat_eq, nat_lt, List, [], ◌∷◌, ◌++◌, length, take, drop, refl, ap, sym, ◌∙◌, arith, subst, ⊎_elim, append_assoc, append-nil, length-take-le, take-append-drop, if◌then◌else◌, cases_Bool, cases_lt, cond-true, cond-false, nat_tests, eqb-true, encode_utf8, chars, chars-nil, chars-append, IsUtf8, IsUtf8-append, size, char_len, subpart_len, lossy_utf8_past, lossy_utf8}
+use Rattle.std.proofs.lemmas.Str.{IsUtf8-nil}
+use Rattle.inlinable_string.proofs.Text.{size-append, size-chars}
+use Rattle.inlinable_string.proofs.Subparts.{one_more, lossy_valid, no_char, replaced-chars}
+use Rattle.inlinable_string.proofs.Starts.{ascii}
+
+-- what a character at the front is read as
+char_front : (bs : List ℕ) (k : ℕ) → char_len bs ≡ k → 0 < k → IsUtf8 (take k bs)
+char_front bs k is some =
+    let all : 0 + k ≡ k = omega arith in
+    subst (λ n. IsUtf8 (take n bs)) all (one_more bs 0 k IsUtf8-nil is some)
+
+char_read : (bs : List ℕ) (k : ℕ) → char_len bs ≡ k → 0 < k
+    → lossy_utf8 bs ≡ chars (take k bs) ++ lossy_utf8 (drop k bs)
+char_read bs k is some =
+    ap lossy_utf8 (sym (take-append-drop k bs))
+    ∙ lossy_valid (take k bs) (drop k bs) (char_front bs k is some)
+
+-- the code of U+FFFD
+replacement : IsUtf8 (0xEF ∷ 0xBF ∷ 0xBD ∷ [])
+unfolding lib.Utf8.encode
+replacement = (0xFFFD ∷ [], (refl, refl))
+
+replaced_size : (t : List ℕ) → size (0xFFFD ∷ t) ≡ 3 + size t
+unfolding lib.Utf8.encode
+replaced_size t = size-append (0xFFFD ∷ []) t
+
+-- the text of bs is written before end, without that of the rest
+pub record Written (bs rest made : List ℕ) (end : ℕ) : Type 0 where
+  pub within : end ≤ length made
+  pub utf8 : IsUtf8 (take end made)
+  pub text : chars (take end made) ++ lossy_utf8 rest ≡ lossy_utf8 bs
+
+-- nothing is written
+pub at_start : (bs made : List ℕ) → Written bs bs made 0
+at_start bs made = record {
+  within = omega arith;
+  utf8 = IsUtf8-nil;
+  text = ap (λ t. t ++ lossy_utf8 bs) chars-nil;
+}
+
+-- all is
+pub at_end : (bs rest made : List ℕ) (end : ℕ) → Written bs rest made end → length rest ≤ 0
+    → chars (take end made) ≡ lossy_utf8 bs
+at_end bs [] made end so none = sym (append-nil (chars (take end made))) ∙ so.text
+at_end bs (x ∷ rest) made end so none = absurd (omega (arith, none))
+
+size_left : (bs rest made : List ℕ) (end : ℕ) → Written bs rest made end
+    → end + size (lossy_utf8 rest) ≡ size (lossy_utf8 bs)
+size_left bs rest made end so =
+    omega (
+      arith,
+      ap size so.text,
+      size-append (chars (take end made)) (lossy_utf8 rest),
+      size-chars (take end made) so.utf8,
+      length-take-le end made so.within,
+    )
+
+-- there is room for the character that comes
+pub char_room : (bs rest made : List ℕ) (end k : ℕ) → Written bs rest made end
+    → size (lossy_utf8 bs) ≤ length made → char_len rest ≡ k → 0 < k → k ≤ length rest
+    → end + k ≤ length made
+char_room bs rest made end k so room is some within =
+    omega (
+      arith,
+      size_left bs rest made end so,
+      ap size (char_read rest k is some),
+      size-append (chars (take k rest)) (lossy_utf8 (drop k rest)),
+      size-chars (take k rest) (char_front rest k is some),
+      length-take-le k rest within,
+    )
+
+-- for U+FFFD too, where none does
+pub fault_room : (bs rest made : List ℕ) (end : ℕ) → Written bs rest made end
+    → size (lossy_utf8 bs) ≤ length made → char_len rest ≡ 0 → 0 < length rest
+    → end + 3 ≤ length made
+fault_room bs rest made end so room none some =
+    omega (
+      arith,
+      size_left bs rest made end so,
+      ap size (no_char rest some none),
+      replaced_size (lossy_utf8 (drop (subpart_len rest) rest)),
+    )
+
+-- a character more
+pub char_written : (bs rest made new : List ℕ) (end k : ℕ) → Written bs rest made end
+    → char_len rest ≡ k → 0 < k → end + k ≤ length new
+    → take (end + k) new ≡ take end made ++ take k rest → Written bs (drop k rest) new (end + k)
+char_written bs rest made new end k so is some within front =
+    let u = char_front rest k is some in record {
+      within = within;
+      utf8 = subst IsUtf8 (sym front) (IsUtf8-append _ _ so.utf8 u);
+      text = ap (λ f. chars f ++ lossy_utf8 (drop k rest)) front
+          ∙ ap (λ t. t ++ lossy_utf8 (drop k rest))
+          (chars-append (take end made) (take k rest) so.utf8)
+          ∙ append_assoc (chars (take end made)) (chars (take k rest)) (lossy_utf8 (drop k rest))
+          ∙ ap (λ t. chars (take end made) ++ t) (sym (char_read rest k is some))
+          ∙ so.text;
+    }
+
+-- a maximal subpart more
+pub fault_written : (bs rest made new : List ℕ) (end k : ℕ) → Written bs rest made end
+    → char_len rest ≡ 0 → subpart_len rest ≡ k → 0 < length rest → end + 3 ≤ length new
+    → take (end + 3) new ≡ take end made ++ 0xEF ∷ 0xBF ∷ 0xBD ∷ []
+    → Written bs (drop k rest) new (end + 3)
+fault_written bs rest made new end k so none is some within front =
+    let u = subst IsUtf8 (sym front) (IsUtf8-append _ _ so.utf8 replacement) in
+    let more = lossy_utf8 (drop k rest) in record {
+      within = within;
+      utf8 = u;
+      text = ap (λ t. t ++ more) (replaced-chars _ _ u so.utf8 front)
+          ∙ append_assoc (chars (take end made)) (0xFFFD ∷ []) more
+          ∙ ap (λ t. chars (take end made) ++ t)
+          (ap (λ n. 0xFFFD ∷ lossy_utf8 (drop n rest)) (sym is) ∙ sym (no_char rest some none))
+          ∙ so.text;
+    }
+
+-- the most bytes that the text can have: each byte that is not ASCII may be replaced
+abbrev pub most : List ℕ → ℕ
+most [] = 0
+most (b ∷ bs) = (if nat_lt b 128 then 1 else 3) + most bs
+
+most_front : (n : ℕ) (bs : List ℕ) → length (take n bs) + most (drop n bs) ≤ most bs
+most_front zero bs = omega arith
+most_front (suc n) [] = omega arith
+most_front (suc n) (b ∷ bs) = let rest = most_front n bs in grind (arith, nat_tests)
+
+the_suc : (k : ℕ) → 0 < k → k ≡ suc (k - 1)
+the_suc k some = omega arith
+
+at_least : (b : ℕ) (bs : List ℕ) → 1 + most bs ≤ most (b ∷ bs)
+at_least b bs = grind (arith, nat_tests)
+
+past_most : (n : ℕ) (bs : List ℕ) → size (lossy_utf8_past n bs) ≤ most (drop n bs)
+past_most n [] = omega arith
+past_most (suc n) (b ∷ bs) = past_most n bs
+past_most zero (b ∷ bs) =
+    ⊎_elim
+    (λ none.
+    let k = subpart_len (b ∷ bs) - 1 in
+    let is : lossy_utf8 (b ∷ bs) ≡ 0xFFFD ∷ lossy_utf8_past k bs = cond-true _ _ _ none in
+    let no : char_len (b ∷ bs) ≡ 0 = eqb-true _ _ none in
+    let other : 128 ≤ b =
+    ⊎_elim (λ below. absurd (omega (arith, no, ascii (b ∷ bs) (omega arith) below))) (λ h. h)
+    (cases_lt b 128) in
+    let three : most (b ∷ bs) ≡ 3 + most bs = grind (arith, nat_tests, other) in
+    omega (
+      arith,
+      three,
+      ap size is,
+      replaced_size (lossy_utf8_past k bs),
+      past_most k bs,
+      most_front k bs,
+    ))
+    (λ some.
+    let k = char_len (b ∷ bs) in
+    let is : lossy_utf8 (b ∷ bs) ≡ chars (take k (b ∷ bs)) ++ lossy_utf8_past (k - 1) bs =
+    cond-false _ _ _ some in
+    let one : 0 < k = grind (arith, nat_tests, some) in
+    let front : take k (b ∷ bs) ≡ b ∷ take (k - 1) bs =
+    ap (λ n. take n (b ∷ bs)) (the_suc k one) in
+    omega (
+      arith,
+      ap size is,
+      size-append (chars (take k (b ∷ bs))) (lossy_utf8_past (k - 1) bs),
+      size-chars (take k (b ∷ bs)) (char_front (b ∷ bs) k refl one),
+      ap length front,
+      past_most (k - 1) bs,
+      most_front (k - 1) bs,
+      at_least b bs,
+    ))
+    (cases_Bool (nat_eq (char_len (b ∷ bs)) 0))
+
+-- so many bytes are room for it
+pub within_most : (bs : List ℕ) → size (lossy_utf8 bs) ≤ most bs
+within_most bs = past_most 0 bs
