@@ -11,6 +11,9 @@ EDITS = {'inlinable_string': 178, 'inline_model': 20, 'inline_uses': 27, 'script
 # By crate: requests for memory refused one after the other, and how often a test met one.
 REFUSALS = {'inline_refusals': (7, 155)}
 
+# Edits in `wrong-bodies/`: just as many.
+WRONG_BODIES = 19
+
 
 def each(names, words):
     """Every name with every word behind it."""
