@@ -16,7 +16,7 @@ LIBRARY = 'inlinable_string'
 COLUMNS, FILE_LINES, PROOF_LINES = 100, 500, 30
 # Folders that no commit has.
 MADE = ('.git', 'out', '__pycache__')
-EDIT_FOLDERS = ('must-fail', 'must-fail-together', 'wrong-definitions', 'wrong-clauses')
+EDIT_FOLDERS = ('must-fail', 'must-fail-together', 'wrong-definitions', 'wrong-clauses', 'wrong-bodies')
 # Files that `rt` checks, and files that a reader reads: stored answers and inputs are none.
 CHECKED, SOURCES = ('.rt', '.antt'), ('.rt', '.antt', '.py', '.rs', '.cpp')
 READ = (*SOURCES, '.edits', '.md')

@@ -5,12 +5,23 @@ it makes, and how many of them are unseen, as std does without (`shrink_to_fit` 
 more of each test is its last. A test must say `one refused` where one of its requests fails, except as often as
 it has unseen ones, `last refused` at the next, and `none refused` after it. So a call that allocates where it need
 not is found, even if it does without where that fails. Each allocation is one build of a crate's tests.
-"""
-import re
 
-from floors import REFUSALS
+Without CRATE the wrong bodies of `wrong-bodies/` are tried too, those of a file in one build: each test that one
+names must go wrong, and print the word behind it. A test that only other files name must not.
+"""
+import os
+import re
+from glob import glob
+
+from floors import REFUSALS, WRONG_BODIES
+from gate_parts.edit_files import read_edits, refuse_repetitions, texts_with
 from gate_parts.options import options
-from gate_parts.tree import Failure, crate_folder, run_rt, too_few
+from gate_parts.rooms import Room, copies
+from gate_parts.tree import Failure, crate_folder, crates_with, run_rt, too_few
+
+FOLDER = 'wrong-bodies'
+# The allocation that fails over wrong bodies: the first that is one too many may come second.
+REQUEST = 2
 
 # A test, and what it printed.
 TEST = re.compile(r'^test (?!result:)(\S+) [^\n]*?(\S+)$(.*?)(?=^test |\Z)', re.MULTILINE | re.DOTALL)
@@ -70,8 +81,38 @@ def is_swept(crate):
     return not faults
 
 
+def are_refused(library, edits, named):
+    """Whether tests go wrong over these wrong bodies of a library as they say, and no other that is named."""
+    goals = [goal for edit in edits for goal in edit.goals]
+    crate, own = goals[0].crate, {goal.function for goal in goals}
+    with copies([library, crate], 1) as (top,), Room(top, library) as room:
+        room.write(texts_with(crate_folder(library), edits))
+        said = run_rt(crate_folder(crate, top), 'try', '--test', '--fail-alloc', str(REQUEST))[0]
+    found = {name: printed for name, how, printed in TEST.findall(said)
+             if how != 'ok' or list(faults_of(REQUEST, {name: SAYING.findall(printed)}, {}))}
+    faults = [f'{goal.function} does not go wrong with `{goal.name}`' for goal in goals
+              if goal.name not in re.findall(r'\w+', found.get(goal.function, ''))]
+    faults += [f'{name} goes wrong, and no edit here names it' for name in sorted(named & found.keys() - own)]
+    faults += ['a test is named twice'] * (len(own) < len(goals))
+    print(f'{library}: {"NOT AS THEY MUST BE" if faults else "refused by tests"}',
+          *(edit.name for edit in edits), *faults, *[said] * bool(faults), sep='\n    ', flush=True)
+    return not faults
+
+
+def bodies_are_refused():
+    """Whether tests refuse all wrong bodies, of which there are as many as is said."""
+    groups = [(library, read_edits(path, library)) for library in crates_with(FOLDER)
+              for path in sorted(glob(os.path.join(crate_folder(library), FOLDER, '*')))]
+    edits = [edit for _, group in groups for edit in group]
+    refuse_repetitions(FOLDER, edits)
+    if len(edits) != WRONG_BODIES:
+        raise Failure(f'there are {len(edits)} wrong bodies, and floors.py says {WRONG_BODIES}')
+    named = {function for edit in edits for _, function in edit.functions()}
+    return all([are_refused(library, group, named) for library, group in groups])
+
+
 def main(words):
-    crates = options('refusals', __doc__, words, 'crates').crates or list(REFUSALS)
-    if not crates:
+    given = options('refusals', __doc__, words, 'crates').crates
+    if not given and not REFUSALS:
         raise Failure('no crate is named, and .ci/floors.py has none')
-    return all([is_swept(crate) for crate in crates])
+    return all([*map(is_swept, given or REFUSALS), bool(given) or bodies_are_refused()])

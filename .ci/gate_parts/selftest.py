@@ -15,7 +15,7 @@ from gate_parts.tree import in_tree, text_of, write_text
 
 FLOORS = '''
 EDITS, MUST_FAIL, WRONG_DEFINITIONS, WRONG_CLAUSES, CALLERS = {'toy': 1}, {'toy': 1}, {'toy': 1}, 1, 1
-REFUSALS = {'toy': (2, 3)}
+REFUSALS, WRONG_BODIES = {'toy': (2, 3)}, 2
 BENCH_WORKLOADS, BENCH_TEXTS = 1, {'One': 1, 'Two': 1}
 PROOFS, CITED = 3, 2
 '''
@@ -61,6 +61,8 @@ file: src/lib.rt
 old: result ≡ LIMIT
 new: result ≡ result
 '''
+BODY = EDIT.replace('one returns-clause-value', 'refusals::first none')
+OTHER_BODY = BODY.replace('first', 'second').replace('    1', '    one()').replace('    2', '    3')
 # A workload on two types of text, and a program that has its sum.
 WORKLOADS = '''from collections import namedtuple
 
@@ -75,18 +77,20 @@ SUMMING = '''#!/bin/sh
 STAND_IN = r'''#!/usr/bin/env python3
 import os, sys
 crate, words = os.path.basename(os.getcwd()), sys.argv[1:]
-if words[0] == 'try':
-    for name in ('first', 'second'):
-        print(f'test refusals::{name} ... ' + os.environ.get('RESULT', 'ok'))
-        for said in os.environ[name.upper()].split(',')[int(words[-1]) - 1:][:1]:
-            print('    {} refused of {} requests, {} unseen'.format(*said.split()))
-    print('test result: ok.' if 'CUT_OFF' not in os.environ else '')
-    sys.exit()
 text = ''
 for place, _, names in os.walk('..'):
     for name in names:
         if name.endswith(('.rt', '.antt')):
             text += open(os.path.join(place, name), encoding='utf-8').read()
+if words[0] == 'try':
+    for name in ('first', 'second'):
+        is_wrong = {'first': '    2\n', 'second': '    3\n'}[name] in text
+        said = os.environ['WRONG' if is_wrong else name.upper()]
+        print(f'test refusals::{name} ... ' + os.environ.get('RESULT', 'ok'))
+        for said in said.split(',')[int(words[-1]) - 1:][:1]:
+            print('    {} refused of {} requests, {} unseen'.format(*said.split()))
+    print('test result: ok.' if 'CUT_OFF' not in os.environ else '')
+    sys.exit()
 refused = os.environ.get('REFUSED', '').split() if os.environ['WORD'] in text else []
 if refused:
     print(os.environ.get('ERROR', ''))
@@ -102,6 +106,7 @@ sys.exit(any(each.startswith(crate + '/') for each in refused))
 TOGETHER, ALONE = 'crates/toy/must-fail-together/lib.edits', 'crates/toy/must-fail/two_for_other.edit'
 LISTED, DEFINITIONS = 'crates/toy/must-fail/README.md', 'crates/toy/wrong-definitions/Word.edits'
 CLAUSES, LIB = 'crates/toy/wrong-clauses/lib.edits', 'crates/toy/src/lib.rt'
+BODIES, OTHER_BODIES = 'crates/toy/wrong-bodies/lib.edits', 'crates/toy/wrong-bodies/other.edits'
 PROOF = 'crates/toy/proofs/Toy.antt'
 REPOSITORY = {
     '.ci/floors.py': text_of(in_tree('.ci', 'floors.py')) + FLOORS, 'HANDLES': 'Handles allowed: none.\n',
@@ -111,6 +116,7 @@ REPOSITORY = {
     'crates/above/src/rows.rt': LAW.replace('law', 'row'),
     'crates/callers/src/lib.rt': SOURCE.replace('one', 'call'), TOGETHER: EDIT, LISTED: TABLE,
     ALONE: 'file: src/lib.rt\nold:     one()\nnew:     2\n', DEFINITIONS: DEFINITION, CLAUSES: CLAUSE,
+    BODIES: BODY, OTHER_BODIES: OTHER_BODY.replace('two_for', 'three_for'),
     'bench/sums.py': text_of(in_tree('bench', 'sums.py')), 'bench/workloads.py': WORKLOADS,
     'bench/sums': '11 from 6\n', PROOF: 'one = 1\n',
     'README.md': '```rust\nfn main() {}\n```\nIt prints `fn pasted::main: proved`. `toy/src/lib.rt` has `rows::row`.\n'}
@@ -119,7 +125,8 @@ IN_ORDER = {
     'edits': ('--jobs 2', {'WORD': '    2\n', 'REFUSED': 'toy/one toy/other'}),
     'definitions': ('--jobs 2', {'WORD': 'word = 2', 'REFUSED': 'toy/law above/row'}),
     'callers': ('', {'WORD': 'result ≡ result', 'REFUSED': 'callers/call'}),
-    'refusals': ('', {'FIRST': 'one 2 0,one 2 0,last 2 0', 'SECOND': 'one 1 0,last 1 0,none 1 0'}),
+    'refusals': ('', {'FIRST': 'one 2 0,one 2 0,last 2 0', 'SECOND': 'one 1 0,last 1 0,none 1 0',
+                      'WRONG': 'none 2 0,none 2 0'}),
     'bench': ('bin/program', {}),
     'counts': ('', {})}
 ILL = './specs/E0Word.antt:1:1: error: `word`: expected type `ℕ`'
@@ -160,6 +167,10 @@ BROKEN = (
     *(('refusals', 'second says', {'SECOND': said}) for said in (
         'one 1 0,one 1 0', 'one 2 0,last 2 0', 'one 1 0,last 1 0,one 1 0', 'none 1 0', 'none 2 1,none 2 1',
         'one 1 1,last 1 1', 'one 1 0')),
+    ('refusals', 'first does not go wrong with `none`', {'WRONG': 'one 2 0,one 2 0'}),
+    ('refusals', 'second goes wrong, and no edit', BODIES, BODY, BODY + 'old:     one()\nnew:     3\n'),
+    ('refusals', 'a test is named twice', BODIES, 'file:', 'refused: refusals::first last\nfile:'),
+    ('refusals', 'there are 2 wrong bodies', '.ci/floors.py', '(2, 3)}, 2', '(2, 3)}, 1'),
     ('bench', 'wanted 11, given 12', 'bin/program', 'echo 11', 'echo 12'),
     ('bench', 'is not there', 'bin/program', '', None),
     ('bench', '0 are `Two`, and at least 1 must be', 'bench/workloads.py', "'One', 'Two'", "'One',"),

@@ -9,6 +9,7 @@ use test_support::Refusals;
 
 mod calls;
 mod kind;
+mod long;
 mod own;
 mod row;
 mod runs;

@@ -207,7 +207,11 @@ const WITHOUT_MEMORY: &[JoinRow] = rows! {
     (None, LETTERS_29, Strs(&["a"]), LETTERS_30, Inline, true),
     (None, LETTERS_28, Strs(&["€"]), LETTERS_28, Inline, false),
     (None, LETTERS_29, Strs(&["bc"]), LETTERS_29, Inline, false),
+    (None, LETTERS_29, Chars(&['a']), LETTERS_30, Inline, true),
+    (None, LETTERS_28, Chars(&['€']), LETTERS_28, Inline, false),
     // On the heap, up to the capacity there.
+    (HEAP_ROOM, LETTERS_30, Chars(&['a']), LETTERS_31, Heap, true),
+    (HEAP_ROOM, LETTERS_31, Chars(&['a']), LETTERS_31, Heap, false),
     (HEAP_ROOM, LETTERS_29, Chars(&['a', 'a', 'b']), LETTERS_31, Heap, false),
     (HEAP_ROOM, LETTERS_29, Strs(&["aa"]), LETTERS_31, Heap, true),
     (HEAP_ROOM, LETTERS_31, Strs(&["b"]), LETTERS_31, Heap, false),

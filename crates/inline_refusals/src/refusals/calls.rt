@@ -2,14 +2,18 @@
 use super::kind::Kind::{self, N0, N8, N30, String, User};
 use super::kind::assert_rows;
 use super::row::Call::{
-    Add, Chars, Clone, From, FromChars, FromJson, FromStr, FromStrs, FromUtf8Lossy, FromUtf16,
-    FromUtf16Lossy, InsertFirst, InsertStrFirst, IntoBytes, Push, PushStr, Reserve, ReserveExact,
-    ShrinkToFit, Strs, ToLimit8, ToLimit300, Unpaired, WriteFormatted, WriteStr,
+    self, Add, Chars, Clone, From, FromChars, FromJson, FromStr, FromStrs, FromUtf8Lossy,
+    FromUtf16, FromUtf16Lossy, InsertFirst, InsertStrFirst, IntoBytes, Push, PushStr, Reserve,
+    ReserveExact, ShrinkToFit, Strs, ToLimit8, ToLimit300, Unpaired, WriteChar, WriteFormatted,
+    WriteStr,
 };
-use super::row::Row;
 use super::row::Way::{Own, Refs, Std};
+use super::row::{Row, Text};
+use inlinable_string::InlineStringN;
 use inlinable_string::Storage::{Heap, Inline};
+use std::fmt::Write;
 use std::test::Fail;
+use test_support::Refusals;
 
 const A29: &str = "aaaaaaaaaaaaaaaaaaaaaaaaaaaaa";
 
@@ -18,15 +22,16 @@ const A30: &str = "aaaaaaaaaaaaaaaaaaaaaaaaaaaaaa";
 /// More than is stored inline.
 const A31: &str = "aaaaaaaaaaaaaaaaaaaaaaaaaaaaaaa";
 
+/// Those first that request nothing.
 const GROWN: &[Row] = &[
+    (N30, (0, A29), Push('b'), 0, "", "b", Inline),
+    (N30, (0, ""), Push('é'), 0, "", "é", Inline),
     (N30, (0, A30), Push('é'), 1, "", "é", Heap),
     (N30, (0, A30), PushStr("bc"), 1, "", "bc", Heap),
     (N30, (0, A30), InsertFirst('é'), 1, "é", "", Heap),
     (N30, (0, A30), InsertStrFirst("bc"), 1, "bc", "", Heap),
     (N30, (0, A30), Reserve(100), 1, "", "", Heap),
     (N30, (0, A30), ReserveExact(100), 1, "", "", Heap),
-    (N30, (0, A29), Push('b'), 0, "", "b", Inline),
-    (N30, (0, ""), Push('é'), 0, "", "é", Inline),
     (N30, (0, ""), PushStr(A30), 0, "", A30, Inline),
     (N30, (0, A29), InsertFirst('b'), 0, "b", "", Inline),
     (N30, (30, ""), InsertStrFirst(A30), 0, A30, "", Inline),
@@ -89,39 +94,45 @@ fn a_shrink_on_the_heap_and_a_push_without_inline_room(rt: HostRuntime) -> Resul
     assert_rows(&rt, rt.alloc(), SHRINKING)
 }
 
-const LONE: &[u16] = &[0xD800, 0xD834, 0xDD1E];
-
-const CUT: &[u8] = &[0xE2, 0x82, 0x41];
-
-fn read(kind: Kind) -> [Row; 6] {
+/// A call that reads into each kind of text.
+fn read(call: Call, requests: usize, text: Text) -> [Row; 4] {
     [
-        (kind, (0, ""), FromUtf16(&[0x61]), 1, "", "a", Heap),
-        (kind, (0, ""), FromUtf16Lossy(LONE), 1, "", "�𝄞", Heap),
-        (kind, (0, ""), FromUtf8Lossy(CUT), 1, "", "�A", Heap),
-        (kind, (0, ""), FromUtf8Lossy(b"he"), 0, "", "he", Heap),
-        (kind, (0, ""), Unpaired(&[0xD800]), 0, "", "", Heap),
-        (kind, (0, ""), Unpaired(&[0x61, 0xDC00]), 0, "", "", Heap),
+        (N30, (0, ""), call, requests, "", text, Heap),
+        (N0, (0, ""), call, requests, "", text, Heap),
+        (String, (0, ""), call, requests, "", text, Heap),
+        (User, (0, ""), call, requests, "", text, Heap),
     ]
 }
 
 #[test]
-fn units_and_bytes_are_read(rt: HostRuntime) -> Result<(), Fail> {
-    assert_rows(&rt, rt.alloc(), &read(N30))
+fn units_are_read(rt: HostRuntime) -> Result<(), Fail> {
+    assert_rows(&rt, rt.alloc(), &read(FromUtf16(&[0x61]), 1, "a"))
 }
 
 #[test]
-fn units_and_bytes_are_read_into_a_text_without_inline_room(rt: HostRuntime) -> Result<(), Fail> {
-    assert_rows(&rt, rt.alloc(), &read(N0))
+fn an_unpaired_unit_is_found(rt: HostRuntime) -> Result<(), Fail> {
+    let [a, b, c, d] = read(Unpaired(&[0xD800]), 0, "");
+    let [e, f, g, h] = read(Unpaired(&[0x61, 0xDC00]), 0, "");
+    assert_rows(&rt, rt.alloc(), &[a, b, c, d, e, f, g, h])
+}
+
+const LONE: &[u16] = &[0xD800, 0xD834, 0xDD1E];
+
+#[test]
+fn units_are_read_with_signs(rt: HostRuntime) -> Result<(), Fail> {
+    assert_rows(&rt, rt.alloc(), &read(FromUtf16Lossy(LONE), 1, "�𝄞"))
+}
+
+const CUT: &[u8] = &[0xE2, 0x82, 0x41];
+
+#[test]
+fn bytes_are_read_with_signs(rt: HostRuntime) -> Result<(), Fail> {
+    assert_rows(&rt, rt.alloc(), &read(FromUtf8Lossy(CUT), 1, "�A"))
 }
 
 #[test]
-fn units_and_bytes_are_read_into_a_string(rt: HostRuntime) -> Result<(), Fail> {
-    assert_rows(&rt, rt.alloc(), &read(String))
-}
-
-#[test]
-fn units_and_bytes_are_read_into_a_text_of_a_user(rt: HostRuntime) -> Result<(), Fail> {
-    assert_rows(&rt, rt.alloc(), &read(User))
+fn bytes_are_borrowed(rt: HostRuntime) -> Result<(), Fail> {
+    assert_rows(&rt, rt.alloc(), &read(FromUtf8Lossy(b"he"), 0, "he"))
 }
 
 const MADE: &[Row] = &[
@@ -144,20 +155,28 @@ fn a_text_is_made_of_a_string(rt: HostRuntime) -> Result<(), Fail> {
     assert_rows(&rt, rt.alloc(), MADE)
 }
 
-const MOVED: &[Row] = &[
+const BYTES: &[Row] = &[
     (N30, (0, "hello"), IntoBytes, 1, "", "", Heap),
     (N8, (0, "hello"), IntoBytes, 1, "", "", Heap),
     (N30, (31, "hello"), IntoBytes, 0, "", "", Heap),
     (String, (31, "hello"), IntoBytes, 0, "", "", Heap),
-    (N30, (0, A30), ToLimit8, 1, "", "", Heap),
-    (N30, (31, A31), ToLimit8, 0, "", "", Heap),
-    (N30, (31, "12345678"), ToLimit8, 0, "", "", Inline),
-    (N30, (0, "12345678"), ToLimit8, 0, "", "", Inline),
-    (N30, (0, A30), ToLimit300, 0, "", "", Inline),
 ];
 
 #[test]
-fn a_text_gives_its_bytes_or_moves_to_another_capacity(rt: HostRuntime) -> Result<(), Fail> {
+fn a_text_gives_its_bytes_and_is_made_of_them(rt: HostRuntime) -> Result<(), Fail> {
+    assert_rows(&rt, rt.alloc(), BYTES)
+}
+
+const MOVED: &[Row] = &[
+    (N30, (0, "12345678"), ToLimit8, 0, "", "", Inline),
+    (N30, (0, A30), ToLimit300, 0, "", "", Inline),
+    (N30, (0, A30), ToLimit8, 1, "", "", Heap),
+    (N30, (31, A31), ToLimit8, 0, "", "", Heap),
+    (N30, (31, "12345678"), ToLimit8, 0, "", "", Inline),
+];
+
+#[test]
+fn a_text_moves_to_another_capacity(rt: HostRuntime) -> Result<(), Fail> {
     assert_rows(&rt, rt.alloc(), MOVED)
 }
 
@@ -209,29 +228,57 @@ fn a_text_is_made_of_items(rt: HostRuntime) -> Result<(), Fail> {
     assert_rows(&rt, rt.alloc(), MADE_OF_ITEMS)
 }
 
-const COPIED_OR_ADDED: &[Row] = &[
+const COPIED: &[Row] = &[
     (N30, (31, "hi"), Clone, 1, "", "", Heap),
     (N30, (31, A31), Clone, 1, "", "", Heap),
     (N30, (0, A30), Clone, 0, "", "", Inline),
+];
+
+#[test]
+fn a_text_is_copied(rt: HostRuntime) -> Result<(), Fail> {
+    assert_rows(&rt, rt.alloc(), COPIED)
+}
+
+const ADDED: &[Row] = &[
     (N30, (0, A29), Add("b"), 0, "", "b", Inline),
     (N30, (0, A29), Add("bc"), 1, "", "bc", Heap),
     (N30, (31, A31), Add("bc"), 1, "", "bc", Heap),
 ];
 
 #[test]
-fn a_copy_and_a_sum(rt: HostRuntime) -> Result<(), Fail> {
-    assert_rows(&rt, rt.alloc(), COPIED_OR_ADDED)
+fn a_text_is_added(rt: HostRuntime) -> Result<(), Fail> {
+    assert_rows(&rt, rt.alloc(), ADDED)
 }
 
 const WRITTEN: &[Row] = &[
     (N30, (0, A29), WriteStr("bc"), 1, "", "bc", Heap),
-    (N30, (0, A29), WriteFormatted("bc"), 1, "", "bc", Heap),
+    (N30, (0, A29), WriteFormatted("c"), 1, "", "bc", Heap),
     (N30, (31, A31), WriteStr("bc"), 1, "", "bc", Heap),
-    (N30, (31, A31), WriteFormatted("bc"), 1, "", "bc", Heap),
-    (N30, (0, A29), WriteFormatted("b"), 0, "", "b", Inline),
+    (N30, (32, A31), WriteFormatted("c"), 1, "", "bc", Heap),
+    (N30, (0, A29), WriteFormatted(""), 0, "", "b", Inline),
 ];
 
 #[test]
 fn a_write_into_a_text(rt: HostRuntime) -> Result<(), Fail> {
     assert_rows(&rt, rt.alloc(), WRITTEN)
+}
+
+const WRITTEN_CHARS: &[Row] = &[
+    (N30, (0, A29), WriteChar('b'), 0, "", "b", Inline),
+    (N30, (0, A30), WriteChar('é'), 1, "", "é", Heap),
+    (N30, (31, A31), WriteChar('b'), 1, "", "b", Heap),
+];
+
+#[test]
+fn a_character_is_written_into_a_text(rt: HostRuntime) -> Result<(), Fail> {
+    assert_rows(&rt, rt.alloc(), WRITTEN_CHARS)
+}
+
+#[test]
+fn a_write_into_an_array(rt: HostRuntime) -> Result<(), Fail> {
+    let mut text = InlineStringN::<8>::new();
+    assert!(&rt; text.write_char('é').is_ok() && write!(text, "{}{}", "abc", 1).is_ok());
+    assert!(&rt; text.write_char('€').is_err() && write!(text, "d{}", "ef").is_err());
+    assert!(&rt; text.as_str() == "éabc1d");
+    super::tell(&rt, rt.alloc(), &Refusals::none(), (0, 0))
 }

@@ -68,8 +68,10 @@ fn is_added<const N: usize>(text: &mut InlinableStringN<N>, call: Call, is_again
         Call::Strs(way, items, rest) => {
             add_strs(text, way, if is_again { rest } else { items }).is_ok()
         }
+        Call::WriteChar(ch) => text.write_char(ch).is_ok(),
         Call::WriteStr(string) => text.write_str(string).is_ok(),
-        Call::WriteFormatted(string) => write!(text, "{string}").is_ok(),
+        Call::WriteFormatted(string) if is_again => write!(text, "{string}").is_ok(),
+        Call::WriteFormatted(string) => write!(text, "b{string}").is_ok(),
         _ => false,
     }
 }
@@ -89,7 +91,11 @@ fn own_outcome<const N: usize>(
                 Ok(made) => Ok(wrong_made(made.as_str(), made.storage(), row)),
                 Err(AllocError) => Err(text),
             },
-        Call::Chars(..) | Call::Strs(..) | Call::WriteStr(_) | Call::WriteFormatted(_) => {
+        Call::Chars(..)
+        | Call::Strs(..)
+        | Call::WriteChar(_)
+        | Call::WriteStr(_)
+        | Call::WriteFormatted(_) => {
             let mut text = text;
             if is_added(&mut text, row.2, is_again) {
                 Ok(wrong_made(text.as_str(), text.storage(), row))

@@ -45,7 +45,9 @@ pub enum Call {
     FromStrs(Way, &'static [Text]),
     Clone,
     Add(Text),
+    WriteChar(char),
     WriteStr(Text),
+    /// `b` and a text, each a write by itself.
     WriteFormatted(Text),
     ToLimit8,
     ToLimit300,
@@ -115,7 +117,7 @@ pub fn wrong_refusal<S: StringExt>(
     place: Place,
 ) -> Option<Wrong> {
     let added = match row.2 {
-        Call::Chars(..) | Call::Strs(..) => "b",
+        Call::Chars(..) | Call::Strs(..) | Call::WriteFormatted(_) => "b",
         _ => "",
     };
     if !refusals.meet() {
