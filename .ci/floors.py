@@ -69,7 +69,7 @@ QUICK_PROVED = 14
 TRIED = {'inline_vectors': (48, 26)}
 
 # Workloads of the bench, and on how many of them each type of text is run.
-BENCH_WORKLOADS = 74
+BENCH_WORKLOADS = 82
 BENCH_TEXTS = {
-    'InlinableString': 66, 'String': 52,
+    'InlinableString': 74, 'String': 63,
     **{f'InlinableStringN<{capacity}>': 8 for capacity in (0, 8, 22, 30, 62)}}

@@ -7,7 +7,7 @@ import tempfile
 
 from sums import words_of
 
-COUNTED = re.compile(r'Collected : (\d+)')
+COUNTED = re.compile(r'I +refs: +([\d,]+)')
 
 
 class WrongSum(Exception):
@@ -29,7 +29,7 @@ def ran(command, workload, **how):
 
 
 def command_of(peer, workload, rounds=None):
-    return [peer.program, *words_of(workload, peer.text, rounds)]
+    return [peer.program(workload.word), *words_of(workload, peer.text, rounds)]
 
 
 def sum_of(peer, workload):
@@ -45,10 +45,10 @@ def checked(peer, workload, sums):
                        f'and {sums[workload.name]} is stored')
 
 
-def by_callgrind(command, workload):
-    words = ['valgrind', '--tool=callgrind', f'--callgrind-out-file={os.devnull}', *command]
+def by_valgrind(command, workload):
+    words = ['valgrind', '--tool=cachegrind', '--cache-sim=no', f'--cachegrind-out-file={os.devnull}', *command]
     answer = ran(words, workload, stderr=subprocess.PIPE)
-    return int(COUNTED.search(answer.stderr)[1])
+    return int(COUNTED.search(answer.stderr)[1].replace(',', ''))
 
 
 def by_perf(command, workload):
@@ -59,7 +59,7 @@ def by_perf(command, workload):
 
 def instructions(peer, workload):
     """Of one call, the loop round it included: what more rounds cost, by their calls."""
-    counted = by_callgrind if shutil.which('valgrind') else by_perf
+    counted = by_valgrind if shutil.which('valgrind') else by_perf
     first, last = workload.rounds
     few, many = (counted(command_of(peer, workload, rounds), workload) for rounds in (first, last))
     return (many - few) / ((last - first) * workload.calls)
@@ -76,8 +76,8 @@ def seconds(peer, workload, rounds):
     return used.ru_utime + used.ru_stime
 
 
-def enough_rounds(peer, workload, least=.02):
-    """So many that they take a fiftieth of a second at least."""
+def enough_rounds(peer, workload, least=.01):
+    """So many that they take a hundredth of a second at least."""
     rounds = workload.rounds[1]
     while seconds(peer, workload, rounds) < least:
         rounds *= 2

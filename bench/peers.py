@@ -2,7 +2,7 @@
 import os
 import shutil
 import subprocess
-from typing import NamedTuple
+from typing import Callable, NamedTuple
 
 from workloads import CAPACITIES, OURS
 
@@ -11,17 +11,21 @@ OUT = os.path.join(HERE, 'out')
 CRATES = os.path.join(os.path.dirname(HERE), 'crates')
 # As the Rattle kit has LLVM compile a program.
 RUST = ('rustc', '-C', 'opt-level=3', '-C', 'codegen-units=1', '-C', 'target-cpu=x86-64-v2')
-CXX = ('g++', '-std=c++20', '-O3', '-march=x86-64-v2')
+CXX = ('g++', '-std=c++20', '-O3', '-march=x86-64-v2', '-DNDEBUG')
+SMALL = ('-DSMALL', '-isystem', '/usr/lib/llvm-14/include')
+SUPPORT = ('/usr/lib/llvm-14/lib/libLLVMSupport.a', '/usr/lib/llvm-14/lib/libLLVMDemangle.a', '-lz', '-ltinfo')
+BOOST = '/usr/include/boost/static_string'
 CAPACITY = 'INLINE_STRING_CAPACITY: usize = 30;'
 
 
 class Peer(NamedTuple):
-    """A program, and the type of text that it is asked for."""
+    """Programs, and the type of text that they are asked for."""
     title: str
     # one of the words that a workload names its peers by; in Rattle the text itself says it
     kind: str
-    program: str
     text: str
+    # by the word of a workload the program that has its loop, built if it has to be
+    program: Callable
 
     def has(self, workload):
         return self.kind in workload.peers or self.kind == 'rattle' and self.text in workload.texts
@@ -67,11 +71,12 @@ def rattle_build(backend):
     return program
 
 
-def rust_build(name, *more, also=()):
-    program = in_out(name)
+def rust_build(name, word, *more, also=()):
+    """The program that has the loop of one workload alone."""
+    program = in_out(f'{name}-{word}')
     if is_fresh(program, in_here('rust'), *also):
         return program
-    return built(program, *RUST, '--edition', '2021', *more, '-o', program,
+    return built(program, *RUST, '--edition', '2021', '--cfg', f'workload="{word}"', *more, '-o', program,
                  in_here('rust', 'main.rs'))
 
 
@@ -90,39 +95,51 @@ def copy_at(folder, capacity):
     return os.path.join(sources, 'lib.rs')
 
 
-def original_build(folder, capacity):
-    """The program over the original crate at a capacity."""
+def original_builds(folder, capacity):
+    """By the word of a workload, the program over the original crate at a capacity."""
     library = in_out(f'libinlinable_string{capacity}.rlib')
-    if not is_fresh(library, os.path.join(folder, 'src')):
+    sources = os.path.join(folder, 'src')
+    if not is_fresh(library, sources):
         built(library, *RUST, '--edition', '2018', '--cap-lints', 'allow', '--crate-type', 'rlib',
               '--crate-name', 'inlinable_string', '-o', library, copy_at(folder, capacity))
-    return rust_build(f'original{capacity}', '--cfg', 'original', '--extern',
-                      f'inlinable_string={library}', also=(os.path.join(folder, 'src'),))
+    return lambda word: rust_build(f'original{capacity}', word, '--cfg', 'original', '--extern',
+                                   f'inlinable_string={library}', also=(sources,))
 
 
-def cxx_build():
-    program = in_out('cxx')
-    if is_fresh(program, in_here('cxx')):
-        return program
-    return built(program, *CXX, '-o', program, in_here('cxx', 'main.cpp'))
+def cxx_builds(name, flags=(), libraries=()):
+    def build(word):
+        program = in_out(f'{name}-{word}')
+        if is_fresh(program, in_here('cxx')):
+            return program
+        return built(program, *CXX, *flags, f'-DWORKLOAD="{word}"', '-o', program, in_here('cxx', 'main.cpp'),
+                     *libraries)
+    return build
 
 
 def rattle_peers():
     llvm, rattle = rattle_build('llvm'), rattle_build('rattle')
-    return [Peer('ours', 'rattle', llvm, OURS),
-            Peer("ours, Rattle's compiler", 'rattle', rattle, OURS),
-            Peer('the kit\'s `String`', 'rattle', llvm, 'String')]
+    return [Peer('ours', 'rattle', OURS, lambda word: llvm),
+            Peer("ours, Rattle's compiler", 'rattle', OURS, lambda word: rattle),
+            Peer('the kit\'s `String`', 'rattle', 'String', lambda word: llvm)]
+
+
+def rust_peer():
+    return Peer('Rust `String`', 'rust', 'String', lambda word: rust_build('rust', word))
 
 
 def other_peers(folder):
-    """Those in Rust and C++; the original crate where its folder is given."""
+    """Those in Rust and C++; the original crate where its folder is given, and texts of libraries that are there."""
     peers = []
     if shutil.which(RUST[0]):
-        peers.append(Peer('Rust `String`', 'rust', rust_build('rust'), 'String'))
+        peers.append(rust_peer())
         if folder:
-            peers.append(Peer('original', 'original', original_build(folder, 30), OURS))
+            peers.append(Peer('original', 'original', OURS, original_builds(folder, 30)))
     if shutil.which(CXX[0]):
-        peers.append(Peer('libstdc++', 'cxx', cxx_build(), 'std::string'))
+        peers.append(Peer('libstdc++', 'cxx', '-', cxx_builds('std')))
+        if os.path.exists(SUPPORT[0]):
+            peers.append(Peer('llvm::SmallString', 'cxx', '-', cxx_builds('small', SMALL, SUPPORT)))
+        if os.path.exists(BOOST):
+            peers.append(Peer('boost::static_string', 'static', '-', cxx_builds('static', ('-DSTATIC',))))
     return peers
 
 
@@ -134,8 +151,7 @@ def capacity_peers(folder):
     """By capacity, our text at it and, where the folder is given, the original crate's."""
     peers = {}
     for capacity in CAPACITIES:
-        peers[capacity] = [Peer('ours', 'rattle', in_out('llvm'), f'InlinableStringN<{capacity}>')]
+        peers[capacity] = [Peer('ours', 'rattle', f'InlinableStringN<{capacity}>', lambda word: in_out('llvm'))]
         if folder and capacity:
-            program = original_build(folder, capacity)
-            peers[capacity].append(Peer('original', 'original', program, OURS))
+            peers[capacity].append(Peer('original', 'original', OURS, original_builds(folder, capacity)))
     return peers

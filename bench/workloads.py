@@ -29,9 +29,11 @@ class Workload(NamedTuple):
     texts: tuple = (OURS, 'String')
 
 
-# Peers beside the Rattle types: Rust's `String`, the original crate, C++'s `std::string`.
-ALL = ('rust', 'original', 'cxx')
+# Peers beside the Rattle types: Rust's `String`, the original crate, the texts of C++ that grow, and
+# Boost's, which has room for 30 bytes and no more.
 NO_CXX = ('rust', 'original')
+GROWING = (*NO_CXX, 'cxx')
+ALL = (*GROWING, 'static')
 
 
 # What is drawn: always the same.
@@ -75,44 +77,27 @@ def words_listed(path):
     return b' '.join(listed[next(drawn) % len(listed)] for _ in range(100_000))
 
 
-MIXED = 'aé€😀zß中𝄞'
+# By kind of a text, its characters, and after how many bytes or units one is bad. Mixed characters have every width in
+# UTF-8, and a quarter of them two units; prose is ASCII to 97 in 100; a character of Chinese has three bytes.
+MIXED, PROSE = 'aé€😀zß中𝄞', 'abcdefghijklmnopqrstuvwxyz      é'
+KINDS = {'ASCII': ('abcdefghijklmnopqrstuvwxyz', None), 'prose': (PROSE, None), 'bad prose': (PROSE, 100),
+         'Chinese': ('的一是不了人我在有他这中大来上国', None), 'mixed': (MIXED, None), 'bad': (MIXED, 10)}
 
 
 @lru_cache(maxsize=None)
-def mixed(width, pieces):
-    """Pieces of so many bytes, with characters of every width."""
-    drawn, made = numbers(7), b''
+def text_of(kind, width, pieces, encoding):
+    """Pieces of so many bytes or units, each of whole characters where none is bad."""
+    characters, step = KINDS[kind]
+    unit, bad = (1, b'\xff') if encoding == 'utf-8' else (2, b'\x00\xd8')
+    drawn, made = numbers(7), bytearray()
     for _ in range(pieces):
         piece = b''
-        while len(piece) < width:
-            character = MIXED[next(drawn) % len(MIXED)].encode()
-            piece += character if len(piece) + len(character) <= width else b'q'
+        while len(piece) < unit * width:
+            character = characters[next(drawn) % len(characters)].encode(encoding)
+            piece += character if len(piece) + len(character) <= unit * width else 'q'.encode(encoding)
         made += piece
-    return made
-
-
-@lru_cache(maxsize=None)
-def mixed_units(width, pieces):
-    """Pieces of so many units of UTF-16, a quarter of them surrogates, all paired."""
-    drawn, made = numbers(8), b''
-    for _ in range(pieces):
-        piece = b''
-        while len(piece) < 2 * width:
-            unit = MIXED[next(drawn) % len(MIXED)].encode('utf-16-le')
-            piece += unit if len(piece) + len(unit) <= 2 * width else b'q\0'
-        made += piece
-    return made
-
-
-def ascii_units(width, pieces):
-    return letters(width * pieces).decode().encode('utf-16-le')
-
-
-def spoilt(good, step, bad):
-    """The same with a bad byte or unit at every so many bytes."""
-    made = bytearray(good)
-    for at in range(0, len(made) - len(bad), step):
-        made[at:at + len(bad)] = bad
+    for at in range(0, len(made), unit * step) if step else ():
+        made[at:at + unit] = bad
     return bytes(made)
 
 
@@ -177,8 +162,12 @@ def on_listed(path):
     return Workload(f'intern 100k of {os.path.basename(path)}', 'intern', 0, lambda: words, 100_000, ALL, (1, 2))
 
 
-def on_pieces(name, word, width, drawn, pieces=64):
-    return Workload(name, word, width, drawn, pieces, NO_CXX)
+def on_text(word, width, kind):
+    """Reading pieces of so many bytes or units."""
+    encoding, unit = ('utf-16-le', 2) if 'utf16' in word else ('utf-8', 1)
+    pieces = 64 if width < 100 else 16
+    return Workload(f'{word} {width}, {kind}', word, unit * width, lambda: text_of(kind, width, pieces, encoding),
+                    pieces, NO_CXX)
 
 
 def on_list(name, word, limits, texts):
@@ -190,16 +179,17 @@ ALONE = (OURS,)
 TEXTS = (
     on_words('read 6', 'read', 6),
     on_words('from literal 6', 'from_literal', 6, pieces=1),
-    *(on_words(f'from {width}', 'from', width) for width in (1, 6, 16, 30, 31)),
-    on_words('from 694', 'from', 694, pieces=16),
+    *(on_words(f'from {width}', 'from', width) for width in (1, 6, 16, 30)),
+    on_words('from 31', 'from', 31, peers=GROWING),
+    on_words('from 694', 'from', 694, pieces=16, peers=GROWING),
     on_words('push_str 6 onto empty', 'push_str', 6),
-    on_words('push_str 694 onto empty', 'push_str', 694, pieces=16),
+    on_words('push_str 694 onto empty', 'push_str', 694, pieces=16, peers=GROWING),
     on_words('from 6, push_str 6', 'from_push_str', 6),
     on_words('from, push_str literal 6', 'push_literal', 6, pieces=1),
-    on_words('from 694, push_str 694', 'from_push_str', 694, pieces=16),
+    on_words('from 694, push_str 694', 'from_push_str', 694, pieces=16, peers=GROWING),
     on_words('push 8 chars', 'push', 8),
     on_words('push 30 chars', 'push', 30),
-    on_words('push 31 chars (promotes)', 'push', 31),
+    on_words('push 31 chars (promotes)', 'push', 31, peers=GROWING),
     on_words('from 7, insert(0)', 'insert', 7),
     on_words('from 29, insert(0)', 'insert', 29),
     on_words('from 8, remove(0)', 'remove', 8),
@@ -208,7 +198,7 @@ TEXTS = (
     on_words('from 30, pop all', 'pop', 30),
     on_words('clone 8', 'clone', 8),
     on_words('clone 30', 'clone', 30),
-    on_words('clone 694', 'clone', 694, pieces=16),
+    on_words('clone 694', 'clone', 694, pieces=16, peers=GROWING),
 )
 
 KEYS = (
@@ -220,40 +210,23 @@ KEYS = (
     on_symbols('sort 100k', 'sort'),
     on_symbols('set 100k', 'set'),
     on_symbols('intern 100k', 'intern'),
+    on_symbols('look up 100k', 'look_up'),
 )
 
-READERS = (
-    on_pieces('from_utf8 30, ASCII', 'from_utf8', 30, lambda: letters(30 * 64)),
-    on_pieces('from_utf8 694, ASCII', 'from_utf8', 694, lambda: letters(694 * 16), 16),
-    on_pieces('from_utf8 30, mixed', 'from_utf8', 30, lambda: mixed(30, 64)),
-    on_pieces('from_utf8 694, mixed', 'from_utf8', 694, lambda: mixed(694, 16), 16),
-    on_pieces('from_utf8_lossy 30, good', 'from_utf8_lossy', 30, lambda: mixed(30, 64)),
-    on_pieces('from_utf8_lossy 30, bad', 'from_utf8_lossy', 30,
-              lambda: spoilt(mixed(30, 64), 10, b'\xff')),
-    on_pieces('from_utf8_lossy 694, bad', 'from_utf8_lossy', 694,
-              lambda: spoilt(mixed(694, 16), 10, b'\xff'), 16),
-    on_pieces('from_utf16 30, ASCII', 'from_utf16', 60, lambda: ascii_units(30, 64)),
-    on_pieces('from_utf16 694, ASCII', 'from_utf16', 1388, lambda: ascii_units(694, 16), 16),
-    on_pieces('from_utf16 30, mixed', 'from_utf16', 60, lambda: mixed_units(30, 64)),
-    on_pieces('from_utf16 694, mixed', 'from_utf16', 1388, lambda: mixed_units(694, 16), 16),
-    on_pieces('from_utf16_lossy 30, good', 'from_utf16_lossy', 60, lambda: mixed_units(30, 64)),
-    on_pieces('from_utf16_lossy 30, bad', 'from_utf16_lossy', 60,
-              lambda: spoilt(mixed_units(30, 64), 20, b'\x00\xd8')),
-    on_pieces('from_utf16_lossy 694, bad', 'from_utf16_lossy', 1388,
-              lambda: spoilt(mixed_units(694, 16), 20, b'\x00\xd8'), 16),
-)
+STRICT = ((30, 'ASCII'), (694, 'ASCII'), (694, 'prose'), (694, 'Chinese'), (30, 'mixed'), (694, 'mixed'))
+LOSSY = ((694, 'prose'), (694, 'Chinese'), (30, 'mixed'), (30, 'bad'), (694, 'bad'), (694, 'bad prose'))
+READERS = tuple(on_text(word, *text) for word, texts in (('from_utf8', STRICT), ('from_utf8_lossy', LOSSY),
+                                                         ('from_utf16', STRICT), ('from_utf16_lossy', LOSSY))
+                for text in texts)
 
 JOINS = (
     on_words('from 6, add 6', 'add', 6, texts=ALONE),
-    on_words('from 30, add 30 (promotes)', 'add', 30, texts=ALONE),
+    on_words('from 30, add 30 (promotes)', 'add', 30, peers=GROWING, texts=ALONE),
     on_words('extend_chars 8', 'extend_chars', 8, peers=NO_CXX, texts=ALONE),
     on_words('from_chars 8', 'from_chars', 8, peers=NO_CXX, texts=ALONE),
     on_words('from_chars 31 (promotes)', 'from_chars', 31, peers=NO_CXX, texts=ALONE),
     on_words('from_strs of 3, 18 in all', 'from_strs', 6, texts=ALONE),
-    on_words('from_strs of 3, 66 in all', 'from_strs', 30, texts=ALONE),
-    on_words('from 6, with_limit 8', 'with_limit', 6, peers=NO_CXX, texts=ALONE),
-    on_words('from 16, with_limit 8 (promotes)', 'with_limit', 16, peers=NO_CXX, texts=ALONE),
-    on_words('from 694, with_limit 8', 'with_limit', 694, 16, peers=NO_CXX, texts=ALONE),
+    on_words('from_strs of 3, 66 in all', 'from_strs', 30, peers=GROWING, texts=ALONE),
     on_words('to_json and back, 8', 'json', 8, peers=NO_CXX, texts=ALONE),
     on_words('to_json and back, 694', 'json', 694, 16, peers=NO_CXX, texts=ALONE),
 )
@@ -263,9 +236,9 @@ LISTS = (
     on_list('run, 256 commands that promote', 'run', PROMOTING, (OURS, 'String')),
     on_list('run_dyn, 256 commands in place', 'run_dyn', INLINE, ALONE),
     on_list('run_dyn, 256 commands that promote', 'run_dyn', PROMOTING, ALONE),
-    Workload('push of one char onto 20,000', 'grow', 1, lambda: b'', 1, ALL, (10_000, 30_000)),
-    on_words('insert(0), remove(0) at 100', 'fronts', 100, pieces=1),
-    on_words('insert(0), remove(0) at 10,000', 'fronts', 10_000, pieces=1),
+    Workload('push of one char onto 20,000', 'grow', 1, lambda: b'', 1, GROWING, (10_000, 30_000)),
+    on_words('insert(0), remove(0) at 100', 'fronts', 100, pieces=1, peers=GROWING),
+    on_words('insert(0), remove(0) at 10,000', 'fronts', 10_000, pieces=1, peers=GROWING),
 )
 
 WORKLOADS = TEXTS + KEYS + READERS + JOINS + LISTS
@@ -273,7 +246,7 @@ WORKLOADS = TEXTS + KEYS + READERS + JOINS + LISTS
 # What is measured at each capacity; the original crate is built at each.
 AT_EACH = tuple(f'InlinableStringN<{capacity}>' for capacity in CAPACITIES)
 AT_CAPACITIES = tuple(
-    on_words(name, word, width, texts=AT_EACH)
+    on_words(name, word, width, peers=('original',), texts=AT_EACH)
     for name, word, width in (
         ('from 6', 'from', 6), ('from 16', 'from', 16), ('from 30', 'from', 30),
         ('push_str 16 onto empty', 'push_str', 16), ('push 30 chars', 'push', 30),

@@ -1,24 +1,31 @@
-// Workloads of crates/bench over std::string: it takes the same words, and prints the same sums.
+// A workload of crates/bench over a text of C++: it takes the same words, and prints the same sum.
+// WORKLOAD is its word. The text is std::string, or that of LLVM (SMALL) or Boost (STATIC).
 #include <algorithm>
 #include <cstdint>
 #include <cstdlib>
 #include <cstring>
 #include <iostream>
 #include <iterator>
+#include <limits>
 #include <string>
 #include <string_view>
 #include <unordered_map>
 #include <unordered_set>
 #include <vector>
-
-#ifdef __clang__
-#define APART __attribute__((noinline))
+#if defined(SMALL)
+#include <llvm/ADT/SmallString.h>
+using Text = llvm::SmallString<30>;
+#elif defined(STATIC)
+#define BOOST_STATIC_STRING_STANDALONE
+#include <boost/static_string/static_string.hpp>
+using Text = boost::static_string<30>;
 #else
-#define APART __attribute__((noinline, noclone))
+using Text = std::string;
 #endif
 
+#define APART __attribute__((noinline))
+
 using std::size_t;
-using std::string;
 using std::string_view;
 using std::uint64_t;
 using std::vector;
@@ -71,7 +78,7 @@ private:
 };
 
 struct Hash {
-    size_t operator()(const string &text) const {
+    size_t operator()(const Text &text) const {
         Fold fold;
         fold.write(text.data(), text.size());
         unsigned char end = 255;
@@ -81,7 +88,7 @@ struct Hash {
 };
 
 struct Task {
-    string_view workload, input;
+    string_view input;
     size_t width, rounds;
 };
 
@@ -101,251 +108,207 @@ vector<string_view> words_of(const Task &task) {
     return words;
 }
 
-vector<string> texts_of(const Task &task) {
-    vector<string> texts;
+vector<Text> texts_of(const Task &task) {
+    vector<Text> texts;
     for (auto word : words_of(task))
         texts.emplace_back(word);
     return texts;
 }
 
 // A byte at a place that the compiler cannot foresee, so that the text has to be there.
-APART uint64_t sink(const string &text, size_t round) {
+APART uint64_t sink(const Text &text, size_t round) {
     size_t at = round & 31;
     return at < text.size() ? static_cast<unsigned char>(text[at]) : 7;
 }
 
-// What the body gives of each piece, round after round.
+APART uint64_t equality_of(const Text &a, const Text &b) { return a == b ? 3 : 1; }
+
+APART uint64_t order_of(const Text &a, const Text &b) {
+    int order = a.compare(b);
+    return order < 0 ? 3 : order == 0 ? 2 : 1;
+}
+
+APART uint64_t hash_of(const Text &text) { return Hash()(text); }
+
+using Numbers = std::unordered_map<Text, size_t, Hash>;
+
+APART uint64_t number_of(const Numbers &numbers, const Text &text) {
+    auto found = numbers.find(text);
+    return found == numbers.end() ? 7 : found->second;
+}
+
+uint64_t numbered(Numbers &numbers, const vector<string_view> &words, uint64_t sum) {
+    for (auto word : words)
+        sum = sum * 3 + numbers.try_emplace(Text(word), numbers.size()).first->second;
+    return sum;
+}
+
+uint64_t without_first(Text &text) {
+    if (text.empty())
+        return 0;
+    uint64_t removed = static_cast<unsigned char>(text[0]);
+    text.erase(text.begin());
+    return removed;
+}
+
+uint64_t without_last(Text &text) {
+    if (text.empty())
+        return 0;
+    uint64_t removed = static_cast<unsigned char>(text.back());
+    text.pop_back();
+    return removed;
+}
+
+// The sum of what the body gives of each piece, round after round.
 template <class Pieces, class Body>
-APART uint64_t summed(const Pieces &pieces, size_t rounds, Body body) {
+uint64_t summed(const Task &task, const Pieces &pieces, Body body) {
     uint64_t sum = 0;
-    for (size_t round = 0; round < rounds; round++)
+    for (size_t round = 0; round < task.rounds; round++)
         for (auto &piece : pieces)
             sum += body(piece, round);
     return sum;
 }
 
-template <class Body> uint64_t summed_words(const Task &task, Body body) {
-    return summed(words_of(task), task.rounds, body);
+// The same of a text that is made by the body of each word, or of an empty one.
+template <class Body> uint64_t made(const Task &task, Body body) {
+    return summed(task, words_of(task), [body](string_view word, size_t round) {
+        Text text(word);
+        uint64_t sum = body(text, word);
+        return sum + sink(text, round);
+    });
 }
 
-template <class Body> APART uint64_t summed_rounds(const Task &task, Body body) {
-    uint64_t sum = 0;
-    for (size_t round = 0; round < task.rounds; round++)
-        sum += body(round);
-    return sum;
+template <class Body> uint64_t filled(const Task &task, Body body) {
+    return summed(task, words_of(task), [body](string_view word, size_t round) {
+        Text text;
+        body(text, word);
+        return sink(text, round);
+    });
 }
 
-uint64_t popped(string &text, size_t len) {
-    uint64_t sum = 0;
-    for (size_t i = 0; i < len; i++) {
-        if (text.empty())
-            break;
-        sum += static_cast<unsigned char>(text.back());
-        text.pop_back();
-    }
-    return sum;
-}
-
-uint64_t without_first(string &text) {
-    if (text.empty())
-        return 0;
-    uint64_t removed = static_cast<unsigned char>(text[0]);
-    text.erase(0, 1);
-    return removed;
-}
-
-APART uint64_t equality_of(const string &a, const string &b) { return a == b ? 3 : 1; }
-
-APART uint64_t order_of(const string &a, const string &b) {
-    int order = a.compare(b);
-    return order < 0 ? 3 : order == 0 ? 2 : 1;
-}
-
-APART uint64_t hash_of(const string &text) { return Hash()(text); }
-
-APART uint64_t equal(const Task &task) {
-    auto left = texts_of(task), right = texts_of(task);
-    uint64_t sum = 0;
-    for (size_t round = 0; round < task.rounds; round++)
-        for (size_t i = 0; i < left.size(); i++)
-            sum += equality_of(left[i], right[i]);
-    return sum;
-}
-
-APART uint64_t ordered(const Task &task) {
-    auto texts = texts_of(task);
-    uint64_t sum = 0;
-    for (size_t round = 0; round < task.rounds; round++)
-        for (size_t i = 0; i + 1 < texts.size(); i++)
-            sum += order_of(texts[i], texts[i + 1]);
-    return sum;
-}
-
-APART uint64_t sorted(const Task &task) {
-    uint64_t sum = 0;
-    for (size_t round = 0; round < task.rounds; round++) {
-        auto texts = texts_of(task);
-        std::sort(texts.begin(), texts.end());
-        for (auto &text : texts)
-            sum = sum * 3 + sink(text, round);
-    }
-    return sum;
-}
-
-APART uint64_t set(const Task &task) {
-    auto words = words_of(task);
-    uint64_t sum = 0;
-    for (size_t round = 0; round < task.rounds; round++) {
-        std::unordered_set<string, Hash> texts;
-        for (auto word : words)
-            sum += texts.insert(string(word)).second;
-    }
-    return sum;
-}
-
-APART uint64_t interned(const Task &task) {
-    auto words = words_of(task);
-    uint64_t sum = 0;
-    for (size_t round = 0; round < task.rounds; round++) {
-        std::unordered_map<string, size_t, Hash> numbers;
-        for (auto word : words)
-            sum = sum * 3 + numbers.try_emplace(string(word), numbers.size()).first->second;
-    }
-    return sum;
-}
-
-APART uint64_t grow(const Task &task) {
-    string text;
-    for (size_t round = 0; round < task.rounds; round++)
-        text.push_back('a');
-    return text.size() + sink(text, 0);
-}
-
-APART uint64_t fronts(const Task &task) {
-    uint64_t sum = 0;
-    for (auto word : words_of(task)) {
-        string text;
-        text.append(word);
-        for (size_t round = 0; round < task.rounds; round++) {
-            text.insert(text.begin(), 'x');
-            sum += sink(text, round);
-            sum += without_first(text);
-        }
-        sum += sink(text, 0);
-    }
-    return sum;
-}
-
-uint64_t made(const Task &task) {
-    if (task.workload == "from")
-        return summed_words(task, [](string_view word, size_t round) {
-            string text(word);
+// What is discarded is not compiled in a template: so no loop has calls out of line because another
+// has them too.
+template <class Text> uint64_t checksum(const Task &task) {
+    constexpr string_view workload = WORKLOAD;
+    if constexpr (workload == "read")
+        return summed(task, texts_of(task), sink);
+    if constexpr (workload == "from")
+        return made(task, [](Text &, string_view) { return 0; });
+    if constexpr (workload == "from_literal")
+        return summed(task, vector{0}, [](int, size_t round) {
+            Text text("foobar");
             return sink(text, round);
         });
-    if (task.workload == "from_literal")
-        return summed_rounds(task, [](size_t round) {
-            string text("foobar");
-            return sink(text, round);
-        });
-    if (task.workload == "push_str")
-        return summed_words(task, [](string_view word, size_t round) {
-            string text;
-            text.append(word);
-            return sink(text, round);
-        });
-    if (task.workload == "from_push_str")
-        return summed_words(task, [](string_view word, size_t round) {
-            string text(word);
-            text.append(word);
-            return sink(text, round);
-        });
-    if (task.workload == "push_literal")
-        return summed_rounds(task, [](size_t round) {
-            string text("foobar");
+    if constexpr (workload == "push_literal")
+        return summed(task, vector{0}, [](int, size_t round) {
+            Text text("foobar");
             text.append("foobar");
             return sink(text, round);
         });
-    if (task.workload == "push")
-        return summed_words(task, [](string_view word, size_t round) {
-            string text;
+    if constexpr (workload == "push_str")
+        return filled(task, [](Text &text, string_view word) { text.append(word); });
+    if constexpr (workload == "from_push_str")
+        return made(task, [](Text &text, string_view word) {
+            text.append(word);
+            return 0;
+        });
+    if constexpr (workload == "push")
+        return filled(task, [](Text &text, string_view word) {
             for (char ch : word)
                 text.push_back(ch);
-            return sink(text, round);
         });
-    if (task.workload == "add")
-        return summed_words(task, [](string_view word, size_t round) {
-            string text(word);
-            auto joined = std::move(text.append(word));
+    if constexpr (workload == "insert")
+        return made(task, [](Text &text, string_view) {
+            text.insert(text.begin(), 'x');
+            return 0;
+        });
+    if constexpr (workload == "remove")
+        return made(task, [](Text &text, string_view) { return without_first(text); });
+    if constexpr (workload == "pop")
+        return made(task, [](Text &text, string_view word) {
+            uint64_t sum = 0;
+            for (size_t i = 0; i < word.size(); i++)
+                sum += without_last(text);
+            return sum;
+        });
+    if constexpr (workload == "add")
+        return summed(task, words_of(task), [](string_view word, size_t round) {
+            Text text(word);
+            text.append(word);
+            Text joined(std::move(text));
             return sink(joined, round);
         });
-    std::exit(EXIT_FAILURE);
-}
-
-uint64_t edited(const Task &task) {
-    if (task.workload == "insert")
-        return summed_words(task, [](string_view word, size_t round) {
-            string text(word);
-            text.insert(text.begin(), 'x');
-            return sink(text, round);
-        });
-    if (task.workload == "remove")
-        return summed_words(task, [](string_view word, size_t round) {
-            string text(word);
-            auto removed = without_first(text);
-            return removed + sink(text, round);
-        });
-    if (task.workload == "pop")
-        return summed_words(task, [](string_view word, size_t round) {
-            string text(word);
-            auto sum = popped(text, word.size());
-            return sum + sink(text, round);
-        });
-    if (task.workload == "from_strs")
-        return summed_words(task, [](string_view word, size_t round) {
-            string text;
+    if constexpr (workload == "from_strs")
+        return filled(task, [](Text &text, string_view word) {
             for (auto part : {word, string_view("foobar"), word})
                 text.append(part);
-            return sink(text, round);
         });
-    return made(task);
-}
-
-uint64_t checksum(const Task &task) {
-    if (task.workload == "read")
-        return summed(texts_of(task), task.rounds,
-                      [](const string &text, size_t round) { return sink(text, round); });
-    if (task.workload == "clone")
-        return summed(texts_of(task), task.rounds, [](const string &text, size_t round) {
-            string copy(text);
+    if constexpr (workload == "clone")
+        return summed(task, texts_of(task), [](const Text &text, size_t round) {
+            Text copy(text);
             return sink(copy, round);
         });
-    if (task.workload == "hash")
-        return summed(texts_of(task), task.rounds,
-                      [](const string &text, size_t) { return hash_of(text); });
-    if (task.workload == "eq")
-        return equal(task);
-    if (task.workload == "cmp")
-        return ordered(task);
-    if (task.workload == "sort")
-        return sorted(task);
-    if (task.workload == "set")
-        return set(task);
-    if (task.workload == "intern")
-        return interned(task);
-    if (task.workload == "grow")
-        return grow(task);
-    if (task.workload == "fronts")
-        return fronts(task);
-    return edited(task);
+    if constexpr (workload == "hash")
+        return summed(task, texts_of(task), [](auto &text, size_t) { return hash_of(text); });
+    if constexpr (workload == "eq" || workload == "cmp") {
+        auto left = texts_of(task), right = texts_of(task);
+        uint64_t sum = 0;
+        for (size_t round = 0; round < task.rounds; round++)
+            if constexpr (workload == "eq")
+                for (size_t i = 0; i < left.size(); i++)
+                    sum += equality_of(left[i], right[i]);
+            else
+                for (size_t i = 0; i + 1 < left.size(); i++)
+                    sum += order_of(left[i], left[i + 1]);
+        return sum;
+    }
+    if constexpr (workload == "look_up") {
+        Numbers numbers;
+        numbered(numbers, words_of(task), 0);
+        return summed(task, texts_of(task),
+                      [&](auto &text, size_t) { return number_of(numbers, text); });
+    }
+    auto words = words_of(task);
+    uint64_t sum = 0;
+    Text grown;
+    for (size_t round = 0; round < task.rounds; round++) {
+        if constexpr (workload == "sort") {
+            auto texts = texts_of(task);
+            auto is_less = [](auto &a, auto &b) { return a.compare(b) < 0; };
+            std::sort(texts.begin(), texts.end(), is_less);
+            for (auto &text : texts)
+                sum = sum * 3 + sink(text, round);
+        } else if constexpr (workload == "set") {
+            std::unordered_set<Text, Hash> texts;
+            for (auto word : words)
+                sum += texts.insert(Text(word)).second;
+        } else if constexpr (workload == "intern") {
+            Numbers numbers;
+            sum = numbered(numbers, words, sum);
+        } else if constexpr (workload == "grow") {
+            grown.push_back('a');
+        } else if constexpr (workload == "fronts") {
+            if (round == 0)
+                grown.append(words[0]);
+            grown.insert(grown.begin(), 'x');
+            sum += sink(grown, round);
+            sum += without_first(grown);
+        } else
+            std::exit(EXIT_FAILURE);
+    }
+    if constexpr (workload == "grow")
+        sum += grown.size() + sink(grown, 0);
+    if constexpr (workload == "fronts")
+        sum += sink(grown, 0);
+    return sum;
 }
 
 } // namespace
 
 int main(int count, char **words) {
-    if (count != 5 || string_view(words[1]) != "std::string")
+    if (count != 5)
         return EXIT_FAILURE;
-    string input(std::istreambuf_iterator<char>(std::cin), {});
-    Task task{words[2], input, std::strtoull(words[3], nullptr, 10),
-              std::strtoull(words[4], nullptr, 10)};
-    std::cout << checksum(task) << '\n';
+    std::string read(std::istreambuf_iterator<char>(std::cin), {});
+    Task task{read, std::strtoull(words[3], nullptr, 10), std::strtoull(words[4], nullptr, 10)};
+    std::cout << checksum<Text>(task) << '\n';
 }

@@ -42,17 +42,6 @@ pub fn from_strs<T: Text>(task: &Task) -> u64 {
     })
 }
 
-/// In the place of a move to another capacity: another text is made of the first.
-#[inline(never)]
-pub fn made_again<T: Text>(task: &Task) -> u64 {
-    let words = words_of(task);
-    summed!(words, task.rounds, |word, round| {
-        let text = T::made(word);
-        let moved = T::made(&text);
-        sink(&moved, round)
-    })
-}
-
 /// In the place of a JSON value.
 pub enum Json {
     Null,

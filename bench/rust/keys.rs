@@ -1,6 +1,6 @@
 //! Workloads on texts that are compared, hashed, sorted and looked up.
 use crate::fold::Fold;
-use crate::pieces::{sink, texts_of, words_of};
+use crate::pieces::{sink, summed, texts_of, words_of};
 use crate::text::Text;
 use crate::Task;
 use std::cmp::Ordering;
@@ -112,4 +112,21 @@ pub fn interned<T: Text>(task: &Task) -> u64 {
         }
     }
     sum
+}
+
+/// Each word is there, and its text was made before.
+#[inline(never)]
+pub fn looked_up<T: Text>(task: &Task) -> u64 {
+    let mut numbers: HashMap<T, usize, Build> = HashMap::default();
+    for text in texts_of(task) {
+        let next = numbers.len();
+        numbers.entry(text).or_insert(next);
+    }
+    let texts: Vec<T> = texts_of(task);
+    summed!(texts, task.rounds, |text, _round| number_of(&numbers, text))
+}
+
+#[inline(never)]
+fn number_of<T: Text>(numbers: &HashMap<T, usize, Build>, text: &T) -> u64 {
+    numbers.get(text).map_or(7, |number| *number as u64)
 }

@@ -3,8 +3,20 @@ use crate::pieces::{sink, summed, texts_of, words_of};
 use crate::text::Text;
 use crate::{joins, keys, lists, readers, Task};
 
+/// The loop of the one workload that the program is built for. Nothing else calls the text, so no
+/// loop has calls out of line because another has them too.
+macro_rules! only {
+    ($word:expr, $($name:literal => $sum:path,)*) => {
+        match $word {
+            $(#[cfg(workload = $name)]
+            $name => Some($sum as fn(&Task) -> u64),)*
+            _ => None,
+        }
+    };
+}
+
 pub fn sum_of<T: Text>(task: &Task) -> Option<u64> {
-    let workload = match task.workload {
+    let workload = only!(task.workload,
         "read" => read::<T>,
         "from" => from::<T>,
         "from_literal" => from_literal::<T>,
@@ -22,6 +34,7 @@ pub fn sum_of<T: Text>(task: &Task) -> Option<u64> {
         "sort" => keys::sorted::<T>,
         "set" => keys::set::<T>,
         "intern" => keys::interned::<T>,
+        "look_up" => keys::looked_up::<T>,
         "from_utf8" => readers::from_utf8::<T>,
         "from_utf8_lossy" => readers::from_utf8_lossy::<T>,
         "from_utf16" => readers::from_utf16::<T>,
@@ -30,13 +43,12 @@ pub fn sum_of<T: Text>(task: &Task) -> Option<u64> {
         "extend_chars" => joins::extend_chars::<T>,
         "from_chars" => joins::from_chars::<T>,
         "from_strs" => joins::from_strs::<T>,
-        "with_limit" => joins::made_again::<T>,
         "json" => joins::json::<T>,
-        "run" | "run_dyn" => lists::run_on::<T>,
+        "run" => lists::run_on::<T>,
+        "run_dyn" => lists::run_on::<T>,
         "grow" => lists::grow::<T>,
         "fronts" => lists::fronts::<T>,
-        _ => return None,
-    };
+    )?;
     Some(workload(task))
 }
 

@@ -1,5 +1,7 @@
-//! The workloads of `crates/bench` by hand over a Rust type: it takes the same words, and prints
-//! the same sums. The type is `String`; built with `--cfg original`, the text of the original crate.
+//! A workload of `crates/bench` by hand over a Rust type: it takes the same words, and prints the
+//! same sum. The type is `String`; built with `--cfg original`, the text of the original crate.
+// Built with `--cfg workload="WORD"`; the loops of other workloads lie unused.
+#![allow(dead_code, unused_imports)]
 mod fold;
 mod joins;
 mod keys;

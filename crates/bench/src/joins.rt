@@ -13,7 +13,6 @@ pub fn sum_of(task: &Task) -> Option<u64> {
         "extend_chars" => extend_chars(task),
         "from_chars" => from_chars(task),
         "from_strs" => from_strs(task),
-        "with_limit" => with_limit(task),
         "json" => json(task),
         "run_dyn" => lists::run_on_dyn(task),
         _ => return loops::sum_at::<30>(task),
@@ -60,19 +59,6 @@ fn from_strs(task: &Task) -> Result<u64, AllocError> {
         let parts = [*word, "foobar", *word];
         let text = InlinableString::from_strs(task.alloc, parts.iter().copied())?;
         sink(&text, round)
-    })
-}
-
-/// A text at 30 bytes moves to 8.
-#[inline(never)]
-fn with_limit(task: &Task) -> Result<u64, AllocError> {
-    let words = words_of(task)?;
-    summed!(words, task.rounds, |word, round| {
-        let text = InlinableString::from(task.alloc, word)?;
-        match text.with_limit::<8>() {
-            Ok(moved) => sink(&moved, round),
-            Err(_) => 1,
-        }
     })
 }
 

@@ -28,6 +28,7 @@ pub fn sum_of<T: Text>(task: &Task) -> Option<u64> {
         "sort" => keys::sorted::<T>(task),
         "set" => keys::set::<T>(task),
         "intern" => keys::interned::<T>(task),
+        "look_up" => keys::looked_up::<T>(task),
         "from_utf8" => readers::from_utf8::<T>(task),
         "from_utf8_lossy" => readers::from_utf8_lossy::<T>(task),
         "from_utf16" => readers::from_utf16::<T>(task),

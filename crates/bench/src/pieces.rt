@@ -39,11 +39,15 @@ pub fn pieces_of<'a>(task: &Task<'a>) -> Result<Vec<&'a [u8]>, AllocError> {
             pieces.push(piece)?;
         }
     } else {
-        for piece in task.input.split(|byte| *byte == b' ') {
+        for piece in task.input.split(is_space) {
             pieces.push(piece)?;
         }
     }
     Ok(pieces)
+}
+
+fn is_space(byte: &u8) -> bool {
+    *byte == b' '
 }
 
 /// The pieces that are text.
