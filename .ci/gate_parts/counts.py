@@ -2,7 +2,7 @@
 
 A line of a crate has at most 100 columns, unless it imports; a file at most 500 lines; a lemma with its type or
 an answer to a goal at most 30, comments aside. Each path or name that a document has in backticks is in the
-tree.
+tree. No document or comment of a source has a word of ODD, of a dialect that the tree was once written in.
 """
 import os
 import re
@@ -22,7 +22,7 @@ CHECKED, SOURCES = ('.rt', '.antt'), ('.rt', '.antt', '.py', '.rs', '.cpp')
 READ = (*SOURCES, '.edits', '.md')
 TEST_MODULE = re.compile(r'^#\[cfg\(test\)\]\n *mod (\w+);', re.MULTILINE)
 UNSAFE = re.compile(r'^(?! *//).*\bunsafe \{', re.MULTILINE)
-IMPORT = re.compile(r' *(pub )?(ghost )?use ')
+IMPORT = re.compile(r' *(pub )?(ghost )?(use|mod) ')
 # The name of a declaration, after what may stand before one.
 DECLARED = re.compile(r' *(?:(?:pub|abbrev|record) )*([^\s:({]+)')
 # What stands between backticks, outside of a fence of code.
@@ -30,6 +30,10 @@ FENCE = re.compile(r'^```.*?^```', re.MULTILINE | re.DOTALL)
 SPAN = re.compile(r'`([^`\n]+)`')
 PATH = re.compile(r'[\w.+-]*/[\w./+-]*|[\w+-]+\.(?:rt|antt|py|rs|cpp|md|edits|cases|svg|txt)')
 NAME = re.compile(r'[a-z]\w*_\w*|\w+(?:::\w+)+')
+# Write: allocation failure, fails, is stored, after, before, except, instead of, states, is unchanged.
+ODD = re.compile(r'\b(?:want of memory|memory (?:is|was) refused|not refused|lies|behind|in front|so many|but for|'
+                 r'be it|in the place of|(?:is|are) told by|tells|is said|as (?:it was|they were)|asked for)\b')
+PROSE = {'.md': '(.*)', '.rt': '^ *//[/!]?(.*)', '.antt': '^ *--(.*)'}
 # What begins so is std's or the kit's, or is made by a run.
 FOREIGN = re.compile(
     r'(std|str|String|char|usize|mem|fmt|arrayvec|smallvec)::|rattle|out/|crates/NAME|/|.*/out$')
@@ -156,11 +160,20 @@ def missing(texts):
         is_path(word, document, texts) if PATH.fullmatch(word) else is_item(word, sources, words))]
 
 
+def odd_words(texts):
+    """In words, each word of ODD that a file has in its prose, code in backticks aside."""
+    for path, text in texts.items():
+        lines = re.findall(PROSE.get(os.path.splitext(path)[1], '$.'), text, re.MULTILINE)
+        for word in ODD.findall(re.sub('`[^`]*`', '', ' '.join(' '.join(lines).split()))):
+            yield f'{path}: "{word}" is no word of std\'s documentation'
+
+
 def main(words):
     options('counts', __doc__, words)
     texts = texts_by_path()
     print_lines(texts)
     (proofs, wrong), (cited, absent) = too_long(texts), missing(texts)
-    wrong += [*absent, *too_few({'proofs': proofs, 'names': cited}, {'proofs': PROOFS, 'names': CITED})]
+    wrong += [*absent, *odd_words(texts),
+              *too_few({'proofs': proofs, 'names': cited}, {'proofs': PROOFS, 'names': CITED})]
     print(*wrong, f'{proofs} proofs and {cited} names were looked at, {len(wrong)} faults', sep='\n')
     return not wrong

@@ -177,6 +177,7 @@ BROKEN = (
     ('bench', 'missing, or of no workload: from 6', 'bench/sums', '11 from 6\n', ''),
     ('bench', 'nothing was summed: from 6', 'bench/sums', '11', '0'),
     ('counts', 'there is no toy/src/other.rt', 'README.md', 'lib.rt', 'other.rt'),
+    ('counts', 'is no word of std', 'README.md', 'has `rows', 'lies in `rows'),
     ('counts', 'there is no rows::law', 'README.md', 'rows::row', 'rows::law'),
     ('counts', '1 are `names`, and at least 2 must be', 'README.md', '`rows::row`', 'a row'),
     ('counts', '2 are `proofs`, and at least 3 must be', PROOF, '', None),

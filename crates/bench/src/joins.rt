@@ -6,7 +6,7 @@ use inlinable_string::inline_json::JsonError;
 use inlinable_string::{InlinableString, InlinableStringN, StringExt, StringMake};
 use std::alloc::AllocError;
 
-/// The checksum of a workload; none where there is no such workload, or memory is refused.
+/// The checksum of a workload; none if there is no such workload, or an allocation fails.
 pub fn sum_of(task: &Task) -> Option<u64> {
     let sum = match task.workload {
         "add" => add(task),
@@ -51,7 +51,7 @@ fn from_chars(task: &Task) -> Result<u64, AllocError> {
     })
 }
 
-/// Each word and the six letters behind it.
+/// Each word and the six letters after it.
 #[inline(never)]
 fn from_strs(task: &Task) -> Result<u64, AllocError> {
     let words = words_of(task)?;

@@ -73,7 +73,7 @@ pub fn run_on<S: StringMake + Drop>(task: &Task) -> Result<u64, AllocError> {
     Ok(sum.wrapping_add(sum_of(replies.as_slice())))
 }
 
-/// The same behind a `dyn`.
+/// The same on a `dyn`.
 #[inline(never)]
 pub fn run_on_dyn(task: &Task) -> Result<u64, AllocError> {
     let commands = commands_of(task)?;

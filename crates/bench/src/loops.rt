@@ -8,7 +8,7 @@ use crate::{keys, lists, readers};
 use inlinable_string::InlinableStringN;
 use std::alloc::AllocError;
 
-/// The checksum of a workload; none where there is no such workload, or memory is refused.
+/// The checksum of a workload; none if there is no such workload, or an allocation fails.
 pub fn sum_of<T: Text>(task: &Task) -> Option<u64> {
     let sum = match task.workload {
         "read" => read::<T>(task),

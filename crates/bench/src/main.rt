@@ -30,7 +30,7 @@ fn main(rt: HostRuntime) -> ExitCode {
     }
 }
 
-/// The checksum that is asked for; none where nothing has such a name, or memory or a read fails.
+/// The checksum of a task; none if nothing has such a name, or an allocation or a read fails.
 fn checksum<R: Env + Input + AllocGlobal>(rt: &R) -> Option<u64> {
     let alloc = rt.alloc();
     let words: Vec<String> = env::args(rt).ok()?.skip(1).collect(alloc).ok()?;

@@ -76,7 +76,7 @@ pub fn sink<S: StringExt>(text: &S, round: usize) -> u64 {
     byte_at(text.as_bytes(), round & 31)
 }
 
-/// The byte at a place, or 7 behind the last one.
+/// The byte at a place, or 7 after the last one.
 pub fn byte_at(bytes: &[u8], at: usize) -> u64 {
     match bytes.get(at) {
         Some(byte) => u64::from(*byte),

@@ -1,4 +1,4 @@
-//! What a run is asked for.
+//! What a run has to do.
 use std::alloc::Global;
 
 /// A workload on an input.

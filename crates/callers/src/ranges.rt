@@ -35,10 +35,11 @@ pub fn drop_oldest_of(line: &mut InlinableStringN<64>, n: usize)
     };
 }
 
-/// Puts stars in the place of a secret, if there is one from `from` to `to`.
+/// Replaces a secret by stars, if there is one from `from` to `to`.
 pub fn mask(text: &mut InlinableString, from: usize, to: usize) -> Result<bool, AllocError>
     ensures done { IfOk result (λ done. IsTrue done → IsRangeReplaced
-        (inlinable_state 30 text.old).text from to (codes "***") (inlinable_state 30 text.new).text) }
+        (inlinable_state 30 text.old).text from to (codes "***")
+        (inlinable_state 30 text.new).text) }
     ensures err { OnErr result
         (IsSameText (inlinable_state 30 text.old) (inlinable_state 30 text.new)) }
 {
@@ -65,7 +66,7 @@ pub fn set_value<const N: usize>(
     line.replace_range(from..to, value).is_ok()
 }
 
-/// Puts a dash in the place of one byte. It cannot fail.
+/// Replaces one byte by a dash. It cannot fail.
 pub fn dash_over(text: &mut InlineStringN<16>, from: usize, to: usize)
     requires from { IsPlace text.old from }
     requires to { IsPlace text.old to }

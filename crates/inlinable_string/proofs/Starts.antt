@@ -114,7 +114,7 @@ rowless bs some above none =
       subpart_at bs some ∙ ap (λ r. 1 + count_in r (drop 1 bs)) none,
     )
 
--- the row of a byte that begins a character of more: the range of the second, and k more behind it
+-- the row of a byte that begins a character of more: the range of the second, and k more after it
 record HasRow (a : ℕ) : Type 0 where
   range : ℕ × ℕ
   k : ℕ
@@ -157,7 +157,7 @@ row_is a from to =
     })
     (cases_lt a 240)) (cases_lt a 224)
 
--- the n bytes behind the first are in the row, and these ranges of it are left
+-- the n bytes after the first are in the row, and these ranges of it are left
 pub record Reached (bs : List ℕ) (n : ℕ) (left : List (ℕ × ℕ)) : Type 0 where
   pub some : 0 < length bs
   pub count : count_in (row bs) (drop 1 bs) ≡ n + count_in left (drop (1 + n) bs)
@@ -202,7 +202,7 @@ ended bs n r left so outside =
       omega (arith, so.count, none, subpart_at bs so.some),
     )
 
--- n bytes behind the first are in its row, and k more are left, all of one range
+-- n bytes after the first are in its row, and k more are left, all of one range
 pub record InRow (bs : List ℕ) (n : ℕ) : Type 0 where
   pub k : ℕ
   pub reached : Reached bs n (replicate k (0x80, 0xBF))

@@ -149,7 +149,7 @@ pub lossy_fault : (bs : List ℕ) → 0 < length bs → BeginsNone bs
     → lossy_utf8 bs ≡ 0xFFFD ∷ lossy_utf8 (drop (subpart_len bs) bs)
 lossy_fault bs h none = no_char bs h (len_of_none bs h none)
 
--- a character more behind a front that is UTF-8
+-- a character more after a prefix that is UTF-8
 pub one_more : (bs : List ℕ) (n k : ℕ) → IsUtf8 (take n bs) → char_len (drop n bs) ≡ k → 0 < k
     → IsUtf8 (take (n + k) bs)
 one_more bs n k u is some =

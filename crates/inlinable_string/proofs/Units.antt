@@ -103,7 +103,7 @@ module _ (v : List ℕ) (paired : (i : ℕ) → is_unpaired v i ≡ false) where
   low_after : (i : ℕ) → is_high_at v i ≡ true → is_low_at v (i + 1) ≡ true
   low_after i h = grind (arith, common_steps)
 
-  -- behind a high unit stands a low one
+  -- after a high unit comes a low one
   low_here : (i : ℕ) → is_high_before v i ≡ true → is_low_at v i ≡ true
   low_here zero h = absurd (clash h refl)
   low_here (suc i) h = ap (is_low_at v) (sym (add-one i)) ∙ low_after i h
@@ -250,14 +250,14 @@ given unpaired high low u next =
 next_behind : (u : ℕ) (v : List ℕ) (n : ℕ) → slice_index (u ∷ v) (suc n + 1) ≡ slice_index v (n + 1)
 next_behind u v n = grind (arith, common_steps)
 
--- behind a unit that is not high, units give what they give by themselves
+-- after a unit that is not high, units give what they give by themselves
 behind_one : (u : ℕ) (v : List ℕ) (n : ℕ) → is_high_surrogate u ≡ false
     → lossy_unit (u ∷ v) (suc n) ≡ lossy_unit v n
 behind_one u v n h i =
     given (past_first u v n h i) (is_high_at v n) (is_low_at v n) (slice_index v n)
     (next_behind u v n i)
 
--- so they do behind a pair
+-- so they do after a pair
 behind_pair : (h l : ℕ) (v : List ℕ) (n : ℕ) → is_high_surrogate l ≡ false
     → lossy_unit (h ∷ l ∷ v) (suc (suc n)) ≡ lossy_unit v n
 behind_pair h l v n not_high =
@@ -268,7 +268,7 @@ behind_pair h l v n not_high =
     (next_behind h (l ∷ v) (suc n) i) in
     same ∙ behind_one l v n not_high
 
--- what the first units give is followed by what those behind them give
+-- what the first units give is followed by what those after them give
 read_behind : (w v x : List ℕ) (at : ℕ → ℕ) → lossy_utf16_before w (at 0) ≡ x
     → ((n : ℕ) → lossy_utf16_before w (at (suc n)) ≡ lossy_utf16_before w (at n) ++ lossy_unit v n)
     → (n : ℕ) → lossy_utf16_before w (at n) ≡ x ++ lossy_utf16_before v n

@@ -2,7 +2,7 @@
 use Rattle.std.specs.Prelude.{◌≡◌, ℕ, List, ◌++◌}
 use Rattle.inlinable_string.specs.Text.{IsCut}
 
--- v is the text t with u in the place of what t has between the places p and q
+-- v is the text t with u instead of what t has between the places p and q
 pub record IsRangeReplaced (t : List ℕ) (p q : ℕ) (u v : List ℕ) : Type 0 where
   pub front : List ℕ
   pub middle : List ℕ

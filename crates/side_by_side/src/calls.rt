@@ -1,9 +1,9 @@
 //! A line of calls on one text: the type of the text, and a word for each call, as `insert@1:c3a9`.
-//! After `@` comes a number (a place, an amount, a width, or a way in which a text comes about), and
-//! after `:` the digits of what the call is given (a text, bytes or units).
+//! After `@` comes a number (a place, an amount, a width, or a way in which a text comes about),
+//! and after `:` the digits of what the call is given (a text, bytes or units).
 //!
-//! The text starts empty. The answer has what each call returns and the storage after it, and at the
-//! end the storage, the length and the bytes.
+//! The text starts empty. The answer has what each call returns and the storage after it, and at
+//! the end the storage, the length and the bytes.
 
 use crate::digits::{bytes_of, push_digits, units_of};
 use crate::fault::LineFault;

@@ -21,8 +21,8 @@ impl<const N: usize> InlinableStringN<N> {
     /// (`is_char_boundary`), the start not after the end.
     ///
     /// An inline text moves to the heap if the result has more than `N` bytes; a heap text stays
-    /// there. Cannot fail if the text is stored inline and the result fits there, or if the capacity
-    /// suffices for `replace_with` beside the whole text.
+    /// there. Cannot fail if the text is stored inline and the result fits there, or if the
+    /// capacity suffices for the whole text and `replace_with`.
     pub fn replace_range(
         &mut self,
         range: Range<usize>,
@@ -63,7 +63,7 @@ impl<const N: usize> InlinableStringN<N> {
         ensures behind { OnOk result (IsPlace (inlinable_state N self.new).text
             (range.start + length replace_with.now)) }
     {
-        // `len` tells the laws of the value.
+        // `len` states the laws of the value.
         let _ = self.len();
         let (from, to) = (range.start, range.end);
         match self {

@@ -18,12 +18,12 @@ use std::error::Error;
 use std::fmt;
 use std::string::FromUtf8Error;
 
-/// Why units of UTF-16 did not become a text.
+/// Why `from_utf16` failed.
 #[derive(Clone, Copy, Debug, PartialEq, Eq)]
 pub enum Utf16Error {
     /// A surrogate is unpaired.
     Unpaired,
-    /// None is unpaired, and memory was refused.
+    /// None is unpaired, and the allocation failed.
     NoMemory,
 }
 
@@ -54,14 +54,14 @@ pub trait StringMake: StringExt {
     /// The policy of each text that is made.
     ghost policy: { Policy };
 
-    /// The empty text. It takes no memory.
+    /// Returns the empty text. Does not allocate.
     fn new(alloc: Global) -> Self
         ensures text { (Self.state result).text ≡ [] }
         ensures storage { (Self.state result).storage ≡ storage_when_made policy 0 }
         ensures policy { (Self.state result).policy ≡ policy };
 
-    /// The empty text, with room for `capacity` bytes. Where these would lie inline it takes no
-    /// memory and is not refused.
+    /// Returns the empty text, with capacity for `capacity` bytes. Does not allocate, and cannot
+    /// fail, if they fit inline.
     fn with_capacity(alloc: Global, capacity: usize) -> Result<Self, AllocError>
         ensures text { IfOk result (λ made. (Self.state made).text ≡ []) }
         ensures room { IfOk result (λ made. capacity ≤ (Self.state made).capacity) }
@@ -70,10 +70,10 @@ pub trait StringMake: StringExt {
         ensures granted { IsTrue policy.demotes → capacity ≤ policy.limit → IsOk result }
         ensures policy { IfOk result (λ made. (Self.state made).policy ≡ policy) };
 
-    /// The text of these bytes. Fails exactly where they are not UTF-8, and then hands them back in
+    /// Converts bytes into a text. Fails exactly if they are not UTF-8, and then returns them in
     /// the error (`FromUtf8Error::into_bytes`).
     ///
-    /// They are not copied: it takes no memory, and the text lies on the heap, however short.
+    /// Takes over the vector without copying; the text is on the heap even if it is short.
     fn from_utf8(alloc: Global, vec: Vec<u8>) -> Result<Self, FromUtf8Error>
         ensures text { IfOk result (λ made. bytes_of (Self.state made).text ≡ vec.items) }
         ensures chars { IfOk result (λ made. (Self.state made).text ≡ chars vec.items) }
@@ -83,9 +83,9 @@ pub trait StringMake: StringExt {
         ensures storage { IfOk result (λ made. (Self.state made).storage ≡ Storage.Heap) }
         ensures policy { IfOk result (λ made. (Self.state made).policy ≡ policy) };
 
-    /// The text of these bytes, which must be UTF-8 (`str::from_utf8`).
+    /// Converts bytes, which must be UTF-8 (`str::from_utf8`), into a text.
     ///
-    /// They are not copied: it takes no memory, and the text lies on the heap, however short.
+    /// Takes over the vector without copying; the text is on the heap even if it is short.
     unsafe fn from_utf8_unchecked(alloc: Global, bytes: Vec<u8>) -> Self
         requires { IsUtf8 bytes.items }
         ensures text { bytes_of (Self.state result).text ≡ bytes.items }
@@ -93,11 +93,11 @@ pub trait StringMake: StringExt {
         ensures storage { (Self.state result).storage ≡ Storage.Heap }
         ensures policy { (Self.state result).policy ≡ policy };
 
-    /// The text of any bytes, with U+FFFD for each maximal subpart that is no character.
+    /// Converts bytes into a text, with U+FFFD for each maximal subpart that is no character.
     ///
-    /// Bytes that are UTF-8 are borrowed: it takes no memory, and is not refused. Of others memory
-    /// is asked for once: a byte for each that is ASCII, and three for each that is not. What the
-    /// text does not take of it is its spare capacity.
+    /// Bytes that are UTF-8 are borrowed, which does not allocate and cannot fail. Others are
+    /// copied into one allocation, of a byte for each that is ASCII and three for each that is
+    /// not; what the text does not need of it is spare capacity.
     final fn from_utf8_lossy(alloc: Global, v: &[u8]) -> Result<CowStr, AllocError>
         ensures text { IfOk result (λ read. cow_str_bytes read ≡ bytes_of (lossy_utf8 v.now)) }
         ensures borrowed { IfOk result (λ read. IsBorrowedStr read ↔ IsUtf8 v.now) }
@@ -109,10 +109,10 @@ pub trait StringMake: StringExt {
         Ok(CowStr::Owned(utf8::lossy(alloc, v)?))
     }
 
-    /// The text whose UTF-16 is `v`. Fails with [`Utf16Error::Unpaired`] exactly where a surrogate
-    /// is unpaired, which is found before memory is asked for.
+    /// Decodes UTF-16. Fails with [`Utf16Error::Unpaired`] exactly if a surrogate is unpaired,
+    /// which is found before anything is allocated.
     ///
-    /// Memory is asked for once, for the exact size. The text lies on the heap, however short.
+    /// Allocates once and exactly. The text is on the heap even if it is short.
     fn from_utf16(alloc: Global, v: &[u16]) -> Result<Self, Utf16Error>
         ensures text { IfOk result (λ made. units_of (Self.state made).text ≡ v.now) }
         ensures read { IfOk result (λ made. (Self.state made).text ≡ lossy_utf16 v.now) }
@@ -124,9 +124,9 @@ pub trait StringMake: StringExt {
         Ok(unsafe { Self::from_utf8_unchecked(alloc, read.into_bytes()) })
     }
 
-    /// The text of any units, with U+FFFD for each surrogate that is unpaired.
+    /// Decodes UTF-16, with U+FFFD for each surrogate that is unpaired.
     ///
-    /// Memory is asked for once, for the exact size. The text lies on the heap, however short.
+    /// Allocates once and exactly. The text is on the heap even if it is short.
     fn from_utf16_lossy(alloc: Global, v: &[u16]) -> Result<Self, AllocError>
         ensures text { IfOk result (λ made. (Self.state made).text ≡ lossy_utf16 v.now) }
         ensures storage { IfOk result (λ made. (Self.state made).storage ≡ Storage.Heap) }
@@ -136,8 +136,8 @@ pub trait StringMake: StringExt {
         Ok(unsafe { Self::from_utf8_unchecked(alloc, read.into_bytes()) })
     }
 
-    /// The UTF-8 bytes of the text. A refusal hands the text back as it was. On the heap it takes
-    /// no memory, and is not refused.
+    /// Converts the text into its UTF-8 bytes. A heap text hands over its allocation, which cannot
+    /// fail; an inline one allocates, and if that fails the text is returned unchanged.
     fn into_bytes(self) -> Result<Vec<u8>, Self>
         ensures bytes { IfOk result (λ bytes. bytes.items ≡ bytes_of (Self.state self).text) }
         ensures err { IfErr result (λ kept. Self.state kept ≡ Self.state self) }

@@ -1,4 +1,4 @@
-//! UTF-16 read as text: each unit by itself and its two neighbours.
+//! A decoder of UTF-16: each unit is read by itself and its two neighbours.
 ghost use Rattle.std.specs.Prelude.{◌≡◌, ◌+◌, ◌-◌, ◌*◌, ◌%◌, ◌<◌, ◌≤◌, ◌↔◌, ◌||◌, [], ◌∷◌, ◌++◌, length, take, IfOk, IsTrue, Err};
 ghost use Rattle.std.specs.Char.Utf16.{is_high_surrogate, is_low_surrogate, surrogate_pair_char};
 ghost use Rattle.std.specs.Str.{chars, IsAscii};
@@ -11,8 +11,8 @@ ghost use Rattle.inlinable_string.specs.declared.string_ext.make.Utf16Error.TheV
 use super::make::Utf16Error;
 use std::alloc::{AllocError, Global};
 
-/// The text of the units. Fails with [`Utf16Error::Unpaired`] exactly where a surrogate is without
-/// its partner, and otherwise as [`lossy`] does.
+/// Decodes the units. Fails with [`Utf16Error::Unpaired`] exactly if a surrogate is without its
+/// partner, and otherwise as [`lossy`] does.
 pub(super) fn paired(alloc: Global, units: &[u16]) -> Result<String, Utf16Error>
     ensures read { IfOk result (λ made. chars (string_bytes made) ≡ lossy_utf16 units.now) }
     ensures unpaired { (result ≡ Err Unpaired) ↔ HasUnpaired units.now }
@@ -27,8 +27,7 @@ pub(super) fn paired(alloc: Global, units: &[u16]) -> Result<String, Utf16Error>
     Ok(text_of_len(alloc, units, counted.len)?)
 }
 
-/// The text of the units, with U+FFFD for each that is unpaired. Memory is asked for once, for the
-/// exact size.
+/// Decodes the units, with U+FFFD for each that is unpaired. Allocates once and exactly.
 pub(super) fn lossy(alloc: Global, units: &[u16]) -> Result<String, AllocError>
     ensures { IfOk result (λ made. chars (string_bytes made) ≡ lossy_utf16 units.now) }
 {
@@ -38,8 +37,8 @@ pub(super) fn lossy(alloc: Global, units: &[u16]) -> Result<String, AllocError>
     text_of_len(alloc, units, count(units).len)
 }
 
-/// Whether each unit is of ASCII.
-// No unit ends the loop, so that several are tested at a time.
+/// Returns whether each unit is ASCII.
+// No early exit, so that the loop is vectorized.
 fn is_ascii(units: &[u16]) -> bool
     ensures { IsTrue result ↔ IsAscii units.now }
 {
@@ -50,7 +49,7 @@ fn is_ascii(units: &[u16]) -> bool
     is_ascii
 }
 
-/// The text of units of ASCII.
+/// Decodes units that are ASCII.
 fn ascii_text(alloc: Global, units: &[u16]) -> Result<String, AllocError>
     requires { IsAscii units.now }
     ensures { IfOk result (λ made. chars (string_bytes made) ≡ lossy_utf16 units.now) }
@@ -60,7 +59,7 @@ fn ascii_text(alloc: Global, units: &[u16]) -> Result<String, AllocError>
     Ok(unsafe { String::from_utf8_unchecked(bytes) })
 }
 
-/// Writes units of ASCII, a byte each.
+/// Writes units that are ASCII, a byte each.
 fn write_ascii(units: &[u16], bytes: &mut [u8])
     requires ascii { IsAscii units.now }
     requires room { length bytes.old ≡ length units.now }
@@ -71,7 +70,7 @@ fn write_ascii(units: &[u16], bytes: &mut [u8])
     }
 }
 
-/// How many bytes the text of some units has, and how many units are unpaired.
+/// The length of the text of some units, in bytes, and the number of unpaired units.
 #[derive(Clone, Copy)]
 struct Counted {
     len: usize,
@@ -146,7 +145,7 @@ fn unit_len(unit: u16) -> u16
     1 + u16::from(0x80 <= unit) + u16::from(0x800 <= unit && !is_surrogate(unit))
 }
 
-/// The text of the units, of which the length is known.
+/// Decodes the units, of whose text the length is known.
 fn text_of_len(alloc: Global, units: &[u16], len: usize) -> Result<String, AllocError>
     requires { len ≡ size (lossy_utf16 units.now) }
     ensures { IfOk result (λ made. chars (string_bytes made) ≡ lossy_utf16 units.now) }
@@ -234,7 +233,7 @@ fn continuation_byte(bits: u32) -> u8
     (0x80 + bits % 0x40) as u8
 }
 
-/// Whether a unit is one of a pair's.
+/// Returns whether a unit is a surrogate.
 #[inline(always)]
 fn is_surrogate(unit: u16) -> bool
     ensures { result ≡ (is_high_surrogate unit || is_low_surrogate unit) }
@@ -242,21 +241,21 @@ fn is_surrogate(unit: u16) -> bool
     0xD800 <= unit && unit < 0xE000
 }
 
-/// Whether a unit is the first of a pair.
+/// Returns whether a unit is a high surrogate.
 fn is_high(unit: u16) -> bool
     ensures { result ≡ is_high_surrogate unit }
 {
     0xD800 <= unit && unit < 0xDC00
 }
 
-/// Whether a unit is the second of a pair.
+/// Returns whether a unit is a low surrogate.
 fn is_low(unit: u16) -> bool
     ensures { result ≡ is_low_surrogate unit }
 {
     0xDC00 <= unit && unit < 0xE000
 }
 
-/// The character of a pair.
+/// Returns the character of a pair.
 fn pair_char(high: u16, low: u16) -> char
     requires high { IsTrue (is_high_surrogate high) }
     requires low { IsTrue (is_low_surrogate low) }
@@ -266,7 +265,7 @@ fn pair_char(high: u16, low: u16) -> char
     unsafe { char::from_u32_unchecked(code) }
 }
 
-/// The character of a unit that is no surrogate.
+/// Returns the character of a unit that is no surrogate.
 fn unit_char(unit: u16) -> char
     requires high { ¬ IsTrue (is_high_surrogate unit) }
     requires low { ¬ IsTrue (is_low_surrogate unit) }

@@ -1,4 +1,4 @@
-//! Bytes read as text, whatever they are: the parts that are UTF-8 whole, and U+FFFD between them.
+//! The lossy decoder of UTF-8: what is well-formed is copied, with U+FFFD for the rest.
 ghost use Rattle.std.specs.Prelude.{◌≡◌, ◌+◌, ◌<◌, ◌≤◌, ◌∷◌, [], ◌++◌, length, take, drop, if◌then◌else◌, IfOk, IfSome, MatchResult, IsUtf8};
 ghost use Rattle.std.specs.Str.{chars};
 ghost use Rattle.std.specs.String.{string_bytes};
@@ -7,8 +7,8 @@ ghost use Rattle.inlinable_string.specs.Lossy.{lossy_utf8, char_len, subpart_len
 
 use std::alloc::{AllocError, Global};
 
-/// The text of the bytes, with U+FFFD for each maximal subpart that is no character. Memory is
-/// asked for once, of the size that [`room_for`] gives.
+/// Decodes the bytes, with U+FFFD for each maximal subpart that is no character. Allocates once,
+/// with the capacity that [`room_for`] returns.
 pub(super) fn lossy(alloc: Global, bytes: &[u8]) -> Result<String, AllocError>
     ensures { IfOk result (λ made. chars (string_bytes made) ≡ lossy_utf8 bytes.now) }
 {
@@ -21,8 +21,8 @@ pub(super) fn lossy(alloc: Global, bytes: &[u8]) -> Result<String, AllocError>
     Ok(unsafe { String::from_utf8_unchecked(made) })
 }
 
-/// How many bytes that text has at most: one for each byte of ASCII, and three for each other, as
-/// if all of these were replaced. `None` past `usize::MAX`.
+/// Returns a bound on the length of that text: one for each byte that is ASCII, and three for each
+/// other, as if all of these were replaced. `None` past `usize::MAX`.
 fn room_for(bytes: &[u8]) -> Option<usize>
     ensures { IfSome result (λ room. size (lossy_utf8 bytes.now) ≤ room) }
 {
@@ -91,8 +91,8 @@ fn write_replacement(made: &mut [u8], at: usize)
     made[at + 2] = 0xBD;
 }
 
-/// How many bytes the character has that begins `bytes`; where none does, how many the maximal
-/// subpart has.
+/// Returns the length of the character that begins `bytes`; if none does, the error is the length
+/// of the maximal subpart.
 fn char_or_subpart_len(bytes: &[u8]) -> Result<usize, usize>
     requires { 0 < length bytes.now }
     ensures len { MatchResult result
@@ -127,14 +127,14 @@ fn char_or_subpart_len(bytes: &[u8]) -> Result<usize, usize>
     }
 }
 
-/// Whether there is a byte at that index, and it is in the range.
+/// Returns whether there is a byte at that index, and it is in the range.
 fn byte_in_range(bytes: &[u8], index: usize, least: u8, most: u8) -> bool
     ensures { count_in ((least, most) ∷ []) (drop index bytes.now) ≡ (if result then 1 else 0) }
 {
     index < bytes.len() && least <= bytes[index] && bytes[index] <= most
 }
 
-/// Whether there is a second byte, and it is in the range that the first has behind it.
+/// Returns whether there is a second byte, and it is in the range that the first one gives.
 fn second_in_range(bytes: &[u8], first: u8) -> bool
     ensures { 0xC2 ≤ first → first ≤ 0xF4
         → count_in (take 1 (following first)) (drop 1 bytes.now) ≡ (if result then 1 else 0) }
