@@ -1,7 +1,8 @@
 //! A store as the bytes of a JSON object, and back.
-ghost use Rattle.std.specs.Prelude.{◌≡◌, [], Some, None, Err, IfOk, IsUtf8};
+ghost use Rattle.std.specs.Prelude.{◌≡◌, ◌↔◌, [], Some, None, Err, IfOk, IfSome, IsUtf8, is_some, option_and_then};
 ghost use Rattle.serde_json.specs.Data.{members_depth};
-ghost use Rattle.serde_json.specs.View.{members_view};
+ghost use Rattle.serde_json.specs.Find.{as_object};
+ghost use Rattle.serde_json.specs.View.{members_view, view};
 ghost use Rattle.inline_uses.specs.Store.{entries_in, with_members};
 ghost use Rattle.inline_uses.specs.declared.store.json.ReadError.TheVariants.{NoMemory};
 
@@ -58,8 +59,7 @@ impl Store {
             → entries_in bytes.now ≡ None }
     {
         match Value::from_slice(alloc, bytes) {
-            Ok(Value::Object(members)) => Self::from_members(alloc, &members),
-            Ok(_) => Err(ReadError::NotAStore),
+            Ok(value) => Self::from_json(alloc, &value),
             Err(error) => {
                 if error.is_memory() {
                     Err(ReadError::NoMemory)
@@ -70,22 +70,46 @@ impl Store {
         }
     }
 
-    /// The store of the members of an object.
-    fn from_members(alloc: Global, members: &Map<String, Value>) -> Result<Self, ReadError>
+    /// Returns the store that a JSON value tells. Fails with [`ReadError::NotAStore`] exactly if it
+    /// is not an object of strings, and otherwise only if an allocation does.
+    pub fn from_json(alloc: Global, value: &Value) -> Result<Self, ReadError>
         ensures entries { IfOk result (λ store.
-            with_members [] (members_view members.now.entries) ≡ Some store) }
-        ensures not_a_store { result ≡ Err ReadError.NotAStore
-            → with_members [] (members_view members.now.entries) ≡ None }
+            option_and_then (with_members []) (as_object (view value.now)) ≡ Some store) }
+        ensures not_a_store { (result ≡ Err ReadError.NotAStore)
+            ↔ (option_and_then (with_members []) (as_object (view value.now)) ≡ None) }
+    {
+        match value.as_object() {
+            Some(members) if are_strings(members) => Ok(Self::from_members(alloc, members)?),
+            _ => Err(ReadError::NotAStore),
+        }
+    }
+
+    /// The store of the members of an object: of those before the first that is no string.
+    fn from_members(alloc: Global, members: &Map<String, Value>) -> Result<Self, AllocError>
+        ensures { IfOk result (λ store. IfSome (with_members [] (members_view members.now.entries))
+            (λ entries. store ≡ entries)) }
     {
         let mut store = Store::new(alloc);
         for (name, value) in members {
             let Some(text) = value.as_str() else {
-                return Err(ReadError::NotAStore);
+                break;
             };
             store.put(name.as_str(), text)?;
         }
         Ok(store)
     }
+}
+
+/// Whether each member of an object is a string.
+fn are_strings(members: &Map<String, Value>) -> bool
+    ensures { result ≡ is_some (with_members [] (members_view members.now.entries)) }
+{
+    for (_, value) in members {
+        if !value.is_string() {
+            return false;
+        }
+    }
+    true
 }
 
 /// A store goes through its bytes and comes back the same; only memory can be wanting.

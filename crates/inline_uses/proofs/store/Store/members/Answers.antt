@@ -3,8 +3,8 @@ use Rattle.std.proofs.Math.Seq.{drop-cons}
 use Rattle.std.proofs.lemmas.List.{drop_all}
 use Rattle.inlinable_string.specs.declared.inlinable_string.InlinableStringN.{InlinableStringN}
 use Rattle.inline_uses.specs.Symbols.{bytes_at}
-use Rattle.inline_uses.specs.Store.{Entries, with_value, entry_of}
-use Rattle.inline_uses.proofs.Members.{all_in_turn, put_in, read_back, flat, with_all}
+use Rattle.inline_uses.specs.Store.{Entries, with_value}
+use Rattle.inline_uses.proofs.Members.{all_in_turn, put_in, read_back, flat}
 use Rattle.inline_uses.proofs.store.Store.members.Goals as goal
 
 pub loop-key-init : goal.loop-key-init
