@@ -1,6 +1,7 @@
 pub mod Cursor
 pub mod Entries
 pub mod Members
+pub mod Readable
 pub mod Shown
 pub mod Tables
 pub mod Trees
