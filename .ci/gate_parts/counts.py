@@ -2,7 +2,7 @@
 
 A line of a crate has at most 100 columns, unless it imports; a file at most 500 lines; a lemma with its type or
 an answer to a goal at most 30, comments aside. Each path or name that a document has in backticks is in the
-tree. The README has the program of the crate `tour`, which `rt ci` proves and runs.
+tree.
 """
 import os
 import re
@@ -162,7 +162,5 @@ def main(words):
     print_lines(texts)
     (proofs, wrong), (cited, absent) = too_long(texts), missing(texts)
     wrong += [*absent, *too_few({'proofs': proofs, 'names': cited}, {'proofs': PROOFS, 'names': CITED})]
-    if f'```rust\n{texts["crates/tour/src/main.rt"]}```\n' not in texts['README.md']:
-        wrong.append('README.md: it does not have the program of crates/tour')
     print(*wrong, f'{proofs} proofs and {cited} names were looked at, {len(wrong)} faults', sep='\n')
     return not wrong

@@ -102,7 +102,7 @@ sys.exit(any(each.startswith(crate + '/') for each in refused))
 TOGETHER, ALONE = 'crates/toy/must-fail-together/lib.edits', 'crates/toy/must-fail/two_for_other.edit'
 LISTED, DEFINITIONS = 'crates/toy/must-fail/README.md', 'crates/toy/wrong-definitions/Word.edits'
 CLAUSES, LIB = 'crates/toy/wrong-clauses/lib.edits', 'crates/toy/src/lib.rt'
-PROOF = 'crates/tour/proofs/Tour.antt'
+PROOF = 'crates/above/proofs/Above.antt'
 REPOSITORY = {
     '.ci/floors.py': text_of(in_tree('.ci', 'floors.py')) + FLOORS, 'HANDLES': 'Handles allowed: none.\n',
     'crates.txt': 'toy:\nabove: toy\ncallers: toy\n', 'bin/rt': STAND_IN, 'bin/program': SUMMING,
@@ -112,8 +112,8 @@ REPOSITORY = {
     'crates/callers/src/lib.rt': SOURCE.replace('one', 'call'), TOGETHER: EDIT, LISTED: TABLE,
     ALONE: 'file: src/lib.rt\nold:     one()\nnew:     2\n', DEFINITIONS: DEFINITION, CLAUSES: CLAUSE,
     'bench/sums.py': text_of(in_tree('bench', 'sums.py')), 'bench/workloads.py': WORKLOADS,
-    'bench/sums': '11 from 6\n', 'crates/tour/src/main.rt': 'fn main() {}\n', PROOF: 'one = 1\n',
-    'README.md': '```rust\nfn main() {}\n```\n`toy/src/lib.rt` has `rows::row`.\n'}
+    'bench/sums': '11 from 6\n', PROOF: 'one = 1\n',
+    'README.md': '`toy/src/lib.rt` has `rows::row`.\n'}
 # By part, the words behind it and the environment in which it passes.
 IN_ORDER = {
     'edits': ('--jobs 2', {'WORD': '    2\n', 'REFUSED': 'toy/one toy/other'}),
@@ -166,7 +166,6 @@ BROKEN = (
     ('bench', 'nothing was summed: from 6', 'bench/sums', '11', '0'),
     ('counts', 'there is no toy/src/other.rt', 'README.md', 'lib.rt', 'other.rt'),
     ('counts', 'there is no rows::law', 'README.md', 'rows::row', 'rows::law'),
-    ('counts', 'does not have the program', 'README.md', '() {}', '() { }'),
     ('counts', '1 are `names`, and at least 2 must be', 'README.md', '`rows::row`', 'a row'),
     ('counts', '2 are `proofs`, and at least 3 must be', PROOF, '', None),
     ('counts', 'more than 100 columns', LIB, '    1\n', '    1 + ' + '1' * 93 + '\n'),
