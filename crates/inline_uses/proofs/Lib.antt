@@ -2,6 +2,7 @@ pub mod Cursor
 pub mod Entries
 pub mod Ids
 pub mod Members
+pub mod Readable
 pub mod Search
 pub mod Shown
 pub mod Tables

@@ -1,17 +1,25 @@
 -- A tree with one more node at the end of its list.
-use Rattle.std.proofs.Common.{◌≡◌, ◌<◌, suc, inl, inr, ℕ, List, [], ◌∷◌, ◌++◌, length, Option, Some, None, refl, ap, subst, sym, ◌∙◌, arith, rules}
-use Rattle.std.specs.Prelude.{slice_get}
+use Rattle.std.proofs.Common.{◌≡◌, ◌<◌, ◌≤◌, ◌↔◌, suc, inl, inr, ℕ, List, [], ◌∷◌, ◌++◌, length, Bool, true, false, cond, Option, Some, None, Ordering, Less, Equal, Greater, is_eq, refl, ap, subst, sym, ◌∙◌, arith, rules}
+use Rattle.std.specs.Prelude.{slice_get, unwrap_or, option_map}
+use Rattle.std.specs.BTreeMap.{BTreeMap, get}
+use Rattle.std.specs.Bool.{Decides}
+use Rattle.std.specs.Cmp.Lexicographic.{slice_cmp, bytes_decides, texts_ties}
+use Rattle.std.specs.List.{AllByRecursion}
+use Rattle.std.specs.Option.{option_cmp}
+use Rattle.std.specs.Ordering.{nat_cmp, ordering_then}
 use Rattle.std.specs.Str.{chars}
+use Rattle.inlinable_string.specs.Text.{bytes_of, size}
+use Rattle.std.proofs.lemmas.Cmp.{ranked, tied_itself, nat_cmp_total, nat_list_cmp_total}
 use Rattle.std.proofs.lemmas.List.{append_assoc, length-append}
 use Rattle.serde_json.specs.Data.{Data, Members, member}
-use Rattle.inline_uses.specs.Tree.{node_at, IsPlaceOf, IsTree, Leads, listed, listed_members}
+use Rattle.inline_uses.specs.Tree.{node_at, IsPlaceOf, IsTree, place_order, AreFound, Leads, listed, listed_members}
 use Rattle.inline_uses.specs.declared.tree.Node.{Node}
-use Rattle.inline_uses.proofs.Tables.{from_push, one_id_pushed}
+use Rattle.inline_uses.proofs.Tables.{at_push, before_push, from_push, one_id_pushed}
 
 pub grown : (nodes : List Node) (place : Option ℕ) (key : List ℕ) → IsTree nodes
     → IsPlaceOf nodes place → ((id : ℕ) → ¬ (slice_get nodes id ≡ Some (node_at place key)))
-    → IsTree (nodes ++ node_at place key ∷ [])
-grown nodes place key tree has none = record {
+    → size key ≤ 16 → IsTree (nodes ++ node_at place key ∷ [])
+grown nodes place key tree has none short = record {
   once = one_id_pushed nodes (node_at place key) none tree.once;
   later = λ id parent k is. elim (from_push nodes (node_at (Some parent) k) _ id is) [
     | inl old ↦ tree.later id parent k old
@@ -19,7 +27,77 @@ grown nodes place key tree has none = record {
         = subst (IsPlaceOf nodes) (ap (λ (node : Node). node.parent) new.1) has in
         subst (λ n. parent < n) (sym new.0) here
   ];
+  short = λ id node is. elim (from_push nodes node _ id is) [
+    | inl old ↦ tree.short id node old
+    | inr new ↦ subst (λ (node : Node). size node.key ≤ 16) new.1 short
+  ];
 }
+
+-- places that compare equal are one place
+same_place : (p q : Option ℕ) → option_cmp nat_cmp p q ≡ Equal → p ≡ q
+same_place None None e = refl
+same_place None (Some y) e = cc
+same_place (Some x) None e = cc
+same_place (Some x) (Some y) e = ap Some (ranked x y Equal (sym e))
+
+place_tied : (p : Option ℕ) → option_cmp nat_cmp p p ≡ Equal
+place_tied None = refl
+place_tied (Some x) = tied_itself nat_cmp_total x
+
+both_tied : (o r : Ordering) → is_eq (ordering_then o r) ≡ true → (o ≡ Equal) × (r ≡ Equal)
+both_tied Less r e = cc
+both_tied Equal Less e = cc
+both_tied Equal Equal e = (refl, refl)
+both_tied Equal Greater e = cc
+both_tied Greater r e = cc
+
+-- the order tells whether two keys with their places are the same
+same_key : (p q : Option ℕ) (k l : List ℕ) → chars (bytes_of k) ≡ k → chars (bytes_of l) ≡ l
+    → Decides (is_eq (place_order (p, k) (q, l))) (node_at p k ≡ node_at q l)
+same_key p q k l text other = (
+  (λ e. let tied = both_tied (option_cmp nat_cmp p q) (slice_cmp nat_cmp (bytes_of k) (bytes_of l)) e in
+      let bytes : bytes_of k ≡ bytes_of l = (bytes_decides (bytes_of k) (bytes_of l)).0
+      (texts_ties (bytes_of k) (bytes_of l) ∙ ap is_eq tied.1) in
+      let keys : k ≡ l = sym text ∙ ap chars bytes ∙ other in
+      rw (same_place p q tied.0, keys) refl),
+  λ e. let places : q ≡ p = ap (λ (node : Node). node.parent) (sym e) in
+      let keys : l ≡ k = ap (λ (node : Node). node.key) (sym e) in
+      rw (places, keys, place_tied p, tied_itself nat_list_cmp_total (bytes_of k)) refl,
+)
+
+-- a node that is not there is found once it is put in
+pub found : (nodes : List Node) (parent : Option ℕ) (key : List ℕ)
+    → (old new : BTreeMap (Option ℕ × List ℕ) ℕ) (n : ℕ) → n ≡ length nodes
+    → ((id : ℕ) → ¬ (slice_get nodes id ≡ Some (node_at parent key)))
+    → chars (bytes_of key) ≡ key → AreFound nodes old
+    → ((q : Option ℕ × List ℕ) → get place_order new q
+    ≡ cond (is_eq (place_order (parent, key) q)) (Some n) (get place_order old q))
+    → AreFound (nodes ++ node_at parent key ∷ []) new
+found nodes parent key old new n count none text was sets place k id is_text =
+    by_test (is_eq (place_order (parent, key) (place, k)))
+    (same_key parent place key k text is_text) (sets (place, k))
+  where
+    by_test : (b : Bool) → Decides b (node_at parent key ≡ node_at place k)
+        → get place_order new (place, k) ≡ cond b (Some n) (get place_order old (place, k))
+        → (get place_order new (place, k) ≡ Some id)
+        ↔ (slice_get (nodes ++ node_at parent key ∷ []) id ≡ Some (node_at place k))
+    by_test true told is = (
+      (λ h. let e : n ≡ id = cc in
+          subst (λ i. slice_get (nodes ++ node_at parent key ∷ []) i ≡ Some (node_at place k))
+          (sym count ∙ e) (at_push nodes (node_at parent key) ∙ ap Some (told.0 refl))),
+      λ h. elim (from_push nodes (node_at place k) (node_at parent key) id h) [
+        | inl older ↦ absurd (none id (older ∙ ap Some (sym (told.0 refl))))
+        | inr newer ↦ is ∙ ap Some (count ∙ sym newer.0)
+      ],
+    )
+    by_test false told is = (
+      (λ h. before_push nodes (node_at place k) (node_at parent key) id
+          ((was place k id is_text).0 (sym is ∙ h))),
+      λ h. elim (from_push nodes (node_at place k) (node_at parent key) id h) [
+        | inl older ↦ is ∙ (was place k id is_text).1 older
+        | inr newer ↦ let e : false ≡ true = told.1 newer.1 in cc
+      ],
+    )
 
 -- the keys from a place down, with the key of the node at the place before them
 pub above : (nodes : List Node) (at id : ℕ) (node : Node) (keys : List (List ℕ)) → IsTree nodes
@@ -33,6 +111,40 @@ above nodes at id node keys tree within is leads = (has node.parent refl, (at, i
         let under = ap (λ q. Some (node_at q node.key)) e in
         let earlier : p < at = tree.later at p node.key (is ∙ under) in
         omega arith
+
+-- the key of a node by its number
+abbrev pub key_of : List Node → ℕ → List ℕ
+key_of nodes id = unwrap_or (option_map (λ (node : Node). node.key) (slice_get nodes id)) []
+
+-- the keys of nodes, that of the last first, and then others
+abbrev pub with_keys : List Node → List (List ℕ) → List ℕ → List (List ℕ)
+with_keys nodes keys [] = keys
+with_keys nodes keys (id ∷ ids) = with_keys nodes (key_of nodes id ∷ keys) ids
+
+pub with_keys-push : (nodes : List Node) (keys : List (List ℕ)) (ids : List ℕ) (id : ℕ)
+    → with_keys nodes keys (ids ++ id ∷ []) ≡ key_of nodes id ∷ with_keys nodes keys ids
+with_keys-push nodes keys [] id = refl
+with_keys-push nodes keys (i ∷ ids) id = with_keys-push nodes (key_of nodes i ∷ keys) ids id
+
+-- the numbers are all of nodes
+abbrev pub AreNodes : List Node → List ℕ → Type 0
+AreNodes nodes ids = AllByRecursion (λ id. id < length nodes) ids
+
+pub all_pushed : (n : ℕ) (ids : List ℕ) (id : ℕ) → AllByRecursion (λ i. i < n) ids → id < n
+    → AllByRecursion (λ i. i < n) (ids ++ id ∷ [])
+all_pushed n [] id all less = (less, all)
+all_pushed n (i ∷ ids) id all less = (all.0, all_pushed n ids id all.1 less)
+
+pub all_popped : (n : ℕ) (ids : List ℕ) (id : ℕ) → AllByRecursion (λ i. i < n) (ids ++ id ∷ [])
+    → AllByRecursion (λ i. i < n) ids × (id < n)
+all_popped n [] id all = (search rules, all.0)
+all_popped n (i ∷ ids) id all =
+    let rest = all_popped n ids id all.1 in ((all.0, rest.0), rest.1)
+
+pub wider : (nodes more : List Node) (place : Option ℕ) → IsPlaceOf nodes place
+    → IsPlaceOf (nodes ++ more) place
+wider nodes more None h = h
+wider nodes more (Some id) h = rw length-append (omega arith)
 
 -- the nodes of one member, and then those of the members after it
 pub one_more : (nodes : List Node) (place : Option ℕ) (key : List ℕ) (d : Data) (ms : Members)

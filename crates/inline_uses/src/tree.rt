@@ -1,15 +1,21 @@
 //! A document's tree: nodes with short keys, of which no two under one node are equal.
 ghost use Rattle.std.specs.Prelude.{◌≡◌, ℕ, ◌<◌, ◌≤◌, ◌↔◌, List, [], ◌∷◌, ◌++◌, length, slice_get, Some, None, Err, IfOk, IfErr, OnOk, OnErr, IsTrue, ◌⊎◌, option_map};
 ghost use Rattle.std.specs.Str.{chars};
+ghost use Rattle.inlinable_string.specs.Text.{bytes_of, size};
 ghost use Rattle.inlinable_string.specs.Values.{inlinable_state};
 ghost use Rattle.inline_uses.specs.Tree.{node_at, IsPlaceOf, IsTree, Leads, joined};
 
-use inlinable_string::laws::{bytes_of_parts, splices_at_the_ends};
+use inlinable_string::laws::{bytes_of_parts, sizes_of_parts};
 use inlinable_string::{InlinableString, InlineStringN, StringExt, StringMake};
+use smallvec::SmallVec;
 use std::alloc::{AllocError, Global};
+use std::collections::BTreeMap;
 use std::marker::Model;
 
 mod json;
+
+/// How many objects may stand one in another in the JSON of a tree, the outermost among them.
+pub const LEVELS: usize = 128;
 
 /// A node: what it is under, which is a node by its number or the top, and its key there.
 #[derive(Drop)]
@@ -29,6 +35,8 @@ pub enum Fault {
     Taken,
     /// A JSON value is not an object, or one in it is not.
     NotObject,
+    /// Of the objects in JSON more than `LEVELS` stand one in another.
+    TooDeep,
     /// Memory was refused.
     NoMemory,
 }
@@ -48,18 +56,19 @@ impl From<AllocError> for Fault {
 #[derive(Drop)]
 pub struct Tree {
     nodes: Vec<Node>,
+    ids: BTreeMap<(Option<usize>, InlineStringN<16>), usize>,
 }
 
 impl Model for Tree {
     ghost use Rattle.std.specs.Prelude.{List};
     ghost use Rattle.inline_uses.specs.declared.tree.Node.{Node};
-    ghost use Rattle.inline_uses.specs.Tree.{IsTree};
+    ghost use Rattle.inline_uses.specs.Tree.{IsTree, AreFound};
 
     ghost Value = { List Node };
 
     ghost view = { λ s. s.nodes.items };
 
-    ghost invariant = { λ s. IsTree s.nodes.items };
+    ghost invariant = { λ s. IsTree s.nodes.items × AreFound s.nodes.items s.ids };
 }
 
 impl Tree {
@@ -69,6 +78,7 @@ impl Tree {
     {
         Tree {
             nodes: Vec::new(alloc),
+            ids: BTreeMap::new(alloc),
         }
     }
 
@@ -92,7 +102,11 @@ impl Tree {
         ensures { (id : ℕ) → (result ≡ Some id)
             ↔ (slice_get self.now id ≡ Some (node_at place (chars key.now))) }
     {
-        self.nodes.iter().position(|node| is_at(node, place, key))
+        bytes_of_parts();
+        sizes_of_parts();
+        let ids = &self.ids;
+        let key: InlineStringN<16> = key.parse().ok()?;
+        ids.get(&(place, key)).copied()
     }
 
     /// Adds a node with this key under a place, after the others, and returns its number. A fault
@@ -110,7 +124,10 @@ impl Tree {
             ↔ ((length key.now ≤ 16) × IsPlaceOf self.old place
             × ((id : ℕ) × (slice_get self.old id ≡ Some (node_at place (chars key.now))))) }
         ensures object { ¬ (result ≡ Err Fault.NotObject) }
+        ensures depth { ¬ (result ≡ Err Fault.TooDeep) }
     {
+        bytes_of_parts();
+        sizes_of_parts();
         let Ok(short) = key.parse() else {
             return Err(Fault::LongKey);
         };
@@ -127,13 +144,22 @@ impl Tree {
     fn put(&mut self, parent: Option<usize>, key: InlineStringN<16>) -> Result<usize, AllocError>
         requires place { IsPlaceOf self.old parent }
         requires none { (id : ℕ) → ¬ (slice_get self.old id ≡ Some (node_at parent key)) }
+        requires text { chars (bytes_of key) ≡ key }
+        requires short { size key ≤ 16 }
         ensures id { IfOk result (λ id. id ≡ length self.old) }
         ensures ok { OnOk result (self.new ≡ self.old ++ node_at parent key ∷ []) }
         ensures err { OnErr result (self.new ≡ self.old) }
     {
+        let copy = key.clone()?;
         let id = self.nodes.len();
-        self.nodes.push(Node { parent, key })?;
-        Ok(id)
+        self.nodes.push(Node { parent, key: copy })?;
+        match self.ids.insert((parent, key), id) {
+            Ok(_) => Ok(id),
+            Err(_) => {
+                let _ = self.nodes.pop();
+                Err(AllocError)
+            }
+        }
     }
 
     /// Whether there is this place.
@@ -153,26 +179,22 @@ impl Tree {
         ensures no_node { (result ≡ Err Fault.NoNode) ↔ (length self.now ≤ id) }
         ensures fault { IfErr result (λ fault. (fault ≡ Fault.NoNode) ⊎ (fault ≡ Fault.NoMemory)) }
     {
-        splices_at_the_ends();
         if self.nodes.len() <= id {
             return Err(Fault::NoNode);
         }
-        let mut path = InlinableString::new(alloc);
+        let mut ids: SmallVec<usize, 30> = SmallVec::new(alloc);
         let mut place = Some(id);
         'up: while let Some(at) = place {
-            let node = &self.nodes[at];
-            path.insert_str(0, node.key.as_str())?;
-            path.insert(0, '/')?;
-            place = node.parent;
+            if ids.push(at).is_err() {
+                return Err(Fault::NoMemory);
+            }
+            place = self.nodes[at].parent;
+        }
+        let mut path = InlinableString::new(alloc);
+        'down: while let Some(at) = ids.pop() {
+            path.push('/')?;
+            path.push_str(self.nodes[at].key.as_str())?;
         }
         Ok(path)
     }
-}
-
-/// Whether a node is the one with this key under a place.
-fn is_at(node: &Node, place: Option<usize>, key: &str) -> bool
-    ensures { IsTrue result ↔ (node.now ≡ node_at place (chars key.now)) }
-{
-    bytes_of_parts();
-    node.parent == place && node.key.as_str() == key
 }

@@ -1,8 +1,8 @@
 //! Trees, and the JSON of trees.
-use crate::tree::{Fault, Tree};
+use crate::tree::{Fault, LEVELS, Tree};
 use inlinable_string::StringExt;
-use serde_json::Value;
-use std::alloc::Global;
+use serde_json::{Map, Value};
+use std::alloc::{AllocError, Global};
 use std::test::Fail;
 use test_support::{Hoard, NEEDS_THE_PROVED_BUILD};
 
@@ -93,6 +93,7 @@ fn nodes_have_paths_and_are_found_by_their_keys(rt: HostRuntime) {
     assert!(rt; tree.len() == BOOK.len());
     assert!(rt; tree.child(Some(1), "title").is_none());
     assert!(rt; tree.child(Some(BOOK.len()), "title").is_none());
+    assert!(rt; tree.child(None, "seventeen bytes a").is_none());
     assert!(rt; tree.node(BOOK.len()).is_none());
     let is_no_node = matches!(tree.path(rt.alloc(), BOOK.len()), Err(Fault::NoNode));
     assert!(rt; is_no_node);
@@ -169,8 +170,9 @@ fn trees_go_through_json_and_come_back(rt: HostRuntime) -> Result<(), Fail> {
         for (id, path) in paths.iter().enumerate() {
             assert!(rt; has_path(&tree, alloc, id, path));
         }
-        assert!(rt; tree.to_json(alloc)? == value);
-        assert!(rt; tree.to_json(alloc)?.to_string(alloc)?.as_str() == *text);
+        let shown = tree.to_json(alloc).map_err(|_| "refused")?;
+        assert!(rt; shown == value);
+        assert!(rt; shown.to_string(alloc)?.as_str() == *text);
     }
     Ok(())
 }
@@ -190,6 +192,93 @@ fn only_objects_in_objects_are_trees(rt: HostRuntime) -> Result<(), Fail> {
     for (text, fault) in NO_TREES {
         let value = Value::from_str(rt.alloc(), text)?;
         assert!(rt; Tree::from_json(rt.alloc(), &value).is_err_and(|found| found == *fault));
+    }
+    Ok(())
+}
+
+/// So many JSON objects, each the member `a` of the one around it.
+fn nested(alloc: Global, levels: usize) -> Result<Value, AllocError> {
+    let mut value = Value::Object(Map::new(alloc));
+    for _ in 1..levels {
+        let mut outer = Map::new(alloc);
+        drop(outer.insert(String::from_str(alloc, "a")?, value)?);
+        value = Value::Object(outer);
+    }
+    Ok(value)
+}
+
+/// Takes objects apart from the outermost in, since std drops a value by recursion; counts them.
+fn take_apart(value: Value, most: usize) -> usize {
+    let mut value = value;
+    for levels in 1..most {
+        let Value::Object(mut members) = value else {
+            return 0;
+        };
+        match members.remove("a") {
+            Some(inner) => value = inner,
+            None => return levels,
+        }
+    }
+    most
+}
+
+/// Nodes with the key `a`, each under the one before it.
+fn chain(alloc: Global, nodes: usize) -> Result<Tree, Fault> {
+    let mut tree = Tree::new(alloc);
+    let mut place = None;
+    for _ in 0..nodes {
+        place = Some(tree.add(place, "a")?);
+    }
+    Ok(tree)
+}
+
+#[test]
+fn only_so_many_levels_are_read_and_written(rt: HostRuntime) -> Result<(), Fail> {
+    let alloc = rt.alloc();
+    assert_eq!(rt; LEVELS, 128);
+    let value = nested(alloc, 128)?;
+    let tree = Tree::from_json(alloc, &value).map_err(|_| "refused")?;
+    assert_eq!(rt; tree.len(), 127);
+    assert!(rt; tree.to_json(alloc).is_ok_and(|shown| shown == value));
+    for levels in [129, 30_000] {
+        let value = nested(alloc, levels)?;
+        assert!(rt; Tree::from_json(alloc, &value).is_err_and(|fault| fault == Fault::TooDeep));
+        assert_eq!(rt; take_apart(value, usize::MAX), levels);
+        let tree = chain(alloc, levels - 1).map_err(|_| "refused")?;
+        assert!(rt;
+            tree.to_json(alloc)
+                .is_err_and(|fault| fault == Fault::TooDeep)
+        );
+        let path = tree.path(alloc, levels - 2).map_err(|_| "refused")?;
+        assert_eq!(rt; path.len(), 2 * (levels - 1));
+    }
+    Ok(())
+}
+
+/// A JSON object of so many members, each an empty object.
+fn flat(alloc: Global, members: usize) -> Result<Value, Fail> {
+    let mut value = Map::new(alloc);
+    for i in 0..members {
+        let key = format!(in alloc; "key {i}")?;
+        drop(value.insert(key, Value::Object(Map::new(alloc)))?);
+    }
+    Ok(Value::Object(value))
+}
+
+#[test]
+fn a_flat_object_of_many_keys_is_read_and_written(rt: HostRuntime) -> Result<(), Fail> {
+    let alloc = rt.alloc();
+    let value = flat(alloc, 32_000)?;
+    let mut tree = Tree::from_json(alloc, &value).map_err(|_| "refused")?;
+    assert_eq!(rt; tree.len(), 32_000);
+    for i in 0..32 {
+        let key = format!(in alloc; "key {}", 1_000 * i)?;
+        let id = tree.child(None, key.as_str()).ok_or("not found")?;
+        assert!(rt;
+            tree.node(id)
+                .is_some_and(|node| node.key.as_str() == key.as_str())
+        );
+        assert!(rt; tree.add(None, key.as_str()) == Err(Fault::Taken));
     }
     Ok(())
 }

@@ -1,55 +1,72 @@
 //! Trees as JSON: each node is an object, and those under it are its members.
-ghost use Rattle.std.specs.Prelude.{◌≡◌, ◌++◌, length, None, Err, IfOk, OnOk, IsSome};
+ghost use Rattle.std.specs.Prelude.{◌≡◌, ℕ, suc, ◌++◌, ◌≤◌, List, length, None, Err, IfOk, IfErr, OnOk, IsSome, ◌⊎◌};
 ghost use Rattle.serde_json.specs.Find.{as_object};
 ghost use Rattle.serde_json.specs.View.{view};
-ghost use Rattle.inline_uses.specs.Tree.{IsPlaceOf, IsShown, listed};
+ghost use Rattle.inline_uses.specs.Tree.{IsPlaceOf, IsShown, Leads, listed, IsReadable, IsFaultOf};
 
-use crate::tree::{Fault, Tree};
+use crate::tree::{Fault, LEVELS, Tree};
 use inlinable_string::laws::bytes_of_parts;
 use serde_json::{Map, Value};
-use std::alloc::{AllocError, Global};
+use std::alloc::Global;
 
 impl Tree {
-    /// The tree of a JSON object, whose members are objects in their turn.
+    /// Makes the tree of a JSON object, whose members are objects in their turn, at most `LEVELS`
+    /// one in another. Fails with a fault that the value has, or if an allocation fails.
     pub fn from_json(alloc: Global, value: &Value) -> Result<Tree, Fault>
         ensures ok { IfOk result (λ tree. tree ≡ listed 0 None (view value.now)) }
+        ensures readable { OnOk result (IsReadable 128 (view value.now)) }
+        ensures fault { IfErr result (λ fault. IsFaultOf 128 (view value.now) fault) }
         ensures not_object { as_object (view value.now) ≡ None → result ≡ Err Fault.NotObject }
     {
         let mut tree = Tree::new(alloc);
-        tree.add_json(None, value)?;
+        tree.add_json(None, value, LEVELS)?;
         Ok(tree)
     }
 
     /// Puts the members of a JSON object under a place, each with those of its own.
-    fn add_json(&mut self, place: Option<usize>, value: &Value) -> Result<(), Fault>
+    fn add_json(&mut self, place: Option<usize>, value: &Value, levels: usize) -> Result<(), Fault>
+        requires { IsPlaceOf self.old place }
         ensures ok { OnOk result (self.new
             ≡ self.old ++ listed (length self.old) place (view value.now)) }
+        ensures readable { OnOk result (IsReadable levels (view value.now)) }
+        ensures fault { IfErr result (λ fault. IsFaultOf levels (view value.now) fault) }
         ensures not_object { as_object (view value.now) ≡ None → result ≡ Err Fault.NotObject }
     {
         let Value::Object(members) = value else {
             return Err(Fault::NotObject);
         };
+        if levels == 0 {
+            return Err(Fault::TooDeep);
+        }
         for (key, member) in members.iter() {
             let id = self.add(place, key.as_str())?;
-            self.add_json(Some(id), member)?;
+            self.add_json(Some(id), member, levels - 1)?;
         }
         Ok(())
     }
 
-    /// The JSON object of the tree, whose members are objects in their turn: keys lead somewhere
-    /// in it exactly where they lead to a node.
-    pub fn to_json(&self, alloc: Global) -> Result<Value, AllocError>
-        ensures object { IfOk result (λ value. IsSome (as_object (view value))) }
+    /// Returns the JSON object of the tree, whose members are objects in their turn: keys lead
+    /// somewhere in it exactly where they lead to a node, and `from_json` reads it. Fails with
+    /// `TooDeep` if a node is under `LEVELS - 1` others or more, one in another, or with
+    /// `NoMemory`.
+    pub fn to_json(&self, alloc: Global) -> Result<Value, Fault>
+        ensures readable { IfOk result (λ value. IsReadable 128 (view value)) }
         ensures shown { IfOk result (λ value. IsShown self.now None (view value)) }
+        ensures fault { IfErr result (λ fault. (fault ≡ Fault.NoMemory) ⊎ ((fault ≡ Fault.TooDeep)
+            × ((keys : List (List ℕ)) × (to : ℕ) × Leads self.now None keys to
+            × (128 ≤ length keys)))) }
     {
-        self.object(alloc, None)
+        self.object(alloc, None, LEVELS - 1)
     }
 
-    /// The object of a place.
-    fn object(&self, alloc: Global, place: Option<usize>) -> Result<Value, AllocError>
+    /// The object of a place, in which `below` more stand one in another at most.
+    fn object(&self, alloc: Global, place: Option<usize>, below: usize) -> Result<Value, Fault>
         requires { IsPlaceOf self.now place }
-        ensures object { IfOk result (λ value. IsSome (as_object (view value))) }
+        ensures readable { IfOk result (λ value. IsReadable (suc below) (view value)) }
         ensures shown { IfOk result (λ value. IsShown self.now place (view value)) }
+        ensures fault { IfErr result (λ fault. (fault ≡ Fault.NoMemory) ⊎ ((fault ≡ Fault.TooDeep)
+            × ((keys : List (List ℕ)) × (to : ℕ) × Leads self.now place keys to
+            × (suc below ≤ length keys)))) }
     {
         bytes_of_parts();
         let count = self.nodes.len();
@@ -63,9 +80,14 @@ impl Tree {
             if node.parent != place {
                 continue;
             }
+            if below == 0 {
+                return Err(Fault::TooDeep);
+            }
             let key = String::from_str(alloc, node.key.as_str())?;
-            let value = self.object(alloc, Some(id))?;
-            drop(members.insert(key, value)?);
+            let value = self.object(alloc, Some(id), below - 1)?;
+            let Ok(_) = members.insert(key, value) else {
+                return Err(Fault::NoMemory);
+            };
         }
         Ok(Value::Object(members))
     }

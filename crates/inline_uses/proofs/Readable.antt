@@ -1,0 +1,107 @@
+-- JSON values from which trees can be read, member by member.
+use Rattle.std.proofs.Common.{◌≡◌, ◌↔◌, ◌<◌, ◌≤◌, ◌-◌, ℕ, suc, List, length, Ordering, Less, Equal, Greater, refl, arith, rules}
+use Rattle.std.specs.Ordering.{match_ordering}
+use Rattle.serde_json.specs.Data.{Data, object, Members, no_members, member, put, depth, members_depth}
+use Rattle.inline_uses.specs.Tree.{IsNested, AreNested, HasShortKeys, HaveShortKeys, IsReadable, IsFaultOf}
+use Rattle.inline_uses.specs.declared.tree.Fault.{Fault}
+use Rattle.inline_uses.specs.declared.tree.Fault.TheVariants.{LongKey, NoNode, Taken, NotObject, TooDeep, NoMemory}
+
+-- whether the members that are left can be read decides whether the value can
+abbrev pub Decide : ℕ → Data → Members → Type 0
+Decide levels d left = (AreNested left ↔ IsNested d) × (HaveShortKeys left ↔ HasShortKeys d)
+    × ((members_depth left < levels) ↔ (depth d ≤ levels))
+
+pub all_decide : (levels : ℕ) (ms : Members) → Decide levels (object ms) ms
+all_decide levels ms =
+    (((λ h. h), λ h. h), ((λ h. h), λ h. h), ((λ h. omega arith), λ h. omega arith))
+
+pub none_left : (levels : ℕ) (d : Data) → Decide levels d no_members → 0 < levels
+    → IsReadable levels d
+none_left levels d (nested, short, deep) some =
+    (nested.0 (search rules), short.0 (search rules), deep.0 some)
+
+pub one_read : (levels : ℕ) (d : Data) (k : List ℕ) (e : Data) (rest : Members)
+    → Decide levels d (member k e rest) → length k ≤ 16 → IsReadable (levels - 1) e → 0 < levels
+    → Decide levels d rest
+one_read levels d k e rest (nested, short, deep) key (is_nested, has_short, shallow) some = (
+  ((λ h. nested.0 (is_nested, h)), λ h. (nested.1 h).1),
+  ((λ h. short.0 (key, has_short, h)), λ h. let (_, _, last) = short.1 h in last),
+  ((λ h. deep.0 (omega arith)), λ h. let less = deep.1 h in omega arith),
+)
+
+pub one_long : (levels : ℕ) (d : Data) (k : List ℕ) (e : Data) (rest : Members)
+    → Decide levels d (member k e rest) → 16 < length k → ¬ (HasShortKeys d)
+one_long levels d k e rest (nested, short, deep) long =
+    λ h. let (first, _, _) = short.1 h in absurd (omega (arith, long, first))
+
+pub not_added : (levels : ℕ) (d : Data) (k : List ℕ) (e : Data) (rest : Members) (f : Fault)
+    → Decide levels d (member k e rest) → (f ≡ LongKey → 16 < length k) → ¬ (f ≡ NoNode)
+    → ¬ (f ≡ NotObject) → ¬ (f ≡ TooDeep) → IsFaultOf levels d f
+not_added levels d k e rest LongKey decide long node nested deep =
+    one_long levels d k e rest decide (long refl)
+not_added levels d k e rest NoNode decide long node nested deep = node refl
+not_added levels d k e rest Taken decide long node nested deep = search rules
+not_added levels d k e rest NotObject decide long node nested deep = absurd (nested refl)
+not_added levels d k e rest TooDeep decide long node nested deep = absurd (deep refl)
+not_added levels d k e rest NoMemory decide long node nested deep = search rules
+
+pub one_faulty : (levels : ℕ) (d : Data) (k : List ℕ) (e : Data) (rest : Members) (f : Fault)
+    → Decide levels d (member k e rest) → 0 < levels → IsFaultOf (levels - 1) e f
+    → IsFaultOf levels d f
+one_faulty levels d k e rest LongKey (nested, short, deep) some fault =
+    λ h. let (_, has_short, _) = short.1 h in fault has_short
+one_faulty levels d k e rest NoNode decide some fault = fault
+one_faulty levels d k e rest Taken decide some fault = fault
+one_faulty levels d k e rest NotObject (nested, short, deep) some fault =
+    λ h. fault (nested.1 h).0
+one_faulty levels d k e rest TooDeep (nested, short, deep) some fault =
+    by_contradiction_of (depth d) levels
+    (λ h. let less = deep.1 h in absurd (omega (arith, less, fault, some)))
+  where
+    by_contradiction_of : (x n : ℕ) → ¬ (x ≤ n) → n < x
+    by_contradiction_of x n above = omega (arith, above)
+one_faulty levels d k e rest NoMemory decide some fault = fault
+
+-- members that are put in keep what the others have
+any_order : (P : Members → Type 0) (o : Ordering) (a b c : Members) → P a → P b → P c
+    → P (match_ordering o a b c)
+any_order P Less a b c p q r = p
+any_order P Equal a b c p q r = q
+any_order P Greater a b c p q r = r
+
+nested_put : (k : List ℕ) (d : Data) (ms : Members) → IsNested d → AreNested ms
+    → AreNested (put k d ms)
+nested_put k d no_members h hs = (h, hs)
+nested_put k d (member l e ms) h hs =
+    any_order AreNested _ (member k d (member l e ms)) (member l d ms) (member l e (put k d ms))
+    (h, hs) (h, hs.1) (hs.0, nested_put k d ms h hs.1)
+
+short_put : (k : List ℕ) (d : Data) (ms : Members) → length k ≤ 16 → HasShortKeys d
+    → HaveShortKeys ms → HaveShortKeys (put k d ms)
+short_put k d no_members key h hs = (key, h, hs)
+short_put k d (member l e ms) key h (first, at, rest) =
+    any_order HaveShortKeys _ (member k d (member l e ms)) (member l d ms)
+    (member l e (put k d ms)) (key, h, (first, at, rest)) (first, h, rest)
+    (first, at, short_put k d ms key h rest)
+
+deep_put : (n : ℕ) (k : List ℕ) (d : Data) (ms : Members) → depth d ≤ n → members_depth ms ≤ n
+    → members_depth (put k d ms) ≤ n
+deep_put n k d no_members h hs = omega arith
+deep_put n k d (member l e ms) h hs =
+    any_order (λ ms. members_depth ms ≤ n) _ (member k d (member l e ms)) (member l d ms)
+    (member l e (put k d ms)) (omega arith) (omega arith)
+    (let rest = deep_put n k d ms h (omega arith) in omega (arith, rest))
+
+abbrev pub AreReadable : ℕ → Members → Type 0
+AreReadable n ms = AreNested ms × HaveShortKeys ms × (members_depth ms ≤ n)
+
+pub readable_put : (n : ℕ) (k : List ℕ) (d : Data) (ms : Members) → length k ≤ 16
+    → IsReadable n d → AreReadable n ms → AreReadable n (put k d ms)
+readable_put n k d ms key (nested, short, deep) (are_nested, have_short, are_deep) = (
+  nested_put k d ms nested are_nested,
+  short_put k d ms key short have_short,
+  deep_put n k d ms deep are_deep,
+)
+
+pub object_of : (n : ℕ) (ms : Members) → AreReadable n ms → IsReadable (suc n) (object ms)
+object_of n ms (nested, short, deep) = (nested, short, omega arith)

@@ -1,0 +1,31 @@
+use Rattle.std.proofs.Common.{rules, ◌≡◌, ◌≤◌, Some, None, length, sym, ap, arith, ◌∙◌}
+use Rattle.std.specs.Prelude.{◌<◌}
+use Rattle.std.specs.BTreeMap.{get}
+use Rattle.std.specs.Str.{chars}
+use Rattle.inlinable_string.specs.Text.{bytes_of, size}
+use Rattle.inline_uses.specs.Tree.{node_at, place_order}
+use Rattle.inline_uses.proofs.tree.Tree.child.Goals as goal
+
+pub returns-in_err-key : goal.returns-in_err-key
+returns-in_err-key c =
+    let key = c.args.key.now in
+    let long : 16 < length key = search rules in
+    let bytes : size (chars key) ≡ length key
+    = c.sizes_of_parts.ensures.string key c.utf8.key in
+    let none : c.from_residual.result ≡ None = search rules in
+    rw (← c.self.view_is) (λ id. (
+      (λ h. let e : None ≡ Some id = sym none ∙ h in cc),
+      λ is. let short : size (chars key) ≤ 16
+          = c.self.invariant.0.short id (node_at c.args.place (chars key)) is in
+          absurd (omega (arith, long, bytes, short)),
+    ))
+
+pub returns : goal.returns
+returns c =
+    let text : chars (bytes_of (chars c.args.key.now)) ≡ chars c.args.key.now
+    = ap chars (c.bytes_of_parts.ensures.string c.args.key.now c.utf8.key) in
+    let key : c.in_ok-key.key ≡ chars c.args.key.now = search rules in
+    let is : get place_order c.self.inside.ids (c.args.place, chars c.args.key.now)
+    ≡ c.copied.result = rw (← key) (search rules) in
+    rw (← c.self.view_is, ← is) (λ id.
+    c.self.invariant.1 c.args.place (chars c.args.key.now) id text)

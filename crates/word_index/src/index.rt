@@ -1,0 +1,99 @@
+//! The words of a text: how often each is used, and where first.
+ghost use Rattle.std.specs.Prelude.{◌≡◌, List, [], ℕ, map, IfOk, OnOk, OnErr};
+ghost use Rattle.std.specs.List.Sorted.{IsPermutation};
+ghost use Rattle.word_index.specs.Index.{use_of, with_use, used, with_words, shown, AreWords};
+
+use inlinable_string::laws::bytes_of_parts;
+use inlinable_string::{InlinableString, StringMake};
+use std::alloc::{AllocError, Global};
+use std::cmp::Reverse;
+use std::collections::BTreeMap;
+use std::marker::Model;
+
+/// How often a word is used, and the number of the line of its first use.
+#[derive(Clone, Copy, Debug, PartialEq, Eq)]
+pub struct Uses {
+    pub count: usize,
+    pub line: usize,
+}
+
+/// The words of a text with their uses. A contract sees the list of them, each word as its bytes,
+/// in the order of the words.
+#[derive(Drop)]
+pub struct Index {
+    alloc: Global,
+    uses: BTreeMap<InlinableString, Uses>,
+}
+
+impl Model for Index {
+    ghost use Rattle.word_index.specs.Index.{Entries, entries_of};
+
+    ghost Value = { Entries };
+
+    ghost view = { entries_of };
+}
+
+impl Index {
+    /// The index of no words.
+    pub fn new(alloc: Global) -> Self
+        ensures { result ≡ [] }
+    {
+        Index {
+            alloc,
+            uses: BTreeMap::new(alloc),
+        }
+    }
+
+    /// Counts each word of a line, and keeps the line's number for those that are new. If an
+    /// allocation fails, some words of the line are counted and others are not.
+    pub fn add_line(&mut self, line: &str, number: usize) -> Result<(), AllocError>
+        ensures { OnOk result ((words : List (List ℕ)) × AreWords line.now words
+            × (self.new ≡ with_words self.old words number)) }
+    {
+        for word in line.split_whitespace() {
+            self.add(word, number)?;
+        }
+        Ok(())
+    }
+
+    /// Counts one use of a word. If an allocation fails, nothing changes.
+    pub fn add(&mut self, word: &str, line: usize) -> Result<(), AllocError>
+        ensures ok { OnOk result
+            (self.new ≡ with_use self.old word.now (used (use_of self.old word.now) line)) }
+        ensures err { OnErr result (self.new ≡ self.old) }
+    {
+        bytes_of_parts();
+        let key = InlinableString::from(self.alloc, word)?;
+        let uses = used_again(self.uses.get(&key).copied(), line);
+        let Ok(_) = self.uses.insert(key, uses) else {
+            return Err(AllocError);
+        };
+        Ok(())
+    }
+
+    /// The words with their uses, the most frequent first; of those that are used equally often
+    /// the lesser first.
+    pub fn ranked(&self, alloc: Global) -> Result<Vec<(&InlinableString, Uses)>, AllocError>
+        ensures { IfOk result (λ ranked. IsPermutation self.now (map shown ranked.items)) }
+    {
+        let mut ranked = Vec::new(alloc);
+        for (word, uses) in self.uses.iter() {
+            ranked.push((word, *uses))?;
+        }
+        ranked.sort_by_key(|entry: &(&InlinableString, Uses)| Reverse(entry.1.count))?;
+        Ok(ranked)
+    }
+}
+
+/// The uses of a word with one more, on this line.
+fn used_again(uses: Option<Uses>, line: usize) -> Uses
+    ensures { result ≡ used uses line }
+{
+    match uses {
+        Some(uses) => Uses {
+            count: uses.count.saturating_add(1),
+            line: uses.line,
+        },
+        None => Uses { count: 1, line },
+    }
+}
