@@ -7,9 +7,9 @@ returns-then-bits-eq-NO_TEXT c = (
   (λ false_is. absurd (false≢true false_is)),
   (λ text. absurd
       (no_text _ _ _
-          (read_block _ _ _ _ _ _ c.loop-rest.invariant c.split_at.ensures.by_index.0
-              c.read-bits.ensures)
-          c.if-bits-eq-NO_TEXT.true text)),
+      (read_block _ _ _ _ _ _ c.loop-rest.invariant c.split_at.ensures.by_index.0
+      c.read-bits.ensures)
+      c.if-bits-eq-NO_TEXT.true text)),
 )
 
 pub loop-rest-preserved-else-bits-eq-NO_TEXT : goal.loop-rest-preserved-else-bits-eq-NO_TEXT
