@@ -110,7 +110,8 @@ pub(crate) fn string_from(bytes: Vec<u8>) -> Result<String, FromUtf8Error>
 }
 
 /// Returns the state after the bytes, from the one before them, each in the six low bits.
-#[inline(always)]
+// Out of line: else its loads go before the test of a block for ASCII, which is then done by bytes.
+#[inline(never)]
 fn read(bits: u64, bytes: &[u8]) -> u64
     requires { IsTrue (is_state (state_of bits)) }
     ensures { Leads (state_of bits) bytes.now (state_of result) }
