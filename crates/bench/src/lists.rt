@@ -7,12 +7,15 @@ use std::alloc::AllocError;
 
 /// The command of a record: a byte that says which, a place, the size of a text, and that text.
 fn command_of(record: &[u8]) -> Option<Command> {
-    let place = usize::from(*record.get(1)?);
     let size = usize::from(*record.get(2)?);
     let bytes = record.get(3..3 + size)?;
+    command(*record.first()?, usize::from(*record.get(1)?), bytes)
+}
+
+fn command(which: u8, place: usize, bytes: &[u8]) -> Option<Command> {
     let text = std::str::from_utf8(bytes).ok()?;
     let first = text.chars().next().unwrap_or('x');
-    match *record.first()? {
+    match which {
         0 => Some(Command::Push(first)),
         1 => Some(Command::PushStr(text)),
         2 => Some(Command::Insert(place, first)),
