@@ -55,7 +55,8 @@ both_tied Greater r e = cc
 same_key : (p q : Option ℕ) (k l : List ℕ) → chars (bytes_of k) ≡ k → chars (bytes_of l) ≡ l
     → Decides (is_eq (place_order (p, k) (q, l))) (node_at p k ≡ node_at q l)
 same_key p q k l text other = (
-  (λ e. let tied = both_tied (option_cmp nat_cmp p q) (slice_cmp nat_cmp (bytes_of k) (bytes_of l)) e in
+  (λ e. let tied = both_tied (option_cmp nat_cmp p q)
+      (slice_cmp nat_cmp (bytes_of k) (bytes_of l)) e in
       let bytes : bytes_of k ≡ bytes_of l = (bytes_decides (bytes_of k) (bytes_of l)).0
       (texts_ties (bytes_of k) (bytes_of l) ∙ ap is_eq tied.1) in
       let keys : k ≡ l = sym text ∙ ap chars bytes ∙ other in
@@ -63,6 +64,18 @@ same_key p q k l text other = (
   λ e. let places : q ≡ p = ap (λ (node : Node). node.parent) (sym e) in
       let keys : l ≡ k = ap (λ (node : Node). node.key) (sym e) in
       rw (places, keys, place_tied p, tied_itself nat_list_cmp_total (bytes_of k)) refl,
+)
+
+-- a node other than the one that is put in is found as before
+found_other : (nodes : List Node) (node other : Node) (old new : Option ℕ) (id : ℕ) → new ≡ old
+    → ¬ (node ≡ other) → (old ≡ Some id) ↔ (slice_get nodes id ≡ Some other)
+    → (new ≡ Some id) ↔ (slice_get (nodes ++ node ∷ []) id ≡ Some other)
+found_other nodes node other old new id is differs was = (
+  (λ h. before_push nodes other node id (was.0 (sym is ∙ h))),
+  λ h. elim (from_push nodes other node id h) [
+    | inl older ↦ is ∙ was.1 older
+    | inr newer ↦ absurd (differs newer.1)
+  ],
 )
 
 -- a node that is not there is found once it is put in
@@ -90,14 +103,10 @@ found nodes parent key old new n count none text was sets place k id is_text =
         | inr newer ↦ is ∙ ap Some (count ∙ sym newer.0)
       ],
     )
-    by_test false told is = (
-      (λ h. before_push nodes (node_at place k) (node_at parent key) id
-          ((was place k id is_text).0 (sym is ∙ h))),
-      λ h. elim (from_push nodes (node_at place k) (node_at parent key) id h) [
-        | inl older ↦ is ∙ (was place k id is_text).1 older
-        | inr newer ↦ let e : false ≡ true = told.1 newer.1 in cc
-      ],
-    )
+    by_test false told is =
+        found_other nodes (node_at parent key) (node_at place k)
+        (get place_order old (place, k)) (get place_order new (place, k)) id is
+        (λ e. let f : false ≡ true = told.1 e in cc) (was place k id is_text)
 
 -- the keys from a place down, with the key of the node at the place before them
 pub above : (nodes : List Node) (at id : ℕ) (node : Node) (keys : List (List ℕ)) → IsTree nodes

@@ -50,7 +50,8 @@ place_order x y =
 -- each node is found by its place and key, and no others are
 abbrev pub AreFound : List Node → BTreeMap (Option ℕ × List ℕ) ℕ → Type 0
 AreFound nodes ids = (place : Option ℕ) (key : List ℕ) (id : ℕ) → chars (bytes_of key) ≡ key
-    → (value_at place_order ids (place, key) ≡ Some id) ↔ (slice_get nodes id ≡ Some (node_at place key))
+    → (value_at place_order ids (place, key) ≡ Some id)
+    ↔ (slice_get nodes id ≡ Some (node_at place key))
 
 -- the nodes of a JSON object under a place, where the first of them gets the number n: one for each
 -- member, in their order, each before those of the member's own value
@@ -69,6 +70,11 @@ abbrev mutual
       node_at place (chars key) ∷ listed (suc n) (Some n) d
       ++ listed_members (suc n + length (listed (suc n) (Some n) d)) place ms
 
+-- what the keys lead to in a JSON value
+abbrev pub walk : Data → List (List ℕ) → Option Data
+walk d [] = Some d
+walk d (key ∷ keys) = option_and_then (λ e. walk e keys) (get key d)
+
 -- a JSON value is an object, and so is each value in it
 abbrev mutual
   pub IsNested : Data → Type 0
@@ -82,6 +88,12 @@ abbrev mutual
   pub AreNested : Members → Type 0
   AreNested no_members = ⊤
   AreNested (member key d ms) = IsNested d × AreNested ms
+
+-- keys lead somewhere in the JSON value exactly where they lead to a node from the place
+abbrev pub IsShown : List Node → Option ℕ → Data → Type 0
+IsShown nodes place d =
+    (key : List ℕ) (keys : List (List ℕ)) → IsUtf8 key → AllByRecursion IsUtf8 keys
+    → IsSome (walk d (key ∷ keys)) ↔ ((to : ℕ) × Leads nodes place (map chars (key ∷ keys)) to)
 
 -- the keys of a JSON object, and of the objects in it, have at most 16 bytes
 abbrev mutual
@@ -109,14 +121,3 @@ IsFaultOf levels d Taken = ⊤
 IsFaultOf levels d NotObject = ¬ (IsNested d)
 IsFaultOf levels d TooDeep = levels < depth d
 IsFaultOf levels d NoMemory = ⊤
-
--- what the keys lead to in a JSON value
-abbrev pub walk : Data → List (List ℕ) → Option Data
-walk d [] = Some d
-walk d (key ∷ keys) = option_and_then (λ e. walk e keys) (get key d)
-
--- keys lead somewhere in the JSON value exactly where they lead to a node from the place
-abbrev pub IsShown : List Node → Option ℕ → Data → Type 0
-IsShown nodes place d =
-    (key : List ℕ) (keys : List (List ℕ)) → IsUtf8 key → AllByRecursion IsUtf8 keys
-    → IsSome (walk d (key ∷ keys)) ↔ ((to : ℕ) × Leads nodes place (map chars (key ∷ keys)) to)

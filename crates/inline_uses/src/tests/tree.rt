@@ -232,6 +232,13 @@ fn chain(alloc: Global, nodes: usize) -> Result<Tree, Fault> {
     Ok(tree)
 }
 
+/// Levels of JSON that are too many, how many nodes have so many, the number of the last of them,
+/// and how many bytes its path has.
+const TOO_DEEP: &[(usize, usize, usize, usize)] = &[
+    (129, 128, 127, 256),
+    (30_000, 29_999, 29_998, 59_998),
+];
+
 #[test]
 fn only_so_many_levels_are_read_and_written(rt: HostRuntime) -> Result<(), Fail> {
     let alloc = rt.alloc();
@@ -240,17 +247,17 @@ fn only_so_many_levels_are_read_and_written(rt: HostRuntime) -> Result<(), Fail>
     let tree = Tree::from_json(alloc, &value).map_err(|_| "refused")?;
     assert_eq!(rt; tree.len(), 127);
     assert!(rt; tree.to_json(alloc).is_ok_and(|shown| shown == value));
-    for levels in [129, 30_000] {
-        let value = nested(alloc, levels)?;
+    for (levels, nodes, last, bytes) in TOO_DEEP {
+        let value = nested(alloc, *levels)?;
         assert!(rt; Tree::from_json(alloc, &value).is_err_and(|fault| fault == Fault::TooDeep));
-        assert_eq!(rt; take_apart(value, usize::MAX), levels);
-        let tree = chain(alloc, levels - 1).map_err(|_| "refused")?;
+        assert_eq!(rt; take_apart(value, usize::MAX), *levels);
+        let tree = chain(alloc, *nodes).map_err(|_| "refused")?;
         assert!(rt;
             tree.to_json(alloc)
                 .is_err_and(|fault| fault == Fault::TooDeep)
         );
-        let path = tree.path(alloc, levels - 2).map_err(|_| "refused")?;
-        assert_eq!(rt; path.len(), 2 * (levels - 1));
+        let path = tree.path(alloc, *last).map_err(|_| "refused")?;
+        assert_eq!(rt; path.len(), *bytes);
     }
     Ok(())
 }

@@ -52,7 +52,8 @@ down-preserved c =
     let before : old ++ joined (node.key ∷ left) ≡ joined keys
     = rw (popped, with_keys-push, key) at text in
     let written : (inlinable_state 30 c.push_str.new.self).text ≡ (old ++ 47 ∷ []) ++ node.key
-    = c.in_ok-push_str.ensures.text ∙ rw (c.in_ok-push.ensures.text, c.as_str.ensures.text) refl in (
+    = c.in_ok-push_str.ensures.text
+    ∙ rw (c.in_ok-push.ensures.text, c.as_str.ensures.text) refl in (
       all.0,
       (
         keys,

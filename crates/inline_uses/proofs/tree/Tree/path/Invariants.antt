@@ -7,7 +7,8 @@ use Rattle.inline_uses.proofs.tree.Tree.path.Given as goal
 abbrev pub invariant-up : goal.invariant-up
 invariant-up l = IsPlaceOf l.self-inside.nodes.items l.place
     × AreNodes l.self-inside.nodes.items l.ids.items
-    × Leads l.self-inside.nodes.items l.place (with_keys l.self-inside.nodes.items [] l.ids.items) l.id
+    × Leads l.self-inside.nodes.items l.place
+    (with_keys l.self-inside.nodes.items [] l.ids.items) l.id
 
 abbrev pub decreases-up : goal.decreases-up
 decreases-up l = unwrap_or (option_map suc l.place) 0
