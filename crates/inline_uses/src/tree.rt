@@ -7,7 +7,6 @@ ghost use Rattle.inline_uses.specs.Tree.{node_at, IsPlaceOf, IsTree, Leads, join
 
 use inlinable_string::laws::{bytes_of_parts, sizes_of_parts};
 use inlinable_string::{InlinableString, InlineStringN, StringExt, StringMake};
-use smallvec::SmallVec;
 use std::alloc::{AllocError, Global};
 use std::collections::BTreeMap;
 use std::marker::Model;
@@ -182,12 +181,10 @@ impl Tree {
         if self.nodes.len() <= id {
             return Err(Fault::NoNode);
         }
-        let mut ids: SmallVec<usize, 30> = SmallVec::new(alloc);
+        let mut ids = Vec::new(alloc);
         let mut place = Some(id);
         'up: while let Some(at) = place {
-            if ids.push(at).is_err() {
-                return Err(Fault::NoMemory);
-            }
+            ids.push(at)?;
             place = self.nodes[at].parent;
         }
         let mut path = InlinableString::new(alloc);

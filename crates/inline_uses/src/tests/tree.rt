@@ -99,14 +99,14 @@ fn nodes_have_paths_and_are_found_by_their_keys(rt: HostRuntime) {
     assert!(rt; is_no_node);
 }
 
-/// Keys of nodes, one under the other: the path of the second has 14 bytes, that of the third 31.
+/// Keys of nodes, one under the other.
 const DEEP: &[&str] = &["book", "chapters", "a deeper chapter"];
 
-/// Adds nodes, each under the one before it; the numbers of the last two.
-fn add_deep(tree: &mut Tree) -> Result<(usize, usize), Fault> {
+/// Adds nodes, each under the one before it; the number of the last.
+fn add_deep(tree: &mut Tree) -> Result<usize, Fault> {
     let book = tree.add(None, DEEP[0])?;
     let chapters = tree.add(Some(book), DEEP[1])?;
-    Ok((chapters, tree.add(Some(chapters), DEEP[2])?))
+    tree.add(Some(chapters), DEEP[2])
 }
 
 /// Adds nodes under this one, each under the one before it, up to the first that is refused: the
@@ -125,19 +125,16 @@ fn add_until_refused(tree: &mut Tree, node: usize) -> (usize, Option<Fault>) {
 #[test]
 fn without_memory_a_tree_stays_as_it_is(rt: HostRuntime) -> Result<(), Fail> {
     let mut tree = Tree::new(rt.alloc());
-    let (chapters, deep) = add_deep(&mut tree).map_err(|_| "refused")?;
+    let deep = add_deep(&mut tree).map_err(|_| "refused")?;
     let hoard = Hoard::take(rt.alloc()).expect(&rt, NEEDS_THE_PROVED_BUILD);
     let (last, refused) = add_until_refused(&mut tree, deep);
-    let short = tree.path(rt.alloc(), chapters);
-    let long = tree.path(rt.alloc(), deep);
+    let path = tree.path(rt.alloc(), deep);
     drop(hoard);
     assert!(rt; refused == Some(Fault::NoMemory));
     assert!(rt; tree.child(Some(last), "next").is_none());
     let next = tree.len();
     assert!(rt; tree.add(Some(last), "next") == Ok(next));
-    // A path of at most 30 bytes takes no memory.
-    assert!(rt; short.is_ok_and(|path| path.as_str() == "/book/chapters"));
-    assert!(rt; long.is_err_and(|fault| fault == Fault::NoMemory));
+    assert!(rt; path.is_err_and(|fault| fault == Fault::NoMemory));
     Ok(())
 }
 
