@@ -184,7 +184,9 @@ impl Tree {
         let mut ids = Vec::new(alloc);
         let mut place = Some(id);
         'up: while let Some(at) = place {
-            ids.push(at)?;
+            if ids.push(at).is_err() {
+                return Err(Fault::NoMemory);
+            }
             place = self.nodes[at].parent;
         }
         let mut path = InlinableString::new(alloc);
