@@ -72,8 +72,8 @@ impl Symbols {
         Some(text.as_str())
     }
 
-    /// Returns the id of a text, which gets the next one if it has none. Cannot fail if the text has
-    /// one, whatever its length; after a failure the table is unchanged.
+    /// Returns the id of a text, which gets the next one if it has none. Cannot fail if the text
+    /// has one, whatever its length; after a failure the table is unchanged.
     pub fn intern(&mut self, text: &str) -> Result<usize, AllocError>
         ensures id { IfOk result (λ id. slice_get self.new id ≡ Some text.now) }
         ensures known { (id : ℕ) → slice_get self.old id ≡ Some text.now
