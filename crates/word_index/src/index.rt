@@ -1,12 +1,11 @@
 //! The words of a text: how often each is used, and where first.
-ghost use Rattle.std.specs.Prelude.{◌≡◌, List, [], ℕ, map, IfOk, OnOk, OnErr};
-ghost use Rattle.std.specs.List.Sorted.{IsPermutation};
+ghost use Rattle.std.specs.Prelude.{◌≡◌, ◌-◌, ◌^◌, List, [], ℕ, map, IfOk, OnOk, OnErr};
+ghost use Rattle.std.specs.List.Sorted.{IsPermutation, IsNonDecreasingBy};
 ghost use Rattle.word_index.specs.Index.{use_of, with_use, used, with_words, shown, AreWords};
 
 use inlinable_string::laws::bytes_of_parts;
 use inlinable_string::{InlinableString, StringMake};
 use std::alloc::{AllocError, Global};
-use std::cmp::Reverse;
 use std::collections::BTreeMap;
 use std::marker::Model;
 
@@ -74,13 +73,15 @@ impl Index {
     /// The words with their uses, the most frequent first; of those that are used equally often
     /// the lesser first.
     pub fn ranked(&self, alloc: Global) -> Result<Vec<(&InlinableString, Uses)>, AllocError>
-        ensures { IfOk result (λ ranked. IsPermutation self.now (map shown ranked.items)) }
+        ensures words { IfOk result (λ ranked. IsPermutation self.now (map shown ranked.items)) }
+        ensures order { IfOk result (λ ranked.
+            IsNonDecreasingBy (λ e. 2 ^ 64 - 1 - e.1.count) ranked.items) }
     {
         let mut ranked = Vec::new(alloc);
         for (word, uses) in self.uses.iter() {
             ranked.push((word, *uses))?;
         }
-        ranked.sort_by_key(|entry: &(&InlinableString, Uses)| Reverse(entry.1.count))?;
+        ranked.sort_by_key(|entry: &(&InlinableString, Uses)| usize::MAX - entry.1.count)?;
         Ok(ranked)
     }
 }
