@@ -38,7 +38,8 @@ pub fn drop_oldest_of(line: &mut InlinableStringN<64>, n: usize)
 /// Puts stars in the place of a secret, if there is one from `from` to `to`.
 pub fn mask(text: &mut InlinableString, from: usize, to: usize) -> Result<bool, AllocError>
     ensures done { IfOk result (λ done. IsTrue done → IsRangeReplaced
-        (inlinable_state 30 text.old).text from to (codes "***") (inlinable_state 30 text.new).text) }
+        (inlinable_state 30 text.old).text from to (codes "***")
+        (inlinable_state 30 text.new).text) }
     ensures err { OnErr result
         (IsSameText (inlinable_state 30 text.old) (inlinable_state 30 text.new)) }
 {

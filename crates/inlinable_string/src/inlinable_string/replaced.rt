@@ -21,8 +21,8 @@ impl<const N: usize> InlinableStringN<N> {
     /// (`is_char_boundary`), the start not after the end.
     ///
     /// An inline text moves to the heap if the result has more than `N` bytes; a heap text stays
-    /// there. Cannot fail if the text is stored inline and the result fits there, or if the capacity
-    /// suffices for `replace_with` beside the whole text.
+    /// there. Cannot fail if the text is stored inline and the result fits there, or if the
+    /// capacity suffices for `replace_with` beside the whole text.
     pub fn replace_range(
         &mut self,
         range: Range<usize>,
