@@ -6,7 +6,8 @@ use Rattle.std.specs.List.Retain.{IsFiltered}
 -- the closure f was called at each character of t once, in order, and v has those at which it
 -- answered `true`
 abbrev pub IsRetained : {F : Type 0} → Mut F (ℕ × Unit {0}) Bool → F → List ℕ → List ℕ → Type 0
-IsRetained g f t v = IsFiltered (λ before c answer after. Called g before (c, tt) answer after) f t v
+IsRetained g f t v =
+    IsFiltered (λ before c answer after. Called g before (c, tt) answer after) f t v
 
 -- the closure f answers as the test does, and no call changes it
 abbrev pub Tests : {F : Type 0} → Mut F (ℕ × Unit {0}) Bool → F → (ℕ → Bool) → Type 0

@@ -50,6 +50,8 @@ mod player;
 #[cfg(test)]
 mod printed;
 #[cfg(test)]
+mod ranges;
+#[cfg(test)]
 mod replacements;
 #[cfg(test)]
 mod room;
