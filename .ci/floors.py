@@ -6,7 +6,7 @@ counts, with the reason.
 
 # Edits in `must-fail-together/` and in `must-fail/`, by crate: just as many.
 MUST_FAIL = {'inlinable_string': 16}
-EDITS = {'inlinable_string': 178, 'inline_model': 20, 'inline_uses': 27, 'script_language': 34}
+EDITS = {'inlinable_string': 213, 'inline_model': 20, 'inline_uses': 27, 'script_language': 34}
 
 # By crate: requests for memory refused one after the other, and how often a test met one.
 REFUSALS = {'inline_refusals': (7, 155)}
@@ -53,7 +53,7 @@ HOSTILE = {'accepted': 1_200, **dict.fromkeys((
 WRONG_DEFINITIONS = {'inlinable_string': 140, 'script_language': 90}
 
 # Edits in `wrong-clauses/`, and public functions of `callers` that promise something.
-WRONG_CLAUSES, CALLERS = 5, 112
+WRONG_CLAUSES, CALLERS = 5, 123
 
 # Lemmas, answers to goals and definitions, and paths and names in backticks that the documents cite.
 PROOFS, CITED = 1_300, 400
