@@ -9,12 +9,15 @@ use Rattle.inlinable_string.proofs.Text.{Holds, holds, bytes_are}
 past_ascii : (c k : ℕ) → 128 ≤ c → k < length (encode_utf8 c) → 128 ≤ get_or (encode_utf8 c) k 0
 past_ascii c k high within =
     ⊎_elim
-    (λ low. absurd (omega (arith, inside_one c [] _ k (sym (append-nil (encode_utf8 c))) within low)))
+    (λ low.
+    let one = inside_one c [] _ k (sym (append-nil (encode_utf8 c))) within low in
+    absurd (omega (arith, one)))
     (λ past. past)
     (cases_lt (get_or (encode_utf8 c) k 0) 128)
 
 -- f changes ASCII to ASCII, and nothing else
-module _ (f : ℕ → ℕ) (low : (b : ℕ) → b < 128 → f b < 128) (high : (b : ℕ) → 128 ≤ b → f b ≡ b) where
+module _ (f : ℕ → ℕ) (low : (b : ℕ) → b < 128 → f b < 128)
+    (high : (b : ℕ) → 128 ≤ b → f b ≡ b) where
   kept : (bs : List ℕ) → ((k : ℕ) → k < length bs → 128 ≤ get_or bs k 0) → map f bs ≡ bs
   kept [] past = refl
   kept (b ∷ bs) past =
@@ -33,7 +36,8 @@ module _ (f : ℕ → ℕ) (low : (b : ℕ) → b < 128 → f b < 128) (high : (
   utf8_char : (c : ℕ) → IsUtf8 (encode_utf8 c) → IsUtf8 (map f (encode_utf8 c))
   utf8_char c u =
       ⊎_elim
-      (λ h. rw (encode_ascii c h) (IsUtf8-from_ascii (f c ∷ []) (IsAscii-cons (f c) [] (low c h) IsAscii-nil)))
+      (λ h. rw (encode_ascii c h)
+      (IsUtf8-from_ascii (f c ∷ []) (IsAscii-cons (f c) [] (low c h) IsAscii-nil)))
       (λ h. rw (kept_char c h) u)
       (cases_lt c 128)
 

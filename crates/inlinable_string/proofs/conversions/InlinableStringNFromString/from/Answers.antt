@@ -6,4 +6,5 @@ pub returns : goal.returns
 returns g c =
     let made = c.from_string.ensures in
     let long = size-chars _ (IsUtf8-string_bytes c.args.string) in
-    (made.text, made.storage ∙ ap (storage_when_made (inlinable_policy g.row.N)) (sym long), made.room)
+    let storage = made.storage ∙ ap (storage_when_made (inlinable_policy g.row.N)) (sym long) in
+    (made.text, storage, made.room)
