@@ -226,4 +226,11 @@ module _ (v : List ℕ) (n m : ℕ) (e : n ≡ length v)
   pub some_unpaired : (0 < m) ↔ HasUnpaired v
   some_unpaired = (found, counted_one)
 
-pub ruleset counted_more = (common_steps, len_more, mismatches_more, unit_len_bound, mismatch_bound, before_next)
+pub ruleset counted_more = (
+  common_steps,
+  len_more,
+  mismatches_more,
+  unit_len_bound,
+  mismatch_bound,
+  before_next,
+)

@@ -67,7 +67,8 @@ module _ (texts : List (List ℕ)) (ids : List ℕ) (text : List ℕ) (at : ℕ)
 
     -- the new text is found under the next id, and the others under theirs
     found_anew : (q : List ℕ) (id : ℕ) (b : Bool) → eq_by_cmp key_order text q ≡ b
-        → (cond b (Some (length texts)) (lookup (is_at (key_order q)) (with_ids texts ids)) ≡ Some id)
+        → (cond b (Some (length texts)) (lookup (is_at (key_order q)) (with_ids texts ids)) ≡ Some
+        id)
         ↔ (slice_get (texts ++ text ∷ []) id ≡ Some q)
     found_anew q id true is =
         let same : text ≡ q = exact_bytes text q (equal (key_order text q) is) in (

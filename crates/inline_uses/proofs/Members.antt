@@ -81,7 +81,8 @@ tell es fs no_members = refl
 tell es fs (member key datum ms) = by (as_str datum)
     (λ value. tell (with_value es key value) (with_value fs key value) ms)
   where
-    by : (o : Option (List ℕ)) → ((value : List ℕ) → is_some (with_members (with_value es key value) ms)
+    by : (o : Option (List ℕ)) → ((value : List ℕ)
+        → is_some (with_members (with_value es key value) ms)
         ≡ is_some (with_members (with_value fs key value) ms))
         → is_some (option_and_then (λ value. with_members (with_value es key value) ms) o)
         ≡ is_some (option_and_then (λ value. with_members (with_value fs key value) ms) o)

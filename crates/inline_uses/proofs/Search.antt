@@ -49,7 +49,8 @@ module _ {X : Type 0} (f : X → List ℕ) (xs : List X) (key : List ℕ) where
       let rank = λ (k : ℕ). ordering_index (key_order (f (get_or xs k d)) key) in
       let less : i < j → rank i ≤ rank j = λ l. rise _ _ key
       (subst (λ q. key_order q (f (get_or xs j d)) ≡ Less) (get_or-map f xs i d (f d) (omega arith))
-      (subst (λ q. key_order (get_or (map f xs) i (f d)) q ≡ Less) (get_or-map f xs j d (f d) within)
+      (subst (λ q. key_order (get_or (map f xs) i (f d)) q ≡ Less) (get_or-map f xs j d (f d)
+      within)
       (Less-from_sorted key_order (map f xs) i j (f d) sorted l (rw length-map within)))) in
       let equal : i ≡ j → rank i ≡ rank j = λ e. ap rank e in
       grind (arith, less, equal)
@@ -254,7 +255,8 @@ all_left : {X : Type 0} (P : List ℕ → Type 0) (es : List (List ℕ × X)) (t
 all_left P [] test all = tt
 all_left P (e ∷ es) test all = by (test e.0) (all_left P es test all.1)
   where
-    by : (b : Bool) → AllByRecursion P (keys_of (remove_entry test es)) → AllByRecursion P (keys_of (cond b es (e ∷ remove_entry test es)))
+    by : (b : Bool) → AllByRecursion P (keys_of (remove_entry test es))
+        → AllByRecursion P (keys_of (cond b es (e ∷ remove_entry test es)))
     by true rest = all.1
     by false rest = (all.0, rest)
 

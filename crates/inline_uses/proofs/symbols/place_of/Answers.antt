@@ -7,7 +7,8 @@ use Rattle.inline_uses.specs.Symbols.{IsGap, bytes_at, key_order, text_at, with_
 use Rattle.inline_uses.proofs.Search.{searched}
 use Rattle.inline_uses.proofs.symbols.place_of.Goals as goal
 
-searched_for : (c : goal.After-binary_search_by) → let keys = keys_of (with_ids (map bytes_at c.args.texts.now) c.args.order.now) in
+searched_for : (c : goal.After-binary_search_by)
+    → let keys = keys_of (with_ids (map bytes_at c.args.texts.now) c.args.order.now) in
     (IfOk c.binary_search_by.result (λ at. slice_get keys at ≡ Some c.args.text.now))
     × IfErr c.binary_search_by.result (IsGap keys c.args.text.now)
 searched_for c =

@@ -5,12 +5,14 @@ use Rattle.inline_uses.proofs.store.Store.put.Goals.{in-Heap-2, in-Inline-2}
 use Rattle.inline_uses.proofs.store.Store.put.Goals as goal
 
 pub invariant_of-self : goal.invariant_of-self
-invariant_of-self c = (over c.args.self.now c.args.key.now c.args.value.now c.in_ok-value.value c.in-Ok.at
+invariant_of-self c = (over c.args.self.now c.args.key.now c.args.value.now c.in_ok-value.value
+    c.in-Ok.at
     c.self.inside.entries.items c.self.view_is c.search.ensures.order (search rules)
     c.index_mut.result.now c.in-Ok.ensures.found c.index_mut.ensures.value).1
 
 pub invariant_of-self-in-Ok-2 : goal.invariant_of-self-in-Ok-2
-invariant_of-self-in-Ok-2 c = (over c.args.self.now c.args.key.now c.args.value.now c.in_ok-value.value c.in-Ok.at
+invariant_of-self-in-Ok-2 c = (over c.args.self.now c.args.key.now c.args.value.now
+    c.in_ok-value.value c.in-Ok.at
     c.self.inside.entries.items c.self.view_is c.search.ensures.order (search rules)
     c.index_mut.result.now c.in-Ok.ensures.found c.index_mut.ensures.value).1
 
@@ -26,13 +28,15 @@ returns-in-Ok-clause-ok c =
 
 pub invariant_of-self-in-Continue-branch-3 : goal.invariant_of-self-in-Continue-branch-3
 invariant_of-self-in-Continue-branch-3 c =
-    rw c.in_ok-insert-in-Err.ensures.items (anew c.args.self.now c.args.key.now c.args.value.now c.in_ok-value.value c.in-Err.at
+    rw c.in_ok-insert-in-Err.ensures.items (anew c.args.self.now c.args.key.now c.args.value.now
+    c.in_ok-value.value c.in-Err.at
     c.self.inside.entries.items c.self.view_is c.search.ensures.order (search rules)
     c.in_ok-key-in-Err.key c.in-Err.ensures.gap (search rules)).1
 
 pub returns-in_ok-insert-in-Err-clause-ok : goal.returns-in_ok-insert-in-Err-clause-ok
 returns-in_ok-insert-in-Err-clause-ok c =
-    rw c.in_ok-insert-in-Err.ensures.items (anew c.args.self.now c.args.key.now c.args.value.now c.in_ok-value.value c.in-Err.at
+    rw c.in_ok-insert-in-Err.ensures.items (anew c.args.self.now c.args.key.now c.args.value.now
+    c.in_ok-value.value c.in-Err.at
     c.self.inside.entries.items c.self.view_is c.search.ensures.order (search rules)
     c.in_ok-key-in-Err.key c.in-Err.ensures.gap (search rules)).0
 

@@ -15,5 +15,15 @@ returns-clause-between c =
     (sym (run (λ k. not (is_gt (key_order c.args.from.now k)) && is_gt (key_order c.args.to.now k))
     es start.result (c.max-end.result - start.result)
     (λ k l b. rw (start.ensures.below k l) refl)
-    (λ k l m b. rw (start.ensures.above k l b, end.ensures.below k (omega (arith, c.max-end.ensures))) refl)
-    (λ k l b. rw (start.ensures.above k (omega (arith, c.max-end.ensures)) b, end.ensures.above k (omega (arith, c.max-end.ensures)) b) refl)))
+    (λ k l m b. rw (
+      start.ensures.above k l b,
+      end.ensures.below k (omega (
+        arith,
+        c.max-end.ensures,
+      )),
+    ) refl)
+    (λ k l b. rw (
+      start.ensures.above k (omega (arith, c.max-end.ensures)) b,
+      end.ensures.above k
+          (omega (arith, c.max-end.ensures)) b,
+    ) refl)))

@@ -9,7 +9,8 @@ use Rattle.inline_uses.proofs.Search.{searched}
 use Rattle.inline_uses.proofs.store.Store.search.Goals as goal
 
 searched_for : (c : goal.After-binary_search_by)
-    → (IfOk c.binary_search_by.result (λ at. slice_get (keys_of c.args.self.now) at ≡ Some c.args.key.now))
+    → (IfOk c.binary_search_by.result (λ at. slice_get (keys_of c.args.self.now) at ≡ Some
+    c.args.key.now))
     × IfErr c.binary_search_by.result (IsGap (keys_of c.args.self.now) c.args.key.now)
 searched_for c =
     let items = c.self.inside.entries.items in

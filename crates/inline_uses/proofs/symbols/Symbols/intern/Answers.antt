@@ -8,7 +8,8 @@ use Rattle.inline_uses.proofs.Tables.{at_push, before_push}
 use Rattle.inline_uses.proofs.symbols.Symbols.intern.Goals as goal
 
 pub returns-in-Ok-clause-id : goal.returns-in-Ok-clause-id
-returns-in-Ok-clause-id c = rw (← c.self.view_is) ((found_at (texts_of c.self.inside) c.self.inside.order.items c.args.text.now c.in-Ok.at
+returns-in-Ok-clause-id c = rw (← c.self.view_is) ((found_at (texts_of c.self.inside)
+    c.self.inside.order.items c.args.text.now c.in-Ok.at
     c.index.result.now c.self.invariant
     (rw (c.deref.ensures.value, c.deref-2.ensures.value) at c.in-Ok.ensures.found)
     c.index.ensures c.index.result.now).0 refl)
@@ -24,23 +25,27 @@ returns-in-Ok-clause-known c = λ id is.
 
 pub returns-in-Ok-clause-new : goal.returns-in-Ok-clause-new
 returns-in-Ok-clause-new c = λ none. absurd (none c.index.result.now
-    (rw (← c.self.view_is) ((found_at (texts_of c.self.inside) c.self.inside.order.items c.args.text.now c.in-Ok.at
+    (rw (← c.self.view_is) ((found_at (texts_of c.self.inside) c.self.inside.order.items
+    c.args.text.now c.in-Ok.at
     c.index.result.now c.self.invariant
     (rw (c.deref.ensures.value, c.deref-2.ensures.value) at c.in-Ok.ensures.found)
     c.index.ensures c.index.result.now).0 refl)))
 
 pub returns-in_err-text-in-Err-clause-known : goal.returns-in_err-text-in-Err-clause-known
-returns-in_err-text-in-Err-clause-known c = λ id is. absurd (no_id (texts_of c.self.inside) c.self.inside.order.items c.args.text.now c.in-Err.at
+returns-in_err-text-in-Err-clause-known c = λ id is. absurd (no_id (texts_of c.self.inside)
+    c.self.inside.order.items c.args.text.now c.in-Err.at
     c.self.invariant (rw (c.deref.ensures.value, c.deref-2.ensures.value) at c.in-Err.ensures.gap)
     id (rw c.self.view_is is))
 
 pub returns-in_err-reserve-in-Err-clause-known : goal.returns-in_err-reserve-in-Err-clause-known
-returns-in_err-reserve-in-Err-clause-known c = λ id is. absurd (no_id (texts_of c.self.inside) c.self.inside.order.items c.args.text.now c.in-Err.at
+returns-in_err-reserve-in-Err-clause-known c = λ id is. absurd (no_id (texts_of c.self.inside)
+    c.self.inside.order.items c.args.text.now c.in-Err.at
     c.self.invariant (rw (c.deref.ensures.value, c.deref-2.ensures.value) at c.in-Err.ensures.gap)
     id (rw c.self.view_is is))
 
 pub returns-in_err-push-in-Err-clause-known : goal.returns-in_err-push-in-Err-clause-known
-returns-in_err-push-in-Err-clause-known c = λ id is. absurd (no_id (texts_of c.self.inside) c.self.inside.order.items c.args.text.now c.in-Err.at
+returns-in_err-push-in-Err-clause-known c = λ id is. absurd (no_id (texts_of c.self.inside)
+    c.self.inside.order.items c.args.text.now c.in-Err.at
     c.self.invariant (rw (c.deref.ensures.value, c.deref-2.ensures.value) at c.in-Err.ensures.gap)
     id (rw c.self.view_is is))
 
@@ -68,7 +73,8 @@ returns-in_ok-insert-in-Err-clause-id c =
     rw (texts, count) (at_push (texts_of c.self.inside) c.args.text.now)
 
 pub returns-in_ok-insert-in-Err-clause-known : goal.returns-in_ok-insert-in-Err-clause-known
-returns-in_ok-insert-in-Err-clause-known c = λ id is. absurd (no_id (texts_of c.self.inside) c.self.inside.order.items c.args.text.now c.in-Err.at
+returns-in_ok-insert-in-Err-clause-known c = λ id is. absurd (no_id (texts_of c.self.inside)
+    c.self.inside.order.items c.args.text.now c.in-Err.at
     c.self.invariant (rw (c.deref.ensures.value, c.deref-2.ensures.value) at c.in-Err.ensures.gap)
     id (rw c.self.view_is is))
 
