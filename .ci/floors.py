@@ -58,7 +58,7 @@ HOSTILE = {'accepted': 1_200, **dict.fromkeys((
 WRONG_DEFINITIONS = {'inlinable_string': 140, 'script_language': 90}
 
 # Edits in `wrong-clauses/`, and public functions of `callers` that promise something.
-WRONG_CLAUSES, CALLERS = 5, 114
+WRONG_CLAUSES, CALLERS = 5, 136
 
 # Lemmas, answers to goals and definitions, and paths and names in backticks that the documents cite.
 PROOFS, CITED = 1_300, 400
