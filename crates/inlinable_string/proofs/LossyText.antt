@@ -1,5 +1,5 @@
 -- The lossy reading of UTF-8 written as bytes: how far it is written, and the room that it takes.
-use Rattle.inlinable_string.proofs.Common.{◌≡◌, ℕ, zero, suc, ◌+◌, ◌-◌, ◌<◌, ◌≤◌, nat_eq, nat_lt, List, [], ◌∷◌, ◌++◌, length, take, drop, refl, ap, sym, ◌∙◌, arith, subst, ⊎_elim, append_assoc, append-nil, length-take-le, take-append-drop, if◌then◌else◌, cases_Bool, cases_lt, cond-true, cond-false, nat_tests, eqb-true, encode_utf8, chars, chars-nil, chars-append, IsUtf8, IsUtf8-append, size, char_len, subpart_len, lossy_utf8_past, lossy_utf8}
+use Rattle.inlinable_string.proofs.Common.{◌≡◌, ℕ, zero, suc, ◌+◌, ◌-◌, ◌<◌, ◌≤◌, nat_eq, nat_lt, List, [], ◌∷◌, ◌++◌, true, false, length, take, drop, refl, ap, sym, ◌∙◌, arith, subst, ⊎_elim, append_assoc, append-nil, length-take-le, take-append-drop, if◌then◌else◌, cases_Bool, cases_lt, cond-true, cond-false, nat_tests, eqb-true, encode_utf8, chars, chars-nil, chars-append, IsUtf8, IsUtf8-append, size, char_len, subpart_len, lossy_utf8_past, lossy_utf8}
 use Rattle.std.proofs.lemmas.Str.{IsUtf8-nil}
 use Rattle.inlinable_string.proofs.Text.{size-append, size-chars}
 use Rattle.inlinable_string.proofs.Subparts.{one_more, lossy_valid, no_char, replaced-chars}
@@ -132,12 +132,11 @@ the_suc k some = omega arith
 at_least : (b : ℕ) (bs : List ℕ) → 1 + most bs ≤ most (b ∷ bs)
 at_least b bs = grind (arith, nat_tests)
 
-past_most : (n : ℕ) (bs : List ℕ) → size (lossy_utf8_past n bs) ≤ most (drop n bs)
-past_most n [] = omega arith
-past_most (suc n) (b ∷ bs) = past_most n bs
-past_most zero (b ∷ bs) =
-    ⊎_elim
-    (λ none.
+-- the bytes from a maximal subpart on
+no_char_within : (b : ℕ) (bs : List ℕ) → nat_eq (char_len (b ∷ bs)) 0 ≡ true
+    → size (lossy_utf8_past (subpart_len (b ∷ bs) - 1) bs)
+    ≤ most (drop (subpart_len (b ∷ bs) - 1) bs) → size (lossy_utf8 (b ∷ bs)) ≤ most (b ∷ bs)
+no_char_within b bs none past =
     let k = subpart_len (b ∷ bs) - 1 in
     let is : lossy_utf8 (b ∷ bs) ≡ 0xFFFD ∷ lossy_utf8_past k bs = cond-true _ _ _ none in
     let no : char_len (b ∷ bs) ≡ 0 = eqb-true _ _ none in
@@ -145,15 +144,13 @@ past_most zero (b ∷ bs) =
     ⊎_elim (λ below. absurd (omega (arith, no, ascii (b ∷ bs) (omega arith) below))) (λ h. h)
     (cases_lt b 128) in
     let three : most (b ∷ bs) ≡ 3 + most bs = grind (arith, nat_tests, other) in
-    omega (
-      arith,
-      three,
-      ap size is,
-      replaced_size (lossy_utf8_past k bs),
-      past_most k bs,
-      most_front k bs,
-    ))
-    (λ some.
+    omega (arith, three, ap size is, replaced_size (lossy_utf8_past k bs), past, most_front k bs)
+
+-- the bytes from a character on
+char_within : (b : ℕ) (bs : List ℕ) → nat_eq (char_len (b ∷ bs)) 0 ≡ false
+    → size (lossy_utf8_past (char_len (b ∷ bs) - 1) bs) ≤ most (drop (char_len (b ∷ bs) - 1) bs)
+    → size (lossy_utf8 (b ∷ bs)) ≤ most (b ∷ bs)
+char_within b bs some past =
     let k = char_len (b ∷ bs) in
     let is : lossy_utf8 (b ∷ bs) ≡ chars (take k (b ∷ bs)) ++ lossy_utf8_past (k - 1) bs =
     cond-false _ _ _ some in
@@ -166,12 +163,20 @@ past_most zero (b ∷ bs) =
       size-append (chars (take k (b ∷ bs))) (lossy_utf8_past (k - 1) bs),
       size-chars (take k (b ∷ bs)) (char_front (b ∷ bs) k refl one),
       ap length front,
-      past_most (k - 1) bs,
+      past,
       most_front (k - 1) bs,
       at_least b bs,
-    ))
+    )
+
+past_most : (n : ℕ) (bs : List ℕ) → size (lossy_utf8_past n bs) ≤ most (drop n bs)
+past_most n [] = omega arith
+past_most (suc n) (b ∷ bs) = past_most n bs
+past_most zero (b ∷ bs) =
+    ⊎_elim
+    (λ none. no_char_within b bs none (past_most (subpart_len (b ∷ bs) - 1) bs))
+    (λ some. char_within b bs some (past_most (char_len (b ∷ bs) - 1) bs))
     (cases_Bool (nat_eq (char_len (b ∷ bs)) 0))
 
--- so many bytes are room for it
+-- a bound on its bytes
 pub within_most : (bs : List ℕ) → size (lossy_utf8 bs) ≤ most bs
 within_most bs = past_most 0 bs

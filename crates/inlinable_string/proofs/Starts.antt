@@ -124,18 +124,21 @@ record HasRow (a : ℕ) : Type 0 where
   three : a < 240 → k ≤ 1
   four : 240 ≤ a → k ≡ 2
 
+row_is_two : (a : ℕ) → 194 ≤ a → a < 224 → HasRow a
+row_is_two a from below = record {
+  range = _;
+  k = 0;
+  is = row_two a from below;
+  two = λ h. refl;
+  more = λ h. absurd (omega arith);
+  three = λ h. omega arith;
+  four = λ h. absurd (omega arith);
+}
+
 row_is : (a : ℕ) → 194 ≤ a → a ≤ 244 → HasRow a
 row_is a from to =
     ⊎_elim
-    (λ below. record {
-      range = _;
-      k = 0;
-      is = row_two a from below;
-      two = λ h. refl;
-      more = λ h. absurd (omega arith);
-      three = λ h. omega arith;
-      four = λ h. absurd (omega arith);
-    })
+    (row_is_two a from)
     (λ above. ⊎_elim
     (λ below. record {
       range = _;

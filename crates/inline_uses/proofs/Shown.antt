@@ -35,7 +35,7 @@ all_shown nodes place n d within shown = λ key keys utf8 all.
 -- a node n that is under the place, and is shown as the member k
 module _ (nodes : List Node) (place : Option ℕ) (n : ℕ) (k : List ℕ) (v : Data) (ms : Members)
     (tree : IsTree nodes) (is : slice_get nodes n ≡ Some (node_at place k)) where
-  -- behind its key the value is what it was
+  -- after its key the value is unchanged
   same_below : IsShown nodes (Some n) v → (keys : List (List ℕ)) → AllByRecursion IsUtf8 keys
       → IsSome (walk v keys) ↔ ((to : ℕ) × Leads nodes (Some n) (map chars keys) to)
   same_below inner [] all = ((λ _. (n, refl)), λ _. refl)

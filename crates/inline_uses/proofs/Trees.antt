@@ -51,7 +51,7 @@ both_tied Equal Equal e = (refl, refl)
 both_tied Equal Greater e = cc
 both_tied Greater r e = cc
 
--- the order tells whether two keys with their places are the same
+-- by the order, two keys with their places are the same or not
 same_key : (p q : Option ℕ) (k l : List ℕ) → chars (bytes_of k) ≡ k → chars (bytes_of l) ≡ l
     → Decides (is_eq (place_order (p, k) (q, l))) (node_at p k ≡ node_at q l)
 same_key p q k l text other = (

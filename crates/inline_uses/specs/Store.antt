@@ -24,7 +24,7 @@ AreInOrder entries = IsStrictlySortedBy key_order (keys_of entries)
 abbrev pub value_of : Entries → List ℕ → Option (List ℕ)
 value_of entries key = lookup (is_at (key_order key)) entries
 
--- the entries with a value under a key, in the place of the one that it had
+-- the entries with a value under a key, instead of the one that it had
 abbrev pub with_value : Entries → List ℕ → List ℕ → Entries
 with_value entries key value = insert_entry key_order entries key value
 

@@ -14,7 +14,7 @@ use Rattle.inlinable_string.specs.Values.{inlinable_state}
 use Rattle.inlinable_string.specs.declared.inlinable_string.InlinableStringN.{InlinableStringN}
 use Rattle.inline_uses.specs.declared.symbols.Symbols.TheInside.{Inside}
 
--- the bytes of a text that lies anywhere
+-- the bytes of a text, whatever its storage
 abbrev pub bytes_at : InlinableStringN 30 → List ℕ
 bytes_at t = bytes_of (inlinable_state 30 t).text
 

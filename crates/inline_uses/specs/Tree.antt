@@ -28,7 +28,7 @@ Leads nodes place [] to = place ≡ Some to
 Leads nodes place (key ∷ keys) to =
     (id : ℕ) × (slice_get nodes id ≡ Some (node_at place key)) × Leads nodes (Some id) keys to
 
--- the keys as one text, each behind a '/'
+-- the keys as one text, each after a '/'
 abbrev pub joined : List (List ℕ) → List ℕ
 joined [] = []
 joined (key ∷ keys) = 47 ∷ key ++ joined keys
@@ -109,7 +109,7 @@ abbrev mutual
   HaveShortKeys no_members = ⊤
   HaveShortKeys (member key d ms) = (length key ≤ 16) × HasShortKeys d × HaveShortKeys ms
 
--- trees of so many levels can be read from the JSON value
+-- a tree can be read from the JSON value, which has at most `levels` levels
 abbrev pub IsReadable : ℕ → Data → Type 0
 IsReadable levels d = IsNested d × HasShortKeys d × (depth d ≤ levels)
 

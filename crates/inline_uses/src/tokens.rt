@@ -14,7 +14,7 @@ pub struct TooLong;
 /// What a source goes on with.
 #[derive(Clone, Copy, Debug, PartialEq, Eq)]
 pub enum Token {
-    /// A word, which lies in the buffer.
+    /// A word, which is in the buffer.
     Word,
     /// A character that is in no word.
     Mark(char),

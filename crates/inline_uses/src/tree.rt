@@ -171,7 +171,7 @@ impl Tree {
         }
     }
 
-    /// The keys from the top down to a node, each behind a `/`.
+    /// Returns the keys from the top down to a node, each after a `/`.
     pub fn path(&self, alloc: Global, id: usize) -> Result<InlinableString, Fault>
         ensures ok { IfOk result (λ path. (keys : List (List ℕ)) × Leads self.now None keys id
             × ((inlinable_state 30 path).text ≡ joined keys)) }

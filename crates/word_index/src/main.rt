@@ -17,7 +17,7 @@ fn main(rt: HostRuntime) -> ExitCode {
     match print_index(&rt) {
         Ok(()) => ExitCode::SUCCESS,
         Err(fault) => {
-            // Where standard error can't be written either, the status tells.
+            // If standard error can't be written either, there is the status.
             let _ = eprintln!(rt; "word_index: {fault}");
             ExitCode::from(2)
         }

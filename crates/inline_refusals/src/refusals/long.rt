@@ -8,8 +8,8 @@ use test_support::Refusals;
 
 const SIZE: usize = 100_000;
 
-/// Asserts that the text made of a string of so many letters is that string. Makes one request for
-/// the string, and so many for the text.
+/// Asserts that the text made of a string of letters is that string. Makes one request for the
+/// string, and `requests` for the text.
 fn assert_made<F: Fn(Global, &str) -> Result<InlinableString, AllocError>>(
     rt: &(impl Abort + Print),
     alloc: Global,

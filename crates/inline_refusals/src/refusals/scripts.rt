@@ -42,8 +42,8 @@ fn answer_again(
     answer_to(alloc, &words, lines, room)
 }
 
-/// Runs a script that makes so many requests. What it prints comes first of the outputs, and then
-/// what it prints where a request of its run is refused.
+/// Runs a script that makes `requests` requests. What it prints comes first of the outputs, and
+/// then what it prints where a request of its run is refused.
 fn assert_prints(
     rt: &(impl Abort + Print),
     alloc: Global,

@@ -16,7 +16,7 @@ use std::alloc::{AllocError, Global};
 pub enum ReadError {
     /// They are not the JSON of an object of strings.
     NotAStore,
-    /// They may be, and memory was refused.
+    /// They may be, and an allocation failed.
     NoMemory,
 }
 
@@ -70,7 +70,7 @@ impl Store {
         }
     }
 
-    /// Returns the store that a JSON value tells. Fails with [`ReadError::NotAStore`] exactly if it
+    /// Returns the store that a JSON value has. Fails with [`ReadError::NotAStore`] exactly if it
     /// is not an object of strings, and otherwise only if an allocation does.
     pub fn from_json(alloc: Global, value: &Value) -> Result<Self, ReadError>
         ensures entries { IfOk result (λ store.

@@ -44,7 +44,7 @@ fn first_not_added(tree: &mut Tree) -> Option<usize> {
     None
 }
 
-/// The first row that is not refused as it says.
+/// The first row that does not fail as it says.
 fn first_not_refused(tree: &mut Tree) -> Option<usize> {
     for (i, (place, key, fault)) in REFUSED.iter().enumerate() {
         if tree.add(*place, key) != Err(*fault) {
@@ -229,7 +229,7 @@ fn chain(alloc: Global, nodes: usize) -> Result<Tree, Fault> {
     Ok(tree)
 }
 
-/// Levels of JSON that are too many, how many nodes have so many, the number of the last of them,
+/// Levels of JSON that are too many, how many nodes have that many, the number of the last of them,
 /// and how many bytes its path has.
 const TOO_DEEP: &[(usize, usize, usize, usize)] = &[
     (129, 128, 127, 256),
@@ -259,7 +259,7 @@ fn only_so_many_levels_are_read_and_written(rt: HostRuntime) -> Result<(), Fail>
     Ok(())
 }
 
-/// A JSON object of so many members, each an empty object.
+/// A JSON object of `count` members, each an empty object.
 fn flat(alloc: Global, members: usize) -> Result<Value, Fail> {
     let mut value = Map::new(alloc);
     for i in 0..members {

@@ -25,7 +25,7 @@ fn is_written(store: &Store, json: &str) -> Result<bool, AllocError> {
     Ok(bytes.as_slice() == json.as_bytes())
 }
 
-/// Whether the store has these values, and so many in all.
+/// Whether the store has these values, and `count` in all.
 fn has_values(store: &Store, entries: &[(&str, &str, &str)], count: usize) -> bool {
     for (key, value, _) in entries {
         if store.get(key) != Some(*value) {
@@ -55,7 +55,7 @@ fn first_wrong(alloc: Global, all: &mut Store) -> Result<Option<usize>, ReadErro
     Ok(None)
 }
 
-/// Whether a copy has these values, and so many in all.
+/// Whether a copy has these values, and no others.
 fn is_copied(
     store: &Store,
     entries: &[(&str, &str, &str)],

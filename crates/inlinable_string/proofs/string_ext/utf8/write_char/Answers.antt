@@ -3,7 +3,7 @@ use Rattle.std.proofs.Common.{slice_set, slice_index_or}
 use Rattle.std.proofs.Math.ListN.{length-set}
 use Rattle.inlinable_string.proofs.string_ext.utf8.write_char.Goals as goal
 
--- a byte more behind those that are written
+-- a byte more after those that are written
 one_more : (made bs new : List ℕ) (at n j m : ℕ) → j ≡ at + n → m ≡ at + (n + 1) → j < length new
     → n < length bs → take j new ≡ take at made ++ take n bs
     → take m (slice_set new j (slice_index_or bs n 0)) ≡ take at made ++ take (n + 1) bs
