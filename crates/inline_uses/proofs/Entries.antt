@@ -1,5 +1,5 @@
 -- The entries of a store, as it has them and as its user sees them, when one is put.
-use Rattle.std.proofs.Common.{◌≡◌, ℕ, List, map, get_or, set, Some, refl, ap, sym, ◌∙◌}
+use Rattle.std.proofs.Common.{◌≡◌, ℕ, List, map, get_or, set, Some, ap, sym, ◌∙◌}
 use Rattle.std.specs.Prelude.{slice_get}
 use Rattle.std.specs.List.{insert}
 use Rattle.std.specs.Map.{keys_of}

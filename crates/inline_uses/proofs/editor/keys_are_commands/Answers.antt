@@ -1,6 +1,5 @@
-use Rattle.std.proofs.Common.{◌≡◌, [], ◌∷◌, ◌++◌, Some, refl}
+use Rattle.std.proofs.Common.{◌∷◌, refl}
 use Rattle.std.proofs.lemmas.List.{append_assoc}
-use Rattle.inlinable_string.specs.Text.{size, cut}
 use Rattle.inline_uses.proofs.editor.keys_are_commands.Goals as goal
 
 pub returns-clause-type_char : goal.returns-clause-type_char

@@ -1,4 +1,4 @@
-use Rattle.std.proofs.Common.{rules, ◌≡◌, List, map, ℕ, sym}
+use Rattle.std.proofs.Common.{rules, ◌≡◌, List, map, ℕ}
 use Rattle.std.proofs.lemmas.Fn.{always_returns_same}
 use Rattle.std.proofs.lemmas.Simd.{map-map}
 use Rattle.std.specs.Map.{keys_of}

@@ -1,6 +1,5 @@
-use Rattle.std.proofs.Common.{rules, refl, sym, ap, ◌∙◌}
+use Rattle.std.proofs.Common.{rules, refl, ◌∙◌}
 use Rattle.inlinable_string.specs.Text.{cut}
-use Rattle.inline_uses.specs.Editor.{parts_of}
 use Rattle.inline_uses.proofs.Cursor.{parts_are, cut_before}
 use Rattle.inline_uses.proofs.editor.Line.left.Goals as goal
 

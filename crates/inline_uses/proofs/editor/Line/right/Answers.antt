@@ -1,4 +1,4 @@
-use Rattle.std.proofs.Common.{rules, refl, sym, ap, ◌∙◌}
+use Rattle.std.proofs.Common.{rules, refl, ◌∙◌}
 use Rattle.inlinable_string.specs.Text.{cut}
 use Rattle.inline_uses.proofs.Cursor.{parts_are, cut_behind}
 use Rattle.inline_uses.proofs.editor.Line.right.Goals as goal

@@ -1,6 +1,5 @@
-use Rattle.std.proofs.Common.{arith, ◌≡◌, ℕ, List, true, false, not, ◌&&◌, ◌-◌, refl, sym}
+use Rattle.std.proofs.Common.{arith, not, ◌&&◌, ◌-◌, refl, sym}
 use Rattle.std.proofs.lemmas.List.{take-map, drop-map}
-use Rattle.std.proofs.lemmas.Map.Entries.{length-keys_of}
 use Rattle.std.specs.Ordering.{is_gt}
 use Rattle.inline_uses.specs.Symbols.{key_order}
 use Rattle.inline_uses.proofs.Search.{run}

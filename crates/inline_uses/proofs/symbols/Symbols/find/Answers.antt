@@ -1,4 +1,4 @@
-use Rattle.std.proofs.Common.{◌≡◌, ◌↔◌, Some, sym, subst}
+use Rattle.std.proofs.Common.{◌≡◌, ◌↔◌, Some, subst}
 use Rattle.std.specs.Prelude.{slice_get}
 use Rattle.inline_uses.specs.Symbols.{texts_of, with_ids}
 use Rattle.inline_uses.proofs.Ids.{found_at}

@@ -1,7 +1,6 @@
-use Rattle.std.proofs.Common.{rules, ◌≡◌, ◌++◌, ◌∷◌, [], Some, Ok, length, map, refl, ap, ◌∙◌}
+use Rattle.std.proofs.Common.{rules, ◌≡◌, ◌++◌, ◌∷◌, [], Some, length, map, refl, ap}
 use Rattle.std.proofs.lemmas.List.{length-map, map-append}
 use Rattle.std.specs.List.{insert}
-use Rattle.std.specs.Prelude.{slice_get}
 use Rattle.inline_uses.specs.Symbols.{bytes_at, texts_of}
 use Rattle.inline_uses.proofs.Ids.{no_id, found_at, added}
 use Rattle.inline_uses.proofs.Tables.{at_push, before_push}

@@ -1,4 +1,4 @@
-use Rattle.inline_uses.specs.Symbols.{HaveOneId, texts_of}
+use Rattle.inline_uses.specs.Symbols.{texts_of}
 use Rattle.inline_uses.proofs.Ids.{once}
 use Rattle.inline_uses.proofs.symbols.Symbols.len.Goals as goal
 

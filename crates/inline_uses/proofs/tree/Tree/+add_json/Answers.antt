@@ -1,7 +1,7 @@
 use Rattle.std.proofs.Common.{rules, arith, ◌≡◌, ◌≤◌, ◌<◌, ◌-◌, [], ◌∷◌, ◌++◌, Some, Ok, Err, length, string_bytes, refl, ap, sym, subst, ◌∙◌}
 use Rattle.std.specs.Str.{chars}
 use Rattle.serde_json.specs.View.{view, members_view}
-use Rattle.inline_uses.specs.Tree.{IsPlaceOf, node_at, listed, IsReadable, IsFaultOf}
+use Rattle.inline_uses.specs.Tree.{node_at, listed, IsReadable, IsFaultOf}
 use Rattle.inline_uses.specs.declared.tree.Fault.TheVariants.{LongKey}
 use Rattle.inline_uses.proofs.Readable.{one_read, not_added}
 use Rattle.inline_uses.proofs.Trees.{one_more, wider}

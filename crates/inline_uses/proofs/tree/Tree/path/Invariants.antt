@@ -1,4 +1,4 @@
-use Rattle.std.proofs.Common.{◌≡◌, ◌<◌, ℕ, suc, List, [], ◌++◌, None, length, unwrap_or, option_map}
+use Rattle.std.proofs.Common.{◌≡◌, ℕ, suc, List, [], ◌++◌, None, length, unwrap_or, option_map}
 use Rattle.inlinable_string.specs.Values.{inlinable_state}
 use Rattle.inline_uses.specs.Tree.{IsPlaceOf, Leads, joined}
 use Rattle.inline_uses.proofs.Trees.{with_keys, AreNodes}
