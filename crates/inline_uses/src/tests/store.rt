@@ -116,16 +116,19 @@ const NEW: &[&str] = &[
     "a", "b", "c", "d", "e", "f", "g", "h", "i", "j", "k", "l", "m", "n", "o", "p", "q", "r", "s",
 ];
 
-/// Whether a short value is put under a known key and a long one refused, and a long key is looked
-/// up and deleted, and cannot be put again.
+/// 31 digits.
+const DIGITS_31: &str = "0123456789012345678901234567890";
+
+/// Whether a short value is put under a known key, a long value or a long new key is not, and a
+/// long key is looked up and deleted.
 fn answers_without_memory(store: &mut Store) -> [bool; 7] {
     [
         store.put("known", "new").is_ok(),
         store.put(LETTERS_31, "short").is_ok(),
         store.put("known", LETTERS_31).is_err(),
+        store.put(DIGITS_31, "short").is_err(),
         store.get(LETTERS_31) == Some("short"),
         store.delete(LETTERS_31),
-        store.put(LETTERS_31, "short").is_err(),
         store.get("known") == Some("new"),
     ]
 }
