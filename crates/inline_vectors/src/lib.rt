@@ -56,6 +56,8 @@ mod replacements;
 #[cfg(test)]
 mod room;
 #[cfg(test)]
+mod splits;
+#[cfg(test)]
 mod steps;
 #[cfg(test)]
 mod texts;

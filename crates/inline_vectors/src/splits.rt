@@ -1,0 +1,271 @@
+//! Texts split in two, in the other case, copied, and as a `String`: what Rust's `String` gives, at
+//! several limits, inline and on the heap, with memory and without.
+ghost use Rattle.std.specs.Prelude.{◌≤◌};
+
+use crate::held::Memory::{self, Ample, Held, OneBlock};
+use crate::held::hold;
+use crate::texts::{TEN_CLEFS, assert_none_wrong, is_lying, text_of};
+use Storage::{Heap, Inline};
+use inlinable_string::{InlinableString, InlinableStringN, InlineStringN, Storage, StringExt};
+use std::alloc::Global;
+use std::process::Abort;
+use test_support::letters::{LETTERS_30, LETTERS_31};
+
+/// A text, where it is split, and both parts.
+type SplitRow = (&'static str, usize, &'static str, &'static str);
+
+const A_TEN_CLEFS: &str = "a𝄞𝄞𝄞𝄞𝄞𝄞𝄞𝄞𝄞𝄞";
+
+const SPLITS: &[SplitRow] = rows! {
+    ("", 0, "", ""), ("a", 0, "", "a"), ("a", 1, "a", ""), ("é", 0, "", "é"), ("é", 2, "é", ""),
+    ("aé", 1, "a", "é"), ("𝄞", 4, "𝄞", ""), ("k=v", 1, "k", "=v"), ("abcd", 0, "", "abcd"),
+    ("abcde", 1, "a", "bcde"), ("€𝄞", 3, "€", "𝄞"), ("abcdefgh", 8, "abcdefgh", ""),
+    ("abcdefgh", 3, "abc", "defgh"), ("a\0b\nc", 2, "a\0", "b\nc"),
+    ("abcdefghi", 1, "a", "bcdefghi"), (LETTERS_31, 0, "", LETTERS_31),
+    (LETTERS_31, 1, "a", LETTERS_30), (LETTERS_31, 31, LETTERS_31, ""),
+    (A_TEN_CLEFS, 1, "a", TEN_CLEFS), (A_TEN_CLEFS, 41, A_TEN_CLEFS, ""),
+    (A_TEN_CLEFS, 13, "a𝄞𝄞𝄞", "𝄞𝄞𝄞𝄞𝄞𝄞𝄞"),
+};
+
+/// Where a text of this length is stored that is made of a `&str`.
+fn made_at(len: usize, limit: usize) -> Storage {
+    if len <= limit { Inline } else { Heap }
+}
+
+/// Whether an array that holds the text is split so; one that cannot hold it is passed over.
+fn is_split_in_an_array<const N: usize>(row: &SplitRow) -> bool
+    requires { N ≤ 300 }
+{
+    let &(content, at, front, back) = row;
+    if N < content.len() {
+        return true;
+    }
+    let mut text = InlineStringN::<N>::from(content);
+    if !text.is_char_boundary(at) {
+        return false;
+    }
+    let copy = text.copy();
+    let rest = text.split_off(at);
+    text.as_str() == front && rest.as_str() == back && copy.as_str() == content
+}
+
+/// Whether a text that is made with this capacity is split so. The rest is refused if it is longer
+/// than the limit, the text is on the heap, and memory is short.
+fn is_split<const N: usize>(
+    rt: &impl Abort,
+    alloc: Global,
+    room: Option<usize>,
+    memory: Memory,
+    row: &SplitRow,
+) -> bool
+    requires { N ≤ 300 }
+{
+    let &(content, at, front, back) = row;
+    let mut text: InlinableStringN<N> = text_of(rt, alloc, room, content);
+    let (storage, capacity) = (text.storage(), text.capacity());
+    if !text.is_char_boundary(at) {
+        return false;
+    }
+    let hoard = hold(rt, alloc, memory);
+    let rest = text.split_off(at);
+    drop(hoard);
+    let is_short = matches!(memory, Held) && storage == Heap && N < back.len();
+    text.capacity() == capacity
+        && match rest {
+            Ok(rest) => {
+                !is_short
+                    && is_lying(&text, front, storage)
+                    && is_lying(&rest, back, made_at(back.len(), N))
+            }
+            Err(_) => is_short && is_lying(&text, content, storage),
+        }
+}
+
+/// The first row that is wrong, in an array, as the text is made, and on the heap.
+fn wrong_split<const N: usize>(rt: &impl Abort, alloc: Global, memory: Memory) -> Option<usize>
+    requires { N ≤ 300 }
+{
+    SPLITS.iter().position(|row| {
+        !is_split_in_an_array::<N>(row)
+            || !is_split::<N>(rt, alloc, None, memory, row)
+            || !is_split::<N>(rt, alloc, Some(N + 1), memory, row)
+    })
+}
+
+#[test]
+fn a_text_is_split_as_a_string_is(rt: HostRuntime) {
+    let alloc = rt.alloc();
+    assert_none_wrong(&rt, wrong_split::<0>(&rt, alloc, Ample));
+    assert_none_wrong(&rt, wrong_split::<4>(&rt, alloc, Ample));
+    assert_none_wrong(&rt, wrong_split::<8>(&rt, alloc, Ample));
+    assert_none_wrong(&rt, wrong_split::<30>(&rt, alloc, Ample));
+}
+
+#[test]
+fn only_a_rest_that_outgrows_the_limit_takes_memory(rt: HostRuntime) {
+    let alloc = rt.alloc();
+    assert_none_wrong(&rt, wrong_split::<0>(&rt, alloc, Held));
+    assert_none_wrong(&rt, wrong_split::<8>(&rt, alloc, Held));
+    assert_none_wrong(&rt, wrong_split::<30>(&rt, alloc, Held));
+    // One request, of the rest's 40 bytes.
+    let row = (A_TEN_CLEFS, 1, "a", TEN_CLEFS);
+    assert!(rt; is_split::<30>(&rt, alloc, None, OneBlock(40), &row));
+}
+
+/// A text, and the same in upper and in lower case.
+type CaseRow = (&'static str, &'static str, &'static str);
+
+const CASES: &[CaseRow] = rows! {
+    ("", "", ""), ("a", "A", "a"), ("Z", "Z", "z"), ("az", "AZ", "az"), ("AZ", "AZ", "az"),
+    ("`{@[", "`{@[", "`{@["), ("aé", "Aé", "aé"), ("ÉÀ", "ÉÀ", "ÉÀ"), ("ß", "ß", "ß"),
+    ("ſK", "ſK", "ſk"), ("𝄞z", "𝄞Z", "𝄞z"), ("hello, World", "HELLO, WORLD", "hello, world"),
+    ("straße 09_Z", "STRAßE 09_Z", "straße 09_z"), ("İı ǆ Σς", "İı ǆ Σς", "İı ǆ Σς"),
+    ("zzzzzzzzzzzzzzzzzzzzzzzzzzzzzzQ", "ZZZZZZZZZZZZZZZZZZZZZZZZZZZZZZQ",
+        "zzzzzzzzzzzzzzzzzzzzzzzzzzzzzzq"),
+};
+
+/// Whether an array that holds the text has these cases, also where it starts one byte further in.
+fn is_cased_in_an_array<const N: usize>(row: &CaseRow) -> bool
+    requires { N ≤ 300 }
+{
+    let &(content, upper, lower) = row;
+    if N < content.len() {
+        return true;
+    }
+    let mut text = InlineStringN::<N>::from(content);
+    if text.is_char_boundary(0) && text.insert(0, 'x').is_ok() {
+        if text.is_char_boundary(0) && 0 < text.len() {
+            text.remove(0);
+        }
+    }
+    let mut other = text.copy();
+    text.make_ascii_uppercase();
+    other.make_ascii_lowercase();
+    text.as_str() == upper && other.as_str() == lower
+}
+
+/// Whether a text that is made with this capacity has these cases, where it is stored.
+fn is_cased<const N: usize>(
+    rt: &impl Abort,
+    alloc: Global,
+    room: Option<usize>,
+    row: &CaseRow,
+) -> bool {
+    let &(content, upper, lower) = row;
+    let mut text: InlinableStringN<N> = text_of(rt, alloc, room, content);
+    let (storage, capacity) = (text.storage(), text.capacity());
+    text.make_ascii_uppercase();
+    let is_upper = is_lying(&text, upper, storage);
+    text.make_ascii_lowercase();
+    is_upper && is_lying(&text, lower, storage) && text.capacity() == capacity
+}
+
+/// The first row that is wrong, in an array, as the text is made, and on the heap.
+fn wrong_case<const N: usize>(rt: &impl Abort, alloc: Global) -> Option<usize>
+    requires { N ≤ 300 }
+{
+    CASES.iter().position(|row| {
+        !is_cased_in_an_array::<N>(row)
+            || !is_cased::<N>(rt, alloc, None, row)
+            || !is_cased::<N>(rt, alloc, Some(N + 1), row)
+    })
+}
+
+#[test]
+fn ascii_letters_alone_change_their_case(rt: HostRuntime) {
+    let alloc = rt.alloc();
+    assert_none_wrong(&rt, wrong_case::<0>(&rt, alloc));
+    assert_none_wrong(&rt, wrong_case::<4>(&rt, alloc));
+    assert_none_wrong(&rt, wrong_case::<8>(&rt, alloc));
+    assert_none_wrong(&rt, wrong_case::<30>(&rt, alloc));
+}
+
+#[test]
+fn a_copy_is_a_text_of_its_own(rt: HostRuntime) {
+    let mut text = InlineStringN::<8>::from("aé");
+    let copy = text.copy();
+    text.clear();
+    assert!(rt; text.is_empty() && copy.as_str() == "aé");
+    assert!(rt; InlineStringN::<0>::new().copy().is_empty());
+}
+
+/// A text, the capacity that it is made with, the memory that is left, and whether it becomes a
+/// `String`.
+type StringRow = (&'static str, Option<usize>, Memory, bool);
+
+const STRINGS: &[StringRow] = &[
+    ("", None, Ample, true),
+    ("abcd", None, Ample, true),
+    (TEN_CLEFS, None, Ample, true),
+    ("", Some(31), Held, true),
+    ("abcd", Some(31), Held, true),
+    (TEN_CLEFS, None, Held, true),
+    ("abcd", None, Held, false),
+    (LETTERS_30, None, Held, false),
+    // One request.
+    ("é", None, OneBlock(24), true),
+];
+
+/// Whether the text becomes a `String`, with its capacity if it is on the heap, or is returned.
+fn is_handed_over(rt: &impl Abort, alloc: Global, row: &StringRow) -> bool {
+    let &(content, room, memory, wanted) = row;
+    let text: InlinableString = text_of(rt, alloc, room, content);
+    let (storage, capacity) = (text.storage(), text.capacity());
+    let hoard = hold(rt, alloc, memory);
+    let handed = text.into_string();
+    drop(hoard);
+    match handed {
+        Ok(string) => {
+            let is_kept = storage == Inline || StringExt::capacity(&string) == capacity;
+            wanted && is_kept && string.as_str() == content
+        }
+        Err(same) => !wanted && same.capacity() == capacity && is_lying(&same, content, Inline),
+    }
+}
+
+#[test]
+fn a_text_becomes_a_string(rt: HostRuntime) {
+    let ample = STRINGS.iter().take(3);
+    assert!(rt;
+        ample
+            .copied()
+            .all(|row| is_handed_over(&rt, rt.alloc(), &row))
+    );
+}
+
+#[test]
+fn a_text_becomes_a_string_without_memory_if_it_is_on_the_heap(rt: HostRuntime) {
+    let wrong = STRINGS
+        .iter()
+        .position(|row| !is_handed_over(&rt, rt.alloc(), row));
+    assert_none_wrong(&rt, wrong);
+}
+
+/// Whether texts are made of a `String` as of its `str`, and give it back.
+fn is_converted<const N: usize>(rt: &impl Abort, alloc: Global, content: &str) -> bool
+    requires { N ≤ 300 }
+{
+    let string = String::from_str(alloc, content).expect(rt, "memory");
+    let is_taken = match InlineStringN::<N>::try_from(string) {
+        Ok(text) => content.len() <= N && text.as_str() == content,
+        Err(back) => N < content.len() && back.as_str() == content,
+    };
+    let string = String::from_str(alloc, content).expect(rt, "memory");
+    let text: InlinableStringN<N> = string.into();
+    let is_made = is_lying(&text, content, made_at(content.len(), N));
+    let back = String::try_from(text);
+    is_taken && is_made && matches!(back, Ok(string) if string.as_str() == content)
+}
+
+#[test]
+fn texts_are_made_of_strings_and_give_them_back(rt: HostRuntime) {
+    let alloc = rt.alloc();
+    for content in [
+        "", "a", "abcd", "abcde", "𝄞", "12345678", LETTERS_30, LETTERS_31,
+    ] {
+        assert!(rt; is_converted::<0>(&rt, alloc, content), "{content}");
+        assert!(rt; is_converted::<4>(&rt, alloc, content), "{content}");
+        assert!(rt; is_converted::<8>(&rt, alloc, content), "{content}");
+        assert!(rt; is_converted::<30>(&rt, alloc, content), "{content}");
+    }
+}
