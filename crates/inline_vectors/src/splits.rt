@@ -82,10 +82,15 @@ fn is_split<const N: usize>(
 }
 
 /// The first row that is wrong, in an array, as the text is made, and on the heap.
-fn wrong_split<const N: usize>(rt: &impl Abort, alloc: Global, memory: Memory) -> Option<usize>
+fn wrong_split<const N: usize>(
+    rt: &impl Abort,
+    alloc: Global,
+    memory: Memory,
+    rows: &[SplitRow],
+) -> Option<usize>
     requires { N ≤ 300 }
 {
-    for (i, row) in SPLITS.iter().enumerate() {
+    for (i, row) in rows.iter().enumerate() {
         if !is_split_in_an_array::<N>(row)
             || !is_split::<N>(rt, alloc, None, memory, row)
             || !is_split::<N>(rt, alloc, Some(N + 1), memory, row)
@@ -99,18 +104,24 @@ fn wrong_split<const N: usize>(rt: &impl Abort, alloc: Global, memory: Memory) -
 #[test]
 fn a_text_is_split_as_a_string_is(rt: HostRuntime) {
     let alloc = rt.alloc();
-    assert_none_wrong(&rt, wrong_split::<0>(&rt, alloc, Ample));
-    assert_none_wrong(&rt, wrong_split::<4>(&rt, alloc, Ample));
-    assert_none_wrong(&rt, wrong_split::<8>(&rt, alloc, Ample));
-    assert_none_wrong(&rt, wrong_split::<30>(&rt, alloc, Ample));
+    assert_none_wrong(&rt, wrong_split::<0>(&rt, alloc, Ample, SPLITS));
+    assert_none_wrong(&rt, wrong_split::<4>(&rt, alloc, Ample, SPLITS));
+    assert_none_wrong(&rt, wrong_split::<8>(&rt, alloc, Ample, SPLITS));
+    assert_none_wrong(&rt, wrong_split::<30>(&rt, alloc, Ample, SPLITS));
 }
+
+/// Rests of at most 8 bytes, of at most 30, and of more. Few, since memory is held for each.
+const LONG_SPLITS: &[SplitRow] = rows! {
+    ("abcdefgh", 0, "", "abcdefgh"), (LETTERS_31, 1, "a", LETTERS_30),
+    (A_TEN_CLEFS, 1, "a", TEN_CLEFS),
+};
 
 #[test]
 fn only_a_rest_that_outgrows_the_limit_takes_memory(rt: HostRuntime) {
     let alloc = rt.alloc();
-    assert_none_wrong(&rt, wrong_split::<0>(&rt, alloc, Held));
-    assert_none_wrong(&rt, wrong_split::<8>(&rt, alloc, Held));
-    assert_none_wrong(&rt, wrong_split::<30>(&rt, alloc, Held));
+    assert_none_wrong(&rt, wrong_split::<0>(&rt, alloc, Held, LONG_SPLITS));
+    assert_none_wrong(&rt, wrong_split::<8>(&rt, alloc, Held, LONG_SPLITS));
+    assert_none_wrong(&rt, wrong_split::<30>(&rt, alloc, Held, LONG_SPLITS));
     // One request, of the rest's 40 bytes.
     let row = (A_TEN_CLEFS, 1, "a", TEN_CLEFS);
     assert!(rt; is_split::<30>(&rt, alloc, None, OneBlock(40), &row));
