@@ -23,12 +23,7 @@ returns-in-Ok-clause-known c = λ id is.
     (refl, cc)
 
 pub returns-in-Ok-clause-new : goal.returns-in-Ok-clause-new
-returns-in-Ok-clause-new c = λ none. absurd (none c.index.result.now
-    (rw (← c.self.view_is) ((found_at (texts_of c.self.inside) c.self.inside.order.items
-    c.args.text.now c.in-Ok.at
-    c.index.result.now c.self.invariant
-    (rw (c.deref.ensures.value, c.deref-2.ensures.value) at c.in-Ok.ensures.found)
-    c.index.ensures c.index.result.now).0 refl)))
+returns-in-Ok-clause-new c = λ none. absurd (none c.index.result.now (returns-in-Ok-clause-id c))
 
 pub returns-in_err-text-in-Err-clause-known : goal.returns-in_err-text-in-Err-clause-known
 returns-in_err-text-in-Err-clause-known c = λ id is. absurd (no_id (texts_of c.self.inside)
