@@ -63,6 +63,9 @@ WRONG_CLAUSES, CALLERS = 5, 136
 # Lemmas, answers to goals and definitions, and paths and names in backticks that the documents cite.
 PROOFS, CITED = 1_300, 400
 
+# Blocks of `unsafe`, each with its condition in ARCHITECTURE or in a test: just as many.
+UNSAFE = {'library': 13, 'others': 4}
+
 # For `gate quick`: functions of the library that are proved, and by crate, tests that must pass without being
 # proved, and how many at most may say that they need the proved build.
 QUICK_PROVED = 14

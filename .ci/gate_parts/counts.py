@@ -8,7 +8,7 @@ import os
 import re
 from collections import Counter
 
-from floors import CITED, PROOFS
+from floors import CITED, PROOFS, UNSAFE
 from gate_parts.options import options
 from gate_parts.tree import TOP, text_of, too_few
 
@@ -21,7 +21,7 @@ EDIT_FOLDERS = ('must-fail', 'must-fail-together', 'wrong-definitions', 'wrong-c
 CHECKED, SOURCES = ('.rt', '.antt'), ('.rt', '.antt', '.py', '.rs', '.cpp')
 READ = (*SOURCES, '.edits', '.md')
 TEST_MODULE = re.compile(r'^#\[cfg\(test\)\]\n *mod (\w+);', re.MULTILINE)
-UNSAFE = re.compile(r'^(?! *//).*\bunsafe \{', re.MULTILINE)
+UNSAFE_BLOCK = re.compile(r'^(?! *//).*\bunsafe \{', re.MULTILINE)
 IMPORT = re.compile(r' *(pub )?(ghost )?(use|mod) ')
 # The name of a declaration, after what may stand before one.
 DECLARED = re.compile(r' *(?:(?:pub|abbrev|record) )*([^\s:({]+)')
@@ -77,16 +77,22 @@ def kind_of(path, tests):
 
 
 def print_lines(texts):
-    """Prints the lines of the tree by kind, and how many `unsafe` blocks there are."""
-    tests, lines, unsafe = set(test_paths(texts)), Counter(), Counter()
+    """Prints the lines of the tree by kind."""
+    tests, lines = set(test_paths(texts)), Counter()
     for path, text in texts.items():
         lines[kind_of(path, tests)] += text.count('\n')
-        if path.endswith('.rt'):
-            unsafe[path.split('/')[1] == LIBRARY] += len(UNSAFE.findall(text))
     for kind in sorted(lines):
         print(f'{lines[kind]:>8,}  {kind}')
     print(f'{sum(lines.values()):>8,}  the whole tree')
-    print(f'{unsafe[True]:>8,}  unsafe blocks of the library, and {unsafe[False]} of other crates')
+
+
+def unknown_unsafe(texts):
+    """In words, whether the library or the other crates have another number of `unsafe` blocks."""
+    found = Counter()
+    for path, text in texts.items():
+        if path.endswith('.rt'):
+            found['library' if path.split('/')[1] == LIBRARY else 'others'] += len(UNSAFE_BLOCK.findall(text))
+    return [] if found == Counter(UNSAFE) else [f'unsafe blocks: {dict(found)}, and {UNSAFE} are known']
 
 
 def proofs_in(text):
@@ -173,7 +179,7 @@ def main(words):
     texts = texts_by_path()
     print_lines(texts)
     (proofs, wrong), (cited, absent) = too_long(texts), missing(texts)
-    wrong += [*absent, *odd_words(texts),
+    wrong += [*absent, *odd_words(texts), *unknown_unsafe(texts),
               *too_few({'proofs': proofs, 'names': cited}, {'proofs': PROOFS, 'names': CITED})]
     print(*wrong, f'{proofs} proofs and {cited} names were looked at, {len(wrong)} faults', sep='\n')
     return not wrong

@@ -17,7 +17,7 @@ FLOORS = '''
 EDITS, MUST_FAIL, WRONG_DEFINITIONS, WRONG_CLAUSES, CALLERS = {'toy': 1}, {'toy': 1}, {'toy': 1}, 1, 1
 REFUSALS, WRONG_BODIES = {'toy': (2, 3)}, 2
 BENCH_WORKLOADS, BENCH_TEXTS = 1, {'One': 1, 'Two': 1}
-PROOFS, CITED = 2, 2
+PROOFS, CITED, UNSAFE = 2, 2, {}
 '''
 SOURCE = '''pub const LIMIT: usize = 1;
 
@@ -181,6 +181,7 @@ BROKEN = (
     ('counts', 'there is no rows::law', 'README.md', 'rows::row', 'rows::law'),
     ('counts', '1 are `names`, and at least 2 must be', 'README.md', '`rows::row`', 'a row'),
     ('counts', '1 are `proofs`, and at least 2 must be', PROOF, '', None),
+    ('counts', "unsafe blocks: {'others': 1}", LIB, '    1\n', '    unsafe { 1 }\n'),
     ('counts', 'more than 100 columns', LIB, '    1\n', '    1 + ' + '1' * 93 + '\n'),
     ('counts', 'more than 500 lines', LIB, '    1\n', '    1\n' * 500),
     ('counts', 'one has 31 lines', PROOF, '1\n', '1\n' + '    1\n' * 30))
