@@ -2,7 +2,8 @@
 
 The edits of `wrong-clauses` are all applied at once: the library must still be proved, and the callers that
 they name must be refused, which are proved as things are, with no proof of their own. The program of the
-README is pasted into a new crate, where it must be proved and print what the README says.
+README is pasted into a new crate, where it must be proved and print what the README says; and the README
+must name the C functions that a program calls.
 """
 import os
 import re
@@ -16,9 +17,14 @@ from gate_parts.rooms import Room, copies, require_proof, said_of
 from gate_parts.tree import Failure, crate_folder, crates_with, in_tree, run_rt, text_of, write_text
 
 FOLDER = 'wrong-clauses'
-CRATE = 'callers'
+CRATE, PROGRAM = 'callers', 'inline_script'
 ENSURES = re.compile(r'^ *ensures\b', re.MULTILINE)
-PROGRAM = re.compile(r'^```rust\n(.*?)^```$', re.MULTILINE | re.DOTALL)
+FIRST = re.compile(r'^```rust\n(.*?)^```$', re.MULTILINE | re.DOTALL)
+
+
+# A C function that a program reaches, and what the README says of them.
+REACHED = re.compile(r'^ *\S+::(\w+) +reached$', re.MULTILINE)
+TRUSTED = re.compile('of which the program calls (.*?) \\(', re.DOTALL)
 
 
 def promising(text):
@@ -40,13 +46,23 @@ def require_first_program(top, library):
     """The first program of the README is proved in a new crate, and prints what the README says."""
     readme, folder = text_of(in_tree('README.md')), crate_folder('pasted', top)
     os.makedirs(os.path.join(folder, 'src'))
-    write_text(os.path.join(folder, 'src', 'main.rt'), PROGRAM.search(readme)[1])
+    write_text(os.path.join(folder, 'src', 'main.rt'), FIRST.search(readme)[1])
     write_text(os.path.join(top, 'crates.txt'), text_of(in_tree('crates.txt')) + f'pasted: {library}\n')
     said, status = run_rt(folder, 'run')
     printed = said.splitlines()[-1]
     if status or f'It prints `{printed}`' not in readme:
         raise Failure(f'the first program of the README does not run as it says:\n{said}')
     print(f'the first program of the README prints {printed}', flush=True)
+
+
+def require_trusted():
+    """The README names each C function that the program calls, and no other."""
+    said, _ = run_rt(crate_folder(PROGRAM), 'check', '--list-axioms')
+    reached = set(REACHED.findall(said))
+    named = set(re.findall(r'`(\w+)`', TRUSTED.search(text_of(in_tree('README.md')))[1]))
+    if not reached or reached != named:
+        raise Failure(f'{PROGRAM} calls other C functions than the README names: {reached ^ named}\n{said}')
+    print(f'{PROGRAM} calls {len(reached)} C functions, as the README says', flush=True)
 
 
 def are_needed(library, edits, jobs):
@@ -70,4 +86,5 @@ def main(words):
     if count < WRONG_CLAUSES:
         raise Failure(f'there are {count} edits of clauses, and must be {WRONG_CLAUSES}')
     require_callers()
+    require_trusted()
     return all([are_needed(library, own, jobs) for library, own in edits.items()])

@@ -95,12 +95,14 @@ refused = os.environ.get('REFUSED', '').split() if os.environ['WORD'] in text el
 if refused:
     print(os.environ.get('ERROR', ''))
 asked = [words[at + 1] for at, word in enumerate(words) if word == '--only']
-for function in asked or {'toy': ['one', 'other'], 'above': ['row'], 'callers': ['call'], 'pasted': ['main']}[crate]:
+for function in asked or {'toy': ['one', 'other'], 'above': ['row'], 'callers': ['call'], 'pasted': ['main'], 'inline_script': ['main']}[crate]:
     if crate + '/' + function.split('::')[-1] in refused:
         print('note: src/lib.rt:1:1: it is not proved that all is well (`returns-clause-value`); so it is')
         print(f'fn {crate}::{function}: no proof: expected answers in ./proofs')
     else:
         print(f'fn {crate}::{function}: proved')
+if '--list-axioms' in words:
+    print('  libc::read   reached')
 sys.exit(any(each.startswith(crate + '/') for each in refused))
 '''
 TOGETHER, ALONE = 'crates/toy/must-fail-together/lib.edits', 'crates/toy/must-fail/two_for_other.edit'
@@ -110,16 +112,18 @@ BODIES, OTHER_BODIES = 'crates/toy/wrong-bodies/lib.edits', 'crates/toy/wrong-bo
 PROOF = 'crates/toy/proofs/Toy.antt'
 REPOSITORY = {
     '.ci/floors.py': text_of(in_tree('.ci', 'floors.py')) + FLOORS, 'HANDLES': 'Handles allowed: none.\n',
-    'crates.txt': 'toy:\nabove: toy\ncallers: toy\n', 'bin/rt': STAND_IN, 'bin/program': SUMMING,
+    'crates.txt': 'toy:\nabove: toy\ncallers: toy\ninline_script: toy\n', 'bin/rt': STAND_IN, 'bin/program': SUMMING,
     LIB: SOURCE, 'crates/toy/src/laws.rt': LAW, 'crates/toy/specs/Lib.antt': 'pub mod Word\n',
     'crates/toy/specs/Word.antt': 'word = 1\n', 'crates/above/src/lib.rt': 'pub mod rows;\n',
     'crates/above/src/rows.rt': LAW.replace('law', 'row'),
     'crates/callers/src/lib.rt': SOURCE.replace('one', 'call'), TOGETHER: EDIT, LISTED: TABLE,
+    'crates/inline_script/src/main.rt': 'fn main() {}\n',
     ALONE: 'file: src/lib.rt\nold:     one()\nnew:     2\n', DEFINITIONS: DEFINITION, CLAUSES: CLAUSE,
     BODIES: BODY, OTHER_BODIES: OTHER_BODY.replace('two_for', 'three_for'),
     'bench/sums.py': text_of(in_tree('bench', 'sums.py')), 'bench/workloads.py': WORKLOADS,
     'bench/sums': '11 from 6\n', PROOF: 'one = 1\n',
-    'README.md': '```rust\nfn main() {}\n```\nIt prints `fn pasted::main: proved`. `toy/src/lib.rt` has `rows::row`.\n'}
+    'README.md': '```rust\nfn main() {}\n```\nIt prints `fn pasted::main: proved`. `toy/src/lib.rt` has `rows::row`.\n'
+                 'C files, of which the program calls `read` (so `rt` lists).\n'}
 # By part, the words behind it and the environment in which it passes.
 IN_ORDER = {
     'edits': ('--jobs 2', {'WORD': '    2\n', 'REFUSED': 'toy/one toy/other'}),
@@ -159,6 +163,7 @@ BROKEN = (
     ('callers', 'there are 1 edits of clauses', '.ci/floors.py', '}, 1, 1\n', '}, 2, 1\n'),
     # (the folder stays)
     ('callers', 'does not run as it says', 'README.md', 'main: proved', 'main: not proved'),
+    ('callers', 'other C functions', 'README.md', '`read`', '`read`, `write`'),
     ('callers', 'a folder proofs', 'crates/callers/proofs/Lib.antt', '', 'one = 1\n'),
     ('refusals', None, {'SECOND': 'none 2 1,one 2 1,last 2 1'}),
     ('refusals', 'TOO FEW', {'FIRST': 'one 1 0,last 1 0,none 1 0'}),
