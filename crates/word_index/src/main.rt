@@ -1,5 +1,6 @@
 //! Prints the words of standard input, the most frequent first: how often each comes, the line of
 //! its first use, and the word. Words are separated by white space. `--top N` prints the first `N`.
+//! While it reads a long input, standard error shows how many lines it has read.
 #![tactic(auto)]
 
 mod fault;
@@ -24,8 +25,11 @@ fn main(rt: HostRuntime) -> ExitCode {
     }
 }
 
+/// How many lines are read between two lines of progress on standard error.
+const LINES_BETWEEN_REPORTS: usize = 100_000;
+
 /// Reads all of standard input, and prints its words.
-fn print_index<R: Env + Input + Print + AllocGlobal>(rt: &R) -> Result<(), Fault> {
+fn print_index<R: Env + Input + Print + Eprint + AllocGlobal>(rt: &R) -> Result<(), Fault> {
     let most = most_of(rt)?;
     let index = read_index(rt)?;
     let mut out = BufWriter::new(rt.alloc(), io::writer(rt)).map_err(Fault::of_writing)?;
@@ -51,13 +55,17 @@ fn most_of<R: Env + AllocGlobal>(rt: &R) -> Result<usize, Fault> {
 }
 
 /// The index of the lines of standard input, which are numbered from 1.
-fn read_index<R: Input + AllocGlobal>(rt: &R) -> Result<Index, Fault> {
+fn read_index<R: Input + Eprint + AllocGlobal>(rt: &R) -> Result<Index, Fault> {
     let mut index = Index::new(rt.alloc());
     let reader = BufReader::new(rt.alloc(), rt.reader()).map_err(Fault::of_reading)?;
     let mut number: usize = 0;
     for line in reader.lines(rt.alloc()) {
         number = number.saturating_add(1);
         index.add_line(line.map_err(Fault::of_reading)?.as_str(), number)?;
+        if number % LINES_BETWEEN_REPORTS == 0 {
+            // Progress that can't be shown is no reason to stop.
+            let _ = eprintln!(rt; "word_index: {number} lines");
+        }
     }
     Ok(index)
 }
