@@ -104,13 +104,14 @@ module _ {A S : Type 0} (text_of : List A → List ℕ) (gives : S → Option A 
       )
 
   -- the refusal of x, which came after these items
-  pub stopped : {T E : Type 0} (r : Result T E) (mid new : TextState) (x : A) (v : List ℕ) (k : ℕ)
-      → Grown old (text_of items) mid → text_of (items ++ x ∷ []) ≡ text_of items ++ v
-      → k ≡ size v → (HasRoom mid k → false ≡ true) → IsSameText mid new
-      → gives here (Some x) rest
+  pub stopped : {T E : Type 0} (r : Result T E) → IsErr r → (mid new : TextState) (x : A)
+      (v : List ℕ) (k : ℕ) → Grown old (text_of items) mid
+      → text_of (items ++ x ∷ []) ≡ text_of items ++ v → k ≡ size v
+      → (HasRoom mid k → false ≡ true) → IsSameText mid new → gives here (Some x) rest
       → OnErr r (SomeRun gives it (λ run. IsRefusedLast text_of old run.items new))
       × (EachRunFrom gives it (λ run. HasRoom old (size (text_of run.items))) → IsOk r)
-  stopped r mid new x v k g whole counted none same step =
+      × IsErr r
+  stopped r is mid new x v k g whole counted none same step =
       let run = run_of_turn gives it items here (rw from at led) x rest step in
       let more : old.capacity < size old.text + size (text_of (items ++ x ∷ [])) =
       above_room old mid (text_of items) v _ k g whole counted none in
@@ -125,7 +126,7 @@ module _ {A S : Type 0} (text_of : List A → List ℕ) (gives : S → Option A 
           above = rw run.2.0 more;
         },
       ) in
-      (refused r last, λ fits. absurd (all_fit text_of gives it old new last fits))
+      (refused r last, λ fits. absurd (all_fit text_of gives it old new last fits), is)
 
 -- the empty text, as it is made
 abbrev empty_state : ℕ → TextState
