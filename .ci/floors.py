@@ -57,8 +57,8 @@ HOSTILE = {'accepted': 1_200, **dict.fromkeys((
 # Edits in `wrong-definitions/`, by crate: just as many.
 WRONG_DEFINITIONS = {'inlinable_string': 140, 'script_language': 90}
 
-# Edits in `wrong-clauses/`, and public functions of `callers` that promise something.
-WRONG_CLAUSES, CALLERS = 5, 136
+# Edits in `wrong-clauses/`, by crate: just as many. Public functions of `callers` that promise something.
+WRONG_CLAUSES, CALLERS = {'inlinable_string': 5}, 136
 
 # Lemmas, answers to goals and definitions, and paths and names in backticks that the documents cite.
 PROOFS, CITED = 1_300, 400

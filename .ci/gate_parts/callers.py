@@ -14,7 +14,7 @@ from gate_parts.edit_files import edits_of, texts_with
 from gate_parts.edits import are_refused, functions_of, sources
 from gate_parts.options import options
 from gate_parts.rooms import Room, copies, require_proof, said_of
-from gate_parts.tree import Failure, crate_folder, crates_with, in_tree, run_rt, text_of, write_text
+from gate_parts.tree import Failure, crate_folder, crates_with, in_tree, run_in, text_of, write_text
 
 FOLDER = 'wrong-clauses'
 CRATE, PROGRAM = 'callers', 'inline_script'
@@ -48,7 +48,7 @@ def require_first_program(top, library):
     os.makedirs(os.path.join(folder, 'src'))
     write_text(os.path.join(folder, 'src', 'main.rt'), FIRST.search(readme)[1])
     write_text(os.path.join(top, 'crates.txt'), text_of(in_tree('crates.txt')) + f'pasted: {library}\n')
-    said, status = run_rt(folder, 'run')
+    said, status = run_in(folder, 'rt', 'run')
     printed = said.splitlines()[-1]
     if status or f'It prints `{printed}`' not in readme:
         raise Failure(f'the first program of the README does not run as it says:\n{said}')
@@ -80,11 +80,8 @@ def are_needed(library, edits, jobs):
 
 def main(words):
     jobs = options('callers', __doc__, words, '--jobs').jobs
-    edits = {library: edits_of(os.path.join(crate_folder(library), FOLDER), library, CRATE)
-             for library in crates_with(FOLDER)}
-    count = sum(map(len, edits.values()))
-    if count < WRONG_CLAUSES:
-        raise Failure(f'there are {count} edits of clauses, and must be {WRONG_CLAUSES}')
+    edits = {library: edits_of(library, FOLDER, WRONG_CLAUSES, CRATE)
+             for library in {*crates_with(FOLDER), *WRONG_CLAUSES}}
     require_callers()
     require_trusted()
     return all([are_needed(library, own, jobs) for library, own in edits.items()])

@@ -128,10 +128,7 @@ def add_row(room, files, row, at, number, copied):
 
 def wrong_definitions(crate):
     """The edits of the crate, as many as are said; each changes definitions alone."""
-    edits = edits_of(os.path.join(crate_folder(crate), FOLDER), crate)
-    said = WRONG_DEFINITIONS.get(crate, 0)
-    if len(edits) != said:
-        raise Failure(f'{crate} has {len(edits)} wrong definitions, and floors.py says {said}')
+    edits = edits_of(crate, FOLDER, WRONG_DEFINITIONS)
     for edit in edits:
         if any(not change.path.startswith('specs/') for change in edit.changes):
             raise Failure(f'{crate}: {edit.name} must change files of specs/, and no others')

@@ -7,7 +7,7 @@ import os
 import re
 from collections import Counter, defaultdict, namedtuple
 
-from gate_parts.tree import Failure, text_of
+from gate_parts.tree import Failure, crate_folder, text_of
 
 ENDING = '.edits'
 CHANGE = r'(?:file: (.+)\n)?(?:after: (.+)\n)?old: (.+)\nnew:(?: (.*))?\n'
@@ -26,18 +26,26 @@ class Edit(namedtuple('Edit', 'name goals changes touches', defaults=[()])):
         return {(goal.crate, goal.function) for goal in self.goals}
 
 
-def edits_of(folder, crate, named=None):
-    """The edits in all files of a folder of the crate; with `named`, they name functions of that one."""
+def edits_of(crate, name, said, named=None):
+    """The edits in all files of this folder of the crate, as many as floors.py says by crate; with `named`,
+    they name functions of that one."""
+    folder = os.path.join(crate_folder(crate), name)
     paths = sorted(os.path.join(place, name) for place, _, names in os.walk(folder) for name in names)
     for path in paths:
         if not path.endswith(ENDING):
             raise Failure(f'{path}: a file of edits ends in {ENDING}')
     edits = [edit for path in paths for edit in read_edits(path, crate)]
     refuse_repetitions(folder, edits)
+    require_as_many(crate, name, edits, said)
     for goal in (goal for edit in edits for goal in edit.goals):
         if named not in (None, goal.crate):
             raise Failure(f'{folder}: {goal.crate}/{goal.function} is named, which is not of {named}')
     return edits
+
+
+def require_as_many(crate, name, edits, said):
+    if len(edits) != said.get(crate, 0):
+        raise Failure(f'{crate} has {len(edits)} edits in {name}, and floors.py says {said.get(crate)}')
 
 
 def refuse_repetitions(folder, edits):

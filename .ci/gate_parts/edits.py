@@ -11,7 +11,8 @@ from functools import lru_cache
 from time import monotonic
 
 from floors import EDITS, MUST_FAIL
-from gate_parts.edit_files import edits_of, place_of, read_edit, refuse_repetitions, texts_with
+from gate_parts.edit_files import (
+    edits_of, place_of, read_edit, refuse_repetitions, require_as_many, texts_with)
 from gate_parts.options import options
 from gate_parts.rooms import Room, require_proofs, said_of, tried_in_copies
 from gate_parts.said import answers_of, refused_in
@@ -48,11 +49,8 @@ def alone_edit(crate, path, name, refused):
 
 def own_edits(crate):
     """The edits of the crate, which name functions of it alone; as many as are said."""
-    together = edits_of(os.path.join(crate_folder(crate), FOLDER), crate, crate)
-    alone = must_fail_edits(crate)
-    for edits, said, folder in ((together, EDITS, FOLDER), (alone, MUST_FAIL, ALONE)):
-        if len(edits) != said.get(crate, 0):
-            raise Failure(f'{crate} has {len(edits)} edits in {folder}, and floors.py says {said.get(crate)}')
+    together, alone = edits_of(crate, FOLDER, EDITS, crate), must_fail_edits(crate)
+    require_as_many(crate, ALONE, alone, MUST_FAIL)
     refuse_repetitions(crate, together + alone)
     return together + alone
 

@@ -63,8 +63,7 @@ def input_of(case):
     if case.io in ('stdin-dir', 'stdin-zero'):
         return os.open('/' if case.io == 'stdin-dir' else '/dev/zero', os.O_RDONLY), None
     file = os.memfd_create('input')
-    with os.fdopen(os.dup(file), 'wb') as writing:
-        writing.write(case.input)
+    os.write(file, case.input)
     os.lseek(file, 0, os.SEEK_SET)
     return file, None
 

@@ -15,7 +15,7 @@ from functools import partial
 from floors import QUICK_PROVED, TRIED
 from gate_parts.options import options
 from gate_parts.refusals import ENDED, TEST
-from gate_parts.tree import PROCESSORS, crate_folder, run_rt, text_of
+from gate_parts.tree import PROCESSORS, crate_folder, run_in, text_of
 
 LIBRARY, PART, PROGRAM = 'inlinable_string', 'run', 'inline_script'
 PROVED = re.compile(r'^only=(\d+) proved=\1$', re.MULTILINE)
@@ -24,14 +24,14 @@ HELD = 'this test needs the proved build'
 
 def part_is_proved():
     """Whether the part of the library is proved, and how many functions."""
-    said, status = run_rt(crate_folder(LIBRARY), 'check', '--only', PART)
+    said, status = run_in(crate_folder(LIBRARY), 'rt', 'check', '--only', PART)
     proved = int((PROVED.search(said) or [0, 0])[1])
     return status == 0 and proved >= QUICK_PROVED, f'{proved} functions of {LIBRARY}::{PART} are proved', said
 
 
 def tests_pass(crate):
     """Whether the tests of a crate pass without being proved, and in words how many did."""
-    said, _ = run_rt(crate_folder(crate), 'try', '--test', '--seconds', '600')
+    said, _ = run_in(crate_folder(crate), 'rt', 'try', '--test', '--seconds', '600')
     found = [(how == 'ok', HELD in printed) for _, how, printed in TEST.findall(said)]
     passed, held = sum(is_well for is_well, _ in found), found.count((False, True))
     failed = len(found) - passed - held + (not ENDED.search(said))

@@ -17,7 +17,7 @@ from floors import REFUSALS, WRONG_BODIES
 from gate_parts.edit_files import read_edits, refuse_repetitions, texts_with
 from gate_parts.options import options
 from gate_parts.rooms import Room, copies
-from gate_parts.tree import Failure, crate_folder, crates_with, run_rt, too_few
+from gate_parts.tree import Failure, crate_folder, crates_with, run_in, too_few
 
 FOLDER = 'wrong-bodies'
 # The allocation that fails over wrong bodies: the first that is one too many may come second.
@@ -65,7 +65,7 @@ def is_swept(crate):
     unseen, meetings, request, requests = {}, 0, 0, 0
     while request <= requests:
         request += 1
-        said = run_rt(crate_folder(crate), 'try', '--test', '--fail-alloc', str(request))[0]
+        said = run_in(crate_folder(crate), 'rt', 'try', '--test', '--fail-alloc', str(request))[0]
         sayings, failed = tests_of(said)
         faults = list(faults_of(request, sayings, unseen))
         met = sum(which == 'one' for each in sayings.values() for which, _, _ in each)
@@ -87,7 +87,7 @@ def are_refused(library, edits, named):
     crate, own = goals[0].crate, {goal.function for goal in goals}
     with copies([library, crate], 1) as (top,), Room(top, library) as room:
         room.write(texts_with(crate_folder(library), edits))
-        said = run_rt(crate_folder(crate, top), 'try', '--test', '--fail-alloc', str(REQUEST))[0]
+        said = run_in(crate_folder(crate, top), 'rt', 'try', '--test', '--fail-alloc', str(REQUEST))[0]
     found = {name: printed for name, how, printed in TEST.findall(said)
              if how != 'ok' or list(faults_of(REQUEST, {name: SAYING.findall(printed)}, {}))}
     faults = [f'{goal.function} does not go wrong with `{goal.name}`' for goal in goals

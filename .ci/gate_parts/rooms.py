@@ -3,10 +3,10 @@ import os
 import shutil
 import tempfile
 from concurrent.futures import ThreadPoolExecutor
-from contextlib import contextmanager
+from contextlib import ExitStack, contextmanager
 from queue import SimpleQueue
 
-from gate_parts.tree import TOP, Failure, crate_folder, run_rt, text_of, with_those_below, write_text
+from gate_parts.tree import TOP, Failure, crate_folder, run_in, text_of, with_those_below, write_text
 
 # Read by `rt` beside the crates.
 AT_THE_TOP = ('crates.txt', 'HANDLES')
@@ -15,7 +15,7 @@ AT_THE_TOP = ('crates.txt', 'HANDLES')
 def said_of(top, crate, jobs, functions=()):
     """What a check of the crate prints, or of these functions of it, and whether they are proved."""
     only = [word for function in functions for word in ('--only', function)]
-    said, status = run_rt(crate_folder(crate, top), 'check', '--jobs', str(jobs), *only)
+    said, status = run_in(crate_folder(crate, top), 'rt', 'check', '--jobs', str(jobs), *only)
     return said, status == 0
 
 
@@ -67,32 +67,26 @@ def tried_in_copies(crates, jobs, work, tasks):
         return list(pool.map(tried, tasks))
 
 
-class Room:
+class Room(ExitStack):
     """A crate of a copy, whose files are changed for a while: `with` gives them their own texts again."""
 
     def __init__(self, top, crate):
-        # what each file had before; None where there was none
-        self.folder, self.before = crate_folder(crate, top), {}
+        super().__init__()
+        self.folder = crate_folder(crate, top)
 
-    def __enter__(self):
-        return self
-
-    def __exit__(self, *_):
-        for path, text in self.before.items():
-            if text is None:
-                os.remove(path)
-            else:
-                write_text(path, text)
+    def text(self, path):
+        """What the file has now; None where there is none."""
+        whole = os.path.join(self.folder, path)
+        return text_of(whole) if os.path.exists(whole) else None
 
     def write(self, texts):
         """Gives files these texts."""
         for path, text in texts.items():
-            whole = os.path.join(self.folder, path)
+            whole, before = os.path.join(self.folder, path), self.text(path)
+            self.callback(*((os.remove, whole) if before is None else (write_text, whole, before)))
             os.makedirs(os.path.dirname(whole), exist_ok=True)
-            self.before.setdefault(whole, text_of(whole) if os.path.exists(whole) else None)
             write_text(whole, text)
 
     def add(self, path, text):
         """Adds to a file that the crate has or lacks."""
-        whole = os.path.join(self.folder, path)
-        self.write({path: (text_of(whole) if os.path.exists(whole) else '') + text})
+        self.write({path: (self.text(path) or '') + text})

@@ -6,15 +6,15 @@ to say why, where one thing is broken: a row of BROKEN. `selftest_cases.py` has 
 import os
 import re
 import shutil
-import subprocess
 import tempfile
 
 from gate_parts import selftest_cases
 from gate_parts.options import options
-from gate_parts.tree import in_tree, text_of, write_text
+from gate_parts.tree import in_tree, run_in, text_of, write_text
 
 FLOORS = '''
-EDITS, MUST_FAIL, WRONG_DEFINITIONS, WRONG_CLAUSES, CALLERS = {'toy': 1}, {'toy': 1}, {'toy': 1}, 1, 1
+EDITS, MUST_FAIL, WRONG_DEFINITIONS, WRONG_CLAUSES = {'toy': 1}, {'toy': 1}, {'toy': 1}, {'toy': 1}
+CALLERS = 1
 REFUSALS, WRONG_BODIES = {'toy': (2, 3)}, 2
 BENCH_WORKLOADS, BENCH_TEXTS = 1, {'One': 1, 'Two': 1}
 PROOFS, CITED, UNSAFE = 2, 2, {}
@@ -155,12 +155,12 @@ BROKEN = (
     ('definitions', None, {'ERROR': ILL.replace('E0', 'E1')}),
     ('definitions', 'changes nothing that above/rows::row', 'crates/above/src/rows.rt', 'word ≡', 'other ≡'),
     ('definitions', 'must change files of specs/', DEFINITIONS, DEFINITION, EDIT),
-    ('definitions', 'toy has 1 wrong definitions', '.ci/floors.py', "{'toy': 1}, 1, 1", '{}, 1, 1'),
+    ('definitions', 'has 1 edits in wrong-definitions', '.ci/floors.py', "1}, {'toy': 1}\n", "2}, {'toy': 1}\n"),
     ('definitions --named three', '0 wrong definitions', {}),
     ('callers', 'call: returns-clause-value is not refused', {'REFUSED': ''}),
     ('callers', 'toy is not proved as it is', {'REFUSED': 'toy/one'}),
-    ('callers', '1 public functions', '.ci/floors.py', '}, 1, 1\n', '}, 1, 2\n'),
-    ('callers', 'there are 1 edits of clauses', '.ci/floors.py', '}, 1, 1\n', '}, 2, 1\n'),
+    ('callers', '1 public functions', '.ci/floors.py', 'CALLERS = 1\n', 'CALLERS = 2\n'),
+    ('callers', 'has 1 edits in wrong-clauses', '.ci/floors.py', '1}\nCALLERS', '2}\nCALLERS'),
     # (the folder stays)
     ('callers', 'does not run as it says', 'README.md', 'main: proved', 'main: not proved'),
     ('callers', 'other C functions', 'README.md', '`read`', '`read`, `write`'),
@@ -213,11 +213,9 @@ class Repository:
         os.chmod(self.path(name), 0o755)
 
     def ran(self, name, *words, **variables):
-        """The exit status of a program of the repository, and what it prints."""
+        """What a program of the repository prints, and its exit status."""
         path = self.path('bin') + os.pathsep + os.environ['PATH']
-        ran = subprocess.run([self.path(name), *words], stdout=subprocess.PIPE, stderr=subprocess.STDOUT,
-                             cwd=self.place, encoding='utf-8', env={**os.environ, 'PATH': path, **variables})
-        return ran.returncode, ran.stdout
+        return run_in(self.place, self.path(name), *words, PATH=path, **variables)
 
     def is_noticed(self, part, why, *broken):
         """Whether a part fails, and says why, where this is broken; with no `why`, whether it passes."""
@@ -227,16 +225,16 @@ class Repository:
         own = REPOSITORY.get(path)
         self.write(path, own.replace(old, new, 1) if own and new is not None else new)
         changed = broken[0] if len(broken) == 1 else {}
-        status, printed = self.ran('.ci/gate', name, *words.split(), *more, **{**variables, **changed})
+        printed, status = self.ran('.ci/gate', name, *words.split(), *more, **{**variables, **changed})
         self.write(path, own)
         return status == 1 and why in printed if why else status == 0
 
 
 def on_options(repository):
     """Whether each part of the gate, and what is no part of it, tells its options."""
-    _, said = repository.ran('.ci/gate')
+    said, _ = repository.ran('.ci/gate')
     for part in re.search('PART is one of: (.*)', said)[1].split(', '):
-        yield f'{part} --help', repository.ran('.ci/gate', part, '--help')[0] == 0
+        yield f'{part} --help', repository.ran('.ci/gate', part, '--help')[1] == 0
 
 
 def on_run(repository):
@@ -246,7 +244,7 @@ def on_run(repository):
     repository.write('bin/rt', PARTS)
     for failing, last in (('none', f'PASSED: all {parts} parts'), ('ci', 'FAILED in rt ci, '),
                           ('hostile', 'FAILED in .ci/gate hostile, ')):
-        status, printed = repository.ran('.ci/run', FAILING=failing)
+        printed, status = repository.ran('.ci/run', FAILING=failing)
         is_kept = 'part bench\n' in text_of(repository.path('out/gate.log'))
         found = [status == 0, printed.count(' .. passed, in ') == parts, is_kept]
         yield f'.ci/run, where {failing} fails', (

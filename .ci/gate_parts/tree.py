@@ -27,10 +27,10 @@ def crate_folder(crate, top=TOP):
     return os.path.join(top, 'crates', crate)
 
 
-def run_rt(folder, *words):
-    """What a command of `rt` prints in a crate's folder, and its exit status."""
-    ran = subprocess.run(['rt', *words], cwd=folder, stdin=subprocess.DEVNULL, stdout=subprocess.PIPE,
-                         stderr=subprocess.STDOUT, encoding='utf-8', errors='replace')
+def run_in(folder, *command, **variables):
+    """What a command prints in a folder, with these variables of its environment, and its exit status."""
+    ran = subprocess.run(command, cwd=folder, env={**os.environ, **variables}, stdin=subprocess.DEVNULL,
+                         stdout=subprocess.PIPE, stderr=subprocess.STDOUT, encoding='utf-8', errors='replace')
     return ran.stdout, ran.returncode
 
 

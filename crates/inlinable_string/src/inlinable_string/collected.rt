@@ -9,8 +9,6 @@ ghost use Rattle.inlinable_string.specs.Joins.{text_of_strs, IsExtended};
 ghost use Rattle.inlinable_string.specs.Values.{inlinable_policy, inlinable_state};
 
 use crate::inlinable_string::InlinableStringN;
-use crate::string_ext::{StringExt, StringMake};
-use crate::well_formed::assume_utf8_param;
 use std::alloc::{AllocError, Global};
 
 impl<const N: usize> Extend<char> for InlinableStringN<N> {
@@ -29,12 +27,7 @@ impl<const N: usize> Extend<char> for InlinableStringN<N> {
             → EachRunFrom U.IntoIter.next_gives it
             (λ run. HasRoom (inlinable_state N self.old) (size run.items))) → IsOk result }
     {
-        // `len` states the laws of the value.
-        let _ = self.len();
-        for ch in iter {
-            self.push(ch)?;
-        }
-        Ok(())
+        self.extend_chars(iter.into_iter())
     }
 }
 
@@ -55,12 +48,7 @@ impl<'a, const N: usize> Extend<&'a str> for InlinableStringN<N> {
             HasRoom (inlinable_state N self.old) (size (text_of_strs run.items))))
             → IsOk result }
     {
-        // `len` states the laws of the value.
-        let _ = self.len();
-        for string in iter {
-            self.push_str(assume_utf8_param(string))?;
-        }
-        Ok(())
+        self.extend_strs(iter.into_iter())
     }
 }
 
@@ -71,9 +59,7 @@ impl<const N: usize> FromIterator<char> for InlinableStringN<N> {
         × ((inlinable_state N t).storage ≡ storage_when_made (inlinable_policy N) (size items)) };
 
     fn from_iter<U: IntoIterator<Item = char>>(alloc: Global, iter: U) -> Result<Self, AllocError> {
-        let mut made = Self::new(alloc);
-        Extend::<char>::extend(&mut made, iter)?;
-        Ok(made)
+        Self::from_chars(alloc, iter.into_iter())
     }
 }
 
@@ -88,8 +74,6 @@ impl<'a, const N: usize> FromIterator<&'a str> for InlinableStringN<N> {
         alloc: Global,
         iter: U,
     ) -> Result<Self, AllocError> {
-        let mut made = Self::new(alloc);
-        Extend::<&'a str>::extend(&mut made, iter)?;
-        Ok(made)
+        Self::from_strs(alloc, iter.into_iter())
     }
 }

@@ -1,19 +1,10 @@
-use Rattle.inlinable_string.proofs.Common.{IsUtf8-string_bytes}
+use Rattle.inlinable_string.proofs.Common.{rules, IsUtf8-string_bytes}
 use Rattle.inlinable_string.proofs.AsciiCase.{lowercased}
 use Rattle.inlinable_string.proofs.Text.{holds_chars}
 use Rattle.inlinable_string.proofs.inlinable_string.InlinableStringN.make_ascii_lowercase.Goals as goal
 
-pub returns-in-Heap-clause-text : goal.returns-in-Heap-clause-text
-returns-in-Heap-clause-text g c =
+pub returns-in-Heap : goal.returns-in-Heap
+returns-in-Heap g c =
     let h = holds_chars (IsUtf8-string_bytes c.in-Heap.text) in
-    rw c.in-Heap.is (lowercased h c.make_ascii_lowercase.ensures.bytes).1
-
-pub returns-in-Heap-clause-bytes : goal.returns-in-Heap-clause-bytes
-returns-in-Heap-clause-bytes g c =
-    let h = holds_chars (IsUtf8-string_bytes c.in-Heap.text) in
-    rw c.in-Heap.is (lowercased h c.make_ascii_lowercase.ensures.bytes).2
-
-pub returns-in-Heap-clause-len : goal.returns-in-Heap-clause-len
-returns-in-Heap-clause-len g c =
-    let h = holds_chars (IsUtf8-string_bytes c.in-Heap.text) in
-    rw c.in-Heap.is (lowercased h c.make_ascii_lowercase.ensures.bytes).3
+    let new = lowercased h c.make_ascii_lowercase.ensures.bytes in
+    rw c.in-Heap.is (search (rules, new.1, new.2, new.3))

@@ -1,17 +1,11 @@
-use Rattle.inlinable_string.proofs.Common.{text_of_strs, inlinable_state}
-use Rattle.inlinable_string.proofs.Extended.{collected}
+use Rattle.inlinable_string.proofs.Common.{text_of_strs, inlinable_policy, inlinable_state, storage_when_made}
+use Rattle.inlinable_string.proofs.Extended.{collects_items}
 use Rattle.inlinable_string.proofs.inlinable_string.collected.InlinableStringNFromIteratorRefStr.from_iter.Goals as goal
 
 pub returns : goal.returns
 returns g c = record {
   ran =
-      let made = c.new-made in
-      let run = c.in_ok-extend.ensures.ran in (
-        run.0,
-        run.1,
-        run.2,
-        search,
-        collected g.row.N made.result made.ensures.text made.ensures.storage (text_of_strs run.1)
-            (inlinable_state g.row.N c.extend.new.self) run.3,
-      );
+      collects_items text_of_strs _ _ _ _ (inlinable_state g.row.N)
+      (storage_when_made (inlinable_policy g.row.N)) _ c.into_iter.ensures.into_iter_gives
+      c.from_strs.ensures.text c.from_strs.ensures.storage;
 }
