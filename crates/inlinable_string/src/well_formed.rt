@@ -1,5 +1,5 @@
 //! A test for UTF-8 that looks at each byte once, without a branch on it.
-ghost use Rattle.std.specs.Prelude.{◌≡◌, ◌↔◌, IsTrue, IsUtf8, IfOk, IfErr, IsOk, MatchOption, slice_index};
+ghost use Rattle.std.specs.Prelude.{◌≡◌, ◌↔◌, IsTrue, IsUtf8, IfOk, IfErr, IsOk, MatchOption, length, slice_index};
 ghost use Rattle.std.specs.Str.{IsAscii};
 ghost use Rattle.std.specs.String.{string_vec, from_utf8_error_vec};
 ghost use Rattle.inlinable_string.specs.WellFormed.{is_state, state_of, Leads};
@@ -65,16 +65,27 @@ const NO_TEXT: u64 = 0o60;
 /// The bytes that are tested for ASCII together.
 const LANES: usize = 16;
 
+/// Those at the front, where a longer text is often ASCII throughout.
+const FRONT_LANES: usize = 64;
+
 /// Returns whether the bytes are UTF-8.
 pub(crate) fn is_utf8(bytes: &[u8]) -> bool
     ensures { IsTrue result ↔ IsUtf8 bytes.now }
 {
+    let mut front = bytes;
+    while FRONT_LANES <= front.len() {
+        let (block, after) = front.split_at(FRONT_LANES);
+        if !is_ascii(block) {
+            break;
+        }
+        front = after;
+    }
     let mut bits = 0;
-    let mut rest = bytes;
+    let mut rest = front;
     while LANES <= rest.len() {
         let (block, after) = rest.split_at(LANES);
         if bits & 63 != 0 || !is_ascii(block) {
-            bits = read(bits, block);
+            bits = read_block(bits, block);
             if bits & 63 == NO_TEXT {
                 return false;
             }
@@ -109,9 +120,19 @@ pub(crate) fn string_from(bytes: Vec<u8>) -> Result<String, FromUtf8Error>
     }
 }
 
-/// Returns the state after the bytes, from the one before them, each in the six low bits.
+/// Returns what [`read`] does, without a loop.
 // Out of line: else its loads go before the test of a block for ASCII, which is then done by bytes.
 #[inline(never)]
+fn read_block(bits: u64, block: &[u8]) -> u64
+    requires state { IsTrue (is_state (state_of bits)) }
+    requires len { length block.now ≡ LANES }
+    ensures { Leads (state_of bits) block.now (state_of result) }
+{
+    read(bits, &block[..LANES])
+}
+
+/// Returns the state after the bytes, from the one before them, each in the six low bits.
+#[inline(always)]
 fn read(bits: u64, bytes: &[u8]) -> u64
     requires { IsTrue (is_state (state_of bits)) }
     ensures { Leads (state_of bits) bytes.now (state_of result) }

@@ -1,25 +1,33 @@
+use Rattle.inlinable_string.proofs.Common.{refl}
 use Rattle.inlinable_string.proofs.WellFormed.{read_block, read_to_end, ascii_block, is_text, no_text}
 use Rattle.std.proofs.lemmas.Bool.{false≢true}
 use Rattle.inlinable_string.proofs.well_formed.is_utf8.Goals as goal
 
+pub loop-front-preserved : goal.loop-front-preserved
+loop-front-preserved c =
+    read_block _ _ _ _ _ _ c.loop-front.invariant c.split_at.ensures.by_index.0
+    (ascii_block _ 0 refl (c.is_ascii.ensures.0 c.if-not-is_ascii.false))
+
 pub returns-then-bits-eq-NO_TEXT : goal.returns-then-bits-eq-NO_TEXT
-returns-then-bits-eq-NO_TEXT c = (
-  (λ false_is. absurd (false≢true false_is)),
-  (λ text. absurd
-      (no_text _ _ _
-      (read_block _ _ _ _ _ _ c.loop-rest.invariant c.split_at.ensures.by_index.0
-      c.read-bits.ensures)
-      c.if-bits-eq-NO_TEXT.true text)),
-)
+returns-then-bits-eq-NO_TEXT c =
+    let parts = c.split_at-in-loop-rest.ensures.by_index.0 in (
+      (λ false_is. absurd (false≢true false_is)),
+      (λ text. absurd
+          (no_text _ _ _
+          (read_block _ _ _ _ _ _ c.loop-rest.invariant parts c.read_block-bits.ensures)
+          c.if-bits-eq-NO_TEXT.true text)),
+    )
 
 pub loop-rest-preserved-else-bits-eq-NO_TEXT : goal.loop-rest-preserved-else-bits-eq-NO_TEXT
 loop-rest-preserved-else-bits-eq-NO_TEXT c =
-    read_block _ _ _ _ _ _ c.loop-rest.invariant c.split_at.ensures.by_index.0 c.read-bits.ensures
+    read_block _ _ _ _ _ _ c.loop-rest.invariant c.split_at-in-loop-rest.ensures.by_index.0
+    c.read_block-bits.ensures
 
 pub loop-rest-preserved : goal.loop-rest-preserved
 loop-rest-preserved c =
-    read_block _ _ _ _ _ _ c.loop-rest.invariant c.split_at.ensures.by_index.0
-    (ascii_block _ _ c.if-bits-ne0.false (c.is_ascii.ensures.0 c.if-not-is_ascii.false))
+    let ascii = c.is_ascii-else-bits-ne0.ensures.0 c.if-not-is_ascii-2.false in
+    read_block _ _ _ _ _ _ c.loop-rest.invariant c.split_at-in-loop-rest.ensures.by_index.0
+    (ascii_block _ _ c.if-bits-ne0.false ascii)
 
 pub returns : goal.returns
 returns c = is_text _ _ (read_to_end _ _ _ _ c.loop-rest.invariant c.read.ensures)
