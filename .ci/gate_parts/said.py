@@ -16,8 +16,9 @@ UNPROVED = re.compile(r'`([^`]+)`: (?!.*was not admitted)')
 # What is left out since it stands on something that was refused; a long list is cut off.
 LEFT_OUT = re.compile(
     r'\d+ declarations? that depends? on `.*, (?:was|were) not checked: (.*?)(?: and \d+ more)?$')
-# A name has gone: that refuses whatever stands on it, true or not.
-GONE = re.compile(r'has no field|has no `|is not in scope|can be named from here')
+# A name has gone: that refuses whatever stands on it, true or not. A hint on how to paste says of a variable
+# that it is not in scope, and is no such error.
+GONE = re.compile(r'has no field|has no `|is not in scope(?! here, so what is shown)|can be named from here')
 
 
 def answers_of(path):

@@ -1,6 +1,7 @@
 //! An error of a caller's own, which `?` makes of each error of the library.
-ghost use Rattle.std.specs.Prelude.{◌≡◌, ◌≢◌, List, ℕ, ◌≤◌, length, Err, IfOk, IsOk, OnErr};
+ghost use Rattle.std.specs.Prelude.{◌≡◌, ◌≢◌, ◌↔◌, List, ℕ, ◌≤◌, length, None, Err, IfOk, IsOk, OnErr};
 ghost use Rattle.serde_json.specs.Data.{string};
+ghost use Rattle.serde_json.specs.Find.{as_str};
 ghost use Rattle.serde_json.specs.View.{view};
 ghost use Rattle.inlinable_string.specs.Text.{bytes_of, size};
 ghost use Rattle.inlinable_string.specs.Utf16.{units_of, HasUnpaired};
@@ -63,6 +64,8 @@ pub fn from_document(alloc: Global, value: &Value) -> Result<InlineStringN<16>, 
     ensures ok { IfOk result (λ label. view value.now ≡ string (bytes_of label)) }
     ensures granted { (bytes : List ℕ) → view value.now ≡ string bytes → length bytes ≤ 16
         → IsOk result }
+    ensures not_string { result ≡ Err (Document JsonError.NotString)
+        ↔ (as_str (view value.now) ≡ None) }
 {
     let text = InlinableString::from_json(alloc, value)?;
     let label = InlineStringN::try_from(text.as_str())?;

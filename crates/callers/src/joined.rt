@@ -26,37 +26,19 @@ pub fn joined<const N: usize>(
     InlinableStringN::from_strs(alloc, words.iter().copied())
 }
 
-/// Words added at the end of a text.
-pub fn add_words<const N: usize>(
-    text: &mut InlinableStringN<N>,
-    words: &[&str],
-) -> Result<(), AllocError>
-    ensures { OnOk result ((inlinable_state N text.new).text
-        ≡ (inlinable_state N text.old).text ++ text_of_strs words.now) }
-{
-    text.extend_strs(words.iter().copied())
-}
-
-/// Characters added at the end of a text.
+/// Characters appended to a text, by references too, and then words.
 pub fn add_letters<const N: usize>(
     text: &mut InlinableStringN<N>,
     letters: &[char],
+    more: &[char],
+    words: &[&str],
 ) -> Result<(), AllocError>
-    ensures { OnOk result ((inlinable_state N text.new).text
-        ≡ (inlinable_state N text.old).text ++ letters.now) }
+    ensures { OnOk result ((inlinable_state N text.new).text ≡ ((inlinable_state N text.old).text
+        ++ letters.now ++ more.now) ++ text_of_strs words.now) }
 {
-    text.extend_chars(letters.iter().copied())
-}
-
-/// The same by references.
-pub fn add_letter_refs<const N: usize>(
-    text: &mut InlinableStringN<N>,
-    letters: &[char],
-) -> Result<(), AllocError>
-    ensures { OnOk result ((inlinable_state N text.new).text
-        ≡ (inlinable_state N text.old).text ++ letters.now) }
-{
-    text.extend_char_refs(letters.iter())
+    text.extend_chars(letters.iter().copied())?;
+    text.extend_char_refs(more.iter())?;
+    text.extend_strs(words.iter().copied())
 }
 
 /// A word letter by letter.

@@ -1,14 +1,13 @@
 //! Texts as JSON strings, and back.
-ghost use Rattle.std.specs.Prelude.{◌≡◌, ◌≤◌, List, ℕ, length, None, Err, IfOk, IfSome, IfNone, IsOk};
+ghost use Rattle.std.specs.Prelude.{◌≡◌, ◌≤◌, List, ℕ, length, Err, IfOk, IfSome, IsSome};
 ghost use Rattle.serde_json.specs.Data.{string};
-ghost use Rattle.serde_json.specs.Find.{as_str};
 ghost use Rattle.serde_json.specs.View.{view};
 ghost use Rattle.inlinable_string.specs.Text.{bytes_of};
 ghost use Rattle.inlinable_string.specs.Values.{inlinable_state};
 
 use inlinable_string::inline_json::JsonError;
 use inlinable_string::laws::json_gives_the_text_back;
-use inlinable_string::{InlinableString, InlinableStringN, StringExt};
+use inlinable_string::{InlinableStringN, InlineStringN, StringExt};
 use serde_json::Value;
 use std::alloc::{AllocError, Global};
 
@@ -28,17 +27,26 @@ pub fn there_and_back<const N: usize>(
     Ok(back)
 }
 
-/// A name in a document, or none where the value is not a string; refused memory is an error.
-pub fn name(alloc: Global, value: &Value) -> Result<Option<InlinableString>, AllocError>
-    ensures some { IfOk result (λ name. IfSome name
-        (λ text. view value.now ≡ string (bytes_of (inlinable_state 30 text).text))) }
-    ensures none { IfOk result (λ name. IfNone name (as_str (view value.now) ≡ None)) }
-    ensures granted { (bytes : List ℕ) → view value.now ≡ string bytes → length bytes ≤ 30
-        → IsOk result }
-{
-    match InlinableString::from_json(alloc, value) {
-        Ok(text) => Ok(Some(text)),
-        Err(JsonError::NotString) => Ok(None),
-        Err(JsonError::NoMemory) => Err(AllocError),
+/// A code of at most eight bytes, with what serde's traits would be for it.
+#[derive(Clone, Debug, PartialEq, Eq, Drop)]
+pub struct Code(pub InlineStringN<8>);
+
+impl Code {
+    /// The code as a JSON string.
+    pub fn serialize(&self, alloc: Global) -> Result<Value, AllocError>
+        ensures { IfOk result (λ value. view value ≡ string (bytes_of self.now.0)) }
+    {
+        Value::try_from_str(alloc, self.0.as_str())
+    }
+
+    /// Makes a code of a JSON string. `None` for one of more than eight bytes and for other values.
+    pub fn deserialize(alloc: Global, value: &Value) -> Option<Self>
+        ensures some { IfSome result (λ code. view value.now ≡ string (bytes_of code.0)) }
+        ensures granted { (bytes : List ℕ) → view value.now ≡ string bytes → length bytes ≤ 8
+            → IsSome result }
+    {
+        let text = InlinableStringN::<8>::from_json(alloc, value).ok()?;
+        let code = InlineStringN::try_from(text).ok()?;
+        Some(Code(code))
     }
 }

@@ -6,7 +6,7 @@ ghost use Rattle.inlinable_string.specs.Values.{inlinable_state};
 
 use inlinable_string::{InlinableString, InlineStringN};
 
-/// Keeps the digits.
+/// Keeps the digits of a text in an array.
 pub fn only_digits(text: &mut InlineStringN<16>)
     ensures digits { text.new ≡ filter is_ascii_digit text.old }
     ensures len { size text.new ≤ size text.old }
@@ -14,29 +14,14 @@ pub fn only_digits(text: &mut InlineStringN<16>)
     text.retain(|c| c.is_ascii_digit());
 }
 
-/// Keeps the digits of a text in either storage, which stays.
-pub fn only_digits_of(text: &mut InlinableString)
-    ensures digits { (inlinable_state 30 text.new).text
-        ≡ filter is_ascii_digit (inlinable_state 30 text.old).text }
+/// Removes a character wherever it is, from a text in either storage, which stays.
+pub fn without(text: &mut InlinableString, gone: char)
+    ensures text { (inlinable_state 30 text.new).text
+        ≡ filter (λ c. not (c == gone)) (inlinable_state 30 text.old).text }
     ensures storage { (inlinable_state 30 text.new).storage
         ≡ (inlinable_state 30 text.old).storage }
 {
-    text.retain(|c| c.is_ascii_digit());
-}
-
-/// Removes a character wherever it is.
-pub fn without(text: &mut InlinableString, gone: char)
-    ensures { (inlinable_state 30 text.new).text
-        ≡ filter (λ c. not (c == gone)) (inlinable_state 30 text.old).text }
-{
     text.retain(|c| c != gone);
-}
-
-/// Removes the spaces.
-pub fn unspaced<const N: usize>(text: &mut InlineStringN<N>)
-    ensures { text.new ≡ filter (λ c. not (c == 32)) text.old }
-{
-    text.retain(|c| c != ' ');
 }
 
 /// Whether a character may stand in a name.

@@ -1,5 +1,5 @@
 //! Literals, whose characters a contract says by `codes`.
-ghost use Rattle.std.specs.Prelude.{◌≡◌, ◌<◌, ◌++◌, IfOk, OnOk, codes};
+ghost use Rattle.std.specs.Prelude.{◌≡◌, ◌++◌, IfOk, OnOk, codes};
 ghost use Rattle.std.specs.Str.{chars};
 ghost use Rattle.inlinable_string.specs.Text.{bytes_of};
 ghost use Rattle.inlinable_string.specs.Values.{inlinable_state};
@@ -15,19 +15,6 @@ pub fn ship() -> InlineStringN<16>
     ensures bytes { bytes_of result ≡ codes "ship " }
 {
     InlineStringN::from("ship ")
-}
-
-/// The name of a level of a log.
-pub fn level(number: u8) -> InlineStringN<8>
-    ensures debug { number ≡ 0 → result ≡ codes "debug" }
-    ensures warning { number ≡ 1 → result ≡ codes "warning" }
-    ensures error { 1 < number → result ≡ codes "error" }
-{
-    InlineStringN::from(match number {
-        0 => "debug",
-        1 => "warning",
-        _ => "error",
-    })
 }
 
 /// A key between literals, where all of it fits.

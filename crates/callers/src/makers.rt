@@ -1,5 +1,5 @@
 //! Texts from bytes and from UTF-16, and taken apart again.
-ghost use Rattle.std.specs.Prelude.{◌≡◌, ℕ, ◌≤◌, ◌<◌, ◌↔◌, List, ◌∷◌, ◌++◌, length, drop, IfOk, IfErr, IfSome, IfNone, IsOk, Err, IsUtf8, IsSome};
+ghost use Rattle.std.specs.Prelude.{◌≡◌, ℕ, ◌≤◌, ◌<◌, ◌↔◌, List, ◌∷◌, ◌++◌, length, drop, IfOk, IfErr, IfSome, IsOk, Err, IsUtf8, IsSome};
 ghost use Rattle.std.specs.Char.{IsScalar, encode_utf8};
 ghost use Rattle.std.specs.Str.{chars, StartsWithNoChar};
 ghost use Rattle.std.specs.String.{string_bytes};
@@ -19,22 +19,6 @@ use inlinable_string::{
 };
 use std::alloc::{AllocError, Global};
 use std::borrow::CowStr;
-
-/// A file name as Windows gives it, or none where it is no text; refused memory is an error.
-pub fn file_name<S: StringMake + Drop>(
-    alloc: Global,
-    units: &[u16],
-) -> Result<Option<S>, AllocError>
-    ensures some { IfOk result (λ name. IfSome name
-        (λ made. units_of (S.state made).text ≡ units.now)) }
-    ensures none { IfOk result (λ name. IfNone name (HasUnpaired units.now)) }
-{
-    match S::from_utf16(alloc, units) {
-        Ok(name) => Ok(Some(name)),
-        Err(Utf16Error::Unpaired) => Ok(None),
-        Err(Utf16Error::NoMemory) => Err(AllocError),
-    }
-}
 
 /// A line of a log, whatever its units are, to be printed. A short one is on the heap too. Where no
 /// unit is unpaired, they are those of the line.
@@ -88,35 +72,21 @@ pub fn through_bytes<S: StringMake + Drop>(alloc: Global, text: S) -> Result<S, 
     Ok(unsafe { S::from_utf8_unchecked(alloc, bytes) })
 }
 
-/// Bytes to be printed: they are copied only where they are not UTF-8.
+/// Bytes to be printed: they are copied only where they are not UTF-8. A character that they begin
+/// with is read, and U+FFFD where there is none; then the bytes after it.
 pub fn shown<'a>(alloc: Global, bytes: &'a [u8]) -> Result<CowStr<'a>, AllocError>
     ensures text { IfOk result (λ read. cow_str_bytes read ≡ bytes_of (lossy_utf8 bytes.now)) }
     ensures borrowed { IfOk result (λ read. IsBorrowedStr read ↔ IsUtf8 bytes.now) }
     ensures utf8 { IsUtf8 bytes.now → IfOk result (λ read. cow_str_bytes read ≡ bytes.now) }
     ensures granted { IsUtf8 bytes.now → IsOk result }
-{
-    lossy_reading_is_by_parts();
-    bytes_of_parts();
-    InlinableString::from_utf8_lossy(alloc, bytes)
-}
-
-/// Bytes that begin with no character: U+FFFD, and what is read of those after it.
-pub fn shown_behind<'a>(alloc: Global, bytes: &'a [u8]) -> Result<CowStr<'a>, AllocError>
-    requires some { 0 < length bytes.now }
-    requires fault { StartsWithNoChar bytes.now }
-    ensures { IfOk result (λ read. cow_str_bytes read
+    ensures character { (c : ℕ) (rest : List ℕ) → IsScalar c → bytes.now ≡ encode_utf8 c ++ rest
+        → IfOk result (λ read. cow_str_bytes read ≡ bytes_of (c ∷ lossy_utf8 rest)) }
+    ensures fault { 0 < length bytes.now → StartsWithNoChar bytes.now → IfOk result
+        (λ read. cow_str_bytes read
         ≡ bytes_of (0xFFFD ∷ lossy_utf8 (drop (subpart_len bytes.now) bytes.now))) }
 {
     lossy_reading_is_by_parts();
-    InlinableString::from_utf8_lossy(alloc, bytes)
-}
-
-/// Bytes that may begin with a character: it is read, and then the bytes after it.
-pub fn shown_from<'a>(alloc: Global, bytes: &'a [u8]) -> Result<CowStr<'a>, AllocError>
-    ensures { (c : ℕ) (rest : List ℕ) → IsScalar c → bytes.now ≡ encode_utf8 c ++ rest
-        → IfOk result (λ read. cow_str_bytes read ≡ bytes_of (c ∷ lossy_utf8 rest)) }
-{
-    lossy_reading_is_by_parts();
+    bytes_of_parts();
     InlinableString::from_utf8_lossy(alloc, bytes)
 }
 

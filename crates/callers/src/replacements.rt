@@ -4,8 +4,8 @@ ghost use Rattle.std.specs.Char.{to_ascii_uppercase};
 ghost use Rattle.inlinable_string.specs.Text.{bytes_of, size};
 ghost use Rattle.inlinable_string.specs.State.{IsSameText};
 
+use inlinable_string::StringExt;
 use inlinable_string::inline_string::ReplaceError;
-use inlinable_string::{InlineStringN, StringExt};
 use std::alloc::{AllocError, Global};
 
 /// Replaces small letters with capital ones.
@@ -37,14 +37,4 @@ pub fn replaced<S: StringExt>(text: &mut S, bytes: &[u8]) -> &'static str
         Err(ReplaceError::WrongLength) => "another length",
         Err(ReplaceError::NotUtf8) => "no text",
     }
-}
-
-/// Another length is always that answer.
-pub fn refuse_other_length<const N: usize>(text: &mut InlineStringN<N>, bytes: &[u8])
-    requires { length bytes.now ≢ size text.old }
-    ensures { text.new ≡ text.old }
-{
-    let Err(ReplaceError::WrongLength) = text.replace_bytes(bytes) else {
-        unreachable!();
-    };
 }

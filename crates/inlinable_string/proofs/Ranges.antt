@@ -1,5 +1,5 @@
 -- A text with one of its ranges replaced.
-use Rattle.inlinable_string.proofs.Common.{Result, Ok, Err, IsOk, OnErr, ◌≡◌, ℕ, ◌+◌, ◌-◌, ◌≤◌, ◌<◌, true, List, [], ◌∷◌, ◌++◌, length, take, drop, refl, sym, ap, ◌∙◌, arith, subst, length-append, length-take-le, take_at, drop_at, encode_utf8, encodes-chars, chars, chars-append, IsUtf8, IsUtf8-take, IsUtf8-append, insert_slice, remove_range, bytes_of, size, IsCut, IsPlace}
+use Rattle.inlinable_string.proofs.Common.{Result, Ok, Err, IsOk, OnErr, ◌≡◌, ℕ, ◌+◌, ◌-◌, ◌≤◌, ◌<◌, true, List, [], ◌∷◌, ◌++◌, length, take, drop, refl, sym, ap, ◌∙◌, arith, subst, append-nil, length-append, length-take-le, take_at, drop_at, encode_utf8, encodes-append, encodes-chars, chars, chars-append, IsUtf8, IsUtf8-take, IsUtf8-append, insert_slice, remove_range, bytes_of, size, IsCut, IsPlace, IsSplice}
 use Rattle.std.proofs.lemmas.Str.{IsUtf8-drop}
 use Rattle.std.specs.Char.{is_ascii}
 use Rattle.std.specs.List.{list_all, replace_range}
@@ -67,6 +67,45 @@ module _ {t w u s v : List ℕ} {l m p q : ℕ} (h : Holds t w l) (a : Holds u s
   pub range-bytes : bytes_of (chars v) ≡ replace_range (bytes_of t) p q s
   range-bytes =
       encodes-chars v range-utf8 ∙ e ∙ ap (λ x. replace_range x p q s) (bytes_are h)
+
+-- a replaced range is one of the bytes
+pub bytes-replaced : {t u v : List ℕ} {p q : ℕ} → IsRangeReplaced t p q u v
+    → bytes_of v ≡ replace_range (bytes_of t) p q (bytes_of u)
+bytes-replaced {t} {u} {v} {p} {q} r =
+    let kept : take p (bytes_of t) ≡ bytes_of r.front =
+    ap (λ x. take p (bytes_of x)) r.before.joined
+    ∙ ap (take p) (encodes-append r.front (r.middle ++ r.back)) ∙ take_at _ _ p r.before.before in
+    let rest : drop q (bytes_of t) ≡ bytes_of r.back =
+    ap (λ x. drop q (bytes_of x)) r.after.joined
+    ∙ ap (drop q) (encodes-append (r.front ++ r.middle) r.back) ∙ drop_at _ _ q r.after.before in
+    ap bytes_of r.joined ∙ encodes-append (r.front ++ u) r.back
+    ∙ rw (encodes-append r.front u, kept, rest) refl
+
+-- of an empty range, and of the whole text
+pub splice_from_range : {t u v : List ℕ} {p : ℕ} → IsRangeReplaced t p p u v → IsSplice t p u v
+splice_from_range r =
+    let sum = size-append r.front r.middle in
+    let none : r.middle ≡ [] =
+    nil_from_size r.middle (omega (arith, sum, r.before.before, r.after.before)) in
+    record {
+      front = r.front;
+      back = r.back;
+      cut = record {
+        joined = r.before.joined ∙ ap (λ m. r.front ++ (m ++ r.back)) none;
+        before = r.before.before;
+      };
+      joined = r.joined;
+    }
+
+pub range_from_splice : {t u v : List ℕ} {p : ℕ} → IsSplice t p u v → IsRangeReplaced t p p u v
+range_from_splice s = replaced_between s.cut s.cut (omega arith) s.joined
+
+pub whole-replaced : {t u v : List ℕ} → IsRangeReplaced t 0 (size t) u v → v ≡ u
+whole-replaced {u = u} r =
+    let start : r.front ≡ [] = nil_from_size r.front r.before.before in
+    let sum = ap size r.after.joined ∙ size-append (r.front ++ r.middle) r.back in
+    let end : r.back ≡ [] = nil_from_size r.back (omega (arith, sum, r.after.before)) in
+    r.joined ∙ rw (start, end) (append-nil u)
 
 -- the clauses on a range that was replaced
 pub size-replaced_range : {t u v : List ℕ} {p q : ℕ} → IsRangeReplaced t p q u v

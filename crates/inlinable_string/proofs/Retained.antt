@@ -44,12 +44,12 @@ module _ {F : Type 0} (R : F → ℕ → Bool → F → Type 0) where
   }
 
   -- one call more
-  kept_first : (f g : F) (c : ℕ) (t v : List ℕ) → R f c true g → IsFiltered R g t v
+  pub kept_first : (f g : F) (c : ℕ) (t v : List ℕ) → R f c true g → IsFiltered R g t v
       → IsFiltered R f (c ∷ t) (c ∷ v)
   kept_first f g c t v r h =
       (true ∷ h.0, h.1, omega (arith, h.2), (g, r, h.3), ap (λ l. c ∷ l) h.4)
 
-  dropped_first : (f g : F) (c : ℕ) (t v : List ℕ) → R f c false g → IsFiltered R g t v
+  pub dropped_first : (f g : F) (c : ℕ) (t v : List ℕ) → R f c false g → IsFiltered R g t v
       → IsFiltered R f (c ∷ t) v
   dropped_first f g c t v r h = (false ∷ h.0, h.1, omega (arith, h.2), (g, r, h.3), h.4)
 

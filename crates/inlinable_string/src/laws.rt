@@ -1,9 +1,13 @@
 //! Lemmas: calling one does nothing at run time, but its clauses are then known in the caller's
 //! proof. Those of this file are on places and sizes.
-ghost use Rattle.std.specs.Prelude.{◌≡◌, ◌↔◌, Some, IsSome, ℕ, ◌+◌, ◌≤◌, List, ◌++◌, [], ◌∷◌, length, take, drop, IsUtf8};
+ghost use Rattle.std.specs.Prelude.{◌≡◌, ◌↔◌, Some, IsSome, Bool, true, false, ℕ, ◌+◌, ◌≤◌, List, ◌++◌, [], ◌∷◌, length, take, drop, filter, IsUtf8};
 ghost use Rattle.std.specs.Char.{encode_utf8};
+ghost use Rattle.std.specs.Fn.{Called};
+ghost use Rattle.std.specs.List.{replace_range};
 ghost use Rattle.std.specs.Str.{chars, IsCharBoundary};
 ghost use Rattle.inlinable_string.specs.Text.{bytes_of, size, cut, IsCut, IsPlace, IsSplice, IsRemoval};
+ghost use Rattle.inlinable_string.specs.Ranges.{IsRangeReplaced};
+ghost use Rattle.inlinable_string.specs.Retained.{IsRetained, Tests};
 ghost use Rattle.inlinable_string.specs.Values.{inlinable_state};
 
 use crate::inlinable_string::InlinableStringN;
@@ -72,6 +76,26 @@ pub fn edits_leave_places()
 pub fn splices_at_the_ends()
     ensures start { (t u v : List ℕ) → IsSplice t 0 u v → v ≡ u ++ t }
     ensures end { (t u v : List ℕ) → IsSplice t (size t) u v → v ≡ t ++ u }
+{}
+
+/// What `replace_range` leaves: the same of the bytes, of an empty range an insertion, and of the
+/// whole text the new one.
+pub fn replaced_ranges_are_those_of_bytes()
+    ensures bytes { (t u v : List ℕ) (p q : ℕ) → IsRangeReplaced t p q u v
+        → bytes_of v ≡ replace_range (bytes_of t) p q (bytes_of u) }
+    ensures inserted { (t u v : List ℕ) (p : ℕ) → IsRangeReplaced t p p u v ↔ IsSplice t p u v }
+    ensures whole { (t u v : List ℕ) → IsRangeReplaced t 0 (size t) u v → v ≡ u }
+{}
+
+/// What `retain` leaves: the characters at which the closure returns true, called at each in turn.
+/// If it always returns what a test does, these are what `filter` keeps.
+pub fn retained_characters_pass<F: FnMut(char) -> bool>()
+    ensures filtered { (f : F) (t v : List ℕ) (test : ℕ → Bool) → Tests F.FnMut f test
+        → IsRetained F.FnMut f t v → v ≡ filter test t }
+    ensures kept { (f g : F) (c : ℕ) (t v : List ℕ) → Called F.FnMut f (c, tt) true g
+        → IsRetained F.FnMut g t v → IsRetained F.FnMut f (c ∷ t) (c ∷ v) }
+    ensures dropped { (f g : F) (c : ℕ) (t v : List ℕ) → Called F.FnMut f (c, tt) false g
+        → IsRetained F.FnMut g t v → IsRetained F.FnMut f (c ∷ t) v }
 {}
 
 /// A cut of the text is a cut of its bytes.
