@@ -77,8 +77,8 @@ struct Counted {
     unpaired: usize,
 }
 
-/// The units that are counted together.
-const LANES: usize = 16;
+/// The units that are counted together: three times as many is below `2 ^ 16`.
+const MOST: usize = 0x4000;
 
 /// Counts the units.
 // A unit is counted with the one before it; which of a pair's gives the character is left open.
@@ -95,11 +95,11 @@ fn count(units: &[u16]) -> Counted
     let mut len = usize::from(unit_len(units[0]));
     let mut unpaired = usize::from(is_low(units[0]));
     let mut from = 1;
-    while LANES <= units.len() - from {
-        let part = count_part(units, from, from + LANES);
+    while MOST <= units.len() - from {
+        let part = count_part(units, from, from + MOST);
         len += part.len;
         unpaired += part.unpaired;
-        from += LANES;
+        from += MOST;
     }
     let part = count_part(units, from, units.len());
     unpaired += part.unpaired + usize::from(is_high(units[units.len() - 1]));
@@ -118,7 +118,7 @@ fn count_part(units: &[u16], from: usize, to: usize) -> Counted
     requires start { 0 < from }
     requires end { from ≤ to }
     requires bound { to ≤ length units.now }
-    requires few { to ≤ from + 16 }
+    requires few { to ≤ from + 0x4000 }
     ensures len { len_before units.now from + result.len ≡ len_before units.now to }
     ensures unpaired { mismatches_before units.now from + result.unpaired
         ≡ mismatches_before units.now to }
