@@ -36,14 +36,14 @@ one_long levels d k e rest (nested, short, deep) long =
 
 pub not_added : (levels : ℕ) (d : Data) (k : List ℕ) (e : Data) (rest : Members) (f : Fault)
     → Decide levels d (member k e rest) → (f ≡ LongKey → 16 < length k) → ¬ (f ≡ NoNode)
-    → ¬ (f ≡ NotObject) → ¬ (f ≡ TooDeep) → IsFaultOf levels d f
-not_added levels d k e rest LongKey decide long node nested deep =
+    → ¬ (f ≡ Taken) → ¬ (f ≡ NotObject) → ¬ (f ≡ TooDeep) → IsFaultOf levels d f
+not_added levels d k e rest LongKey decide long node taken nested deep =
     one_long levels d k e rest decide (long refl)
-not_added levels d k e rest NoNode decide long node nested deep = node refl
-not_added levels d k e rest Taken decide long node nested deep = search rules
-not_added levels d k e rest NotObject decide long node nested deep = absurd (nested refl)
-not_added levels d k e rest TooDeep decide long node nested deep = absurd (deep refl)
-not_added levels d k e rest NoMemory decide long node nested deep = search rules
+not_added levels d k e rest NoNode decide long node taken nested deep = node refl
+not_added levels d k e rest Taken decide long node taken nested deep = taken refl
+not_added levels d k e rest NotObject decide long node taken nested deep = absurd (nested refl)
+not_added levels d k e rest TooDeep decide long node taken nested deep = absurd (deep refl)
+not_added levels d k e rest NoMemory decide long node taken nested deep = search rules
 
 pub one_faulty : (levels : ℕ) (d : Data) (k : List ℕ) (e : Data) (rest : Members) (f : Fault)
     → Decide levels d (member k e rest) → 0 < levels → IsFaultOf (levels - 1) e f

@@ -117,7 +117,7 @@ IsReadable levels d = IsNested d × HasShortKeys d × (depth d ≤ levels)
 abbrev pub IsFaultOf : ℕ → Data → Fault → Type 0
 IsFaultOf levels d LongKey = ¬ (HasShortKeys d)
 IsFaultOf levels d NoNode = ⊥
-IsFaultOf levels d Taken = ⊤
+IsFaultOf levels d Taken = ⊥
 IsFaultOf levels d NotObject = ¬ (IsNested d)
 IsFaultOf levels d TooDeep = levels < depth d
 IsFaultOf levels d NoMemory = ⊤

@@ -1,8 +1,8 @@
 //! Trees as JSON: each node is an object, and those under it are its members.
-ghost use Rattle.std.specs.Prelude.{◌≡◌, ℕ, suc, ◌++◌, ◌≤◌, List, length, None, Err, IfOk, IfErr, OnOk, IsSome, ◌⊎◌};
+ghost use Rattle.std.specs.Prelude.{◌≡◌, ℕ, suc, ◌++◌, ◌≤◌, List, length, slice_get, Some, None, Err, IfOk, IfErr, OnOk, IsSome, ◌⊎◌};
 ghost use Rattle.serde_json.specs.Find.{as_object};
 ghost use Rattle.serde_json.specs.View.{view};
-ghost use Rattle.inline_uses.specs.Tree.{IsPlaceOf, IsShown, Leads, listed, IsReadable, IsFaultOf};
+ghost use Rattle.inline_uses.specs.Tree.{node_at, IsPlaceOf, IsShown, Leads, listed, IsReadable, IsFaultOf};
 
 use crate::tree::{Fault, LEVELS, Tree};
 use inlinable_string::laws::bytes_of_parts;
@@ -11,7 +11,9 @@ use std::alloc::Global;
 
 impl Tree {
     /// Makes the tree of a JSON object, whose members are objects in their turn, at most `LEVELS`
-    /// one in another. Fails with a fault that the value has, or if an allocation fails.
+    /// one in another. Fails with `NotObject` only if it or a value in it is no object, with
+    /// `LongKey` only if a key in it has more than 16 bytes, with `TooDeep` only if it is deeper
+    /// than `LEVELS`, or with `NoMemory`, and never with another fault.
     pub fn from_json(alloc: Global, value: &Value) -> Result<Tree, Fault>
         ensures ok { IfOk result (λ tree. tree ≡ listed 0 None (view value.now)) }
         ensures readable { OnOk result (IsReadable 128 (view value.now)) }
@@ -23,9 +25,12 @@ impl Tree {
         Ok(tree)
     }
 
-    /// Puts the members of a JSON object under a place, each with those of its own.
+    /// Puts the members of a JSON object under a place that has no nodes, each with those of its
+    /// own.
     fn add_json(&mut self, place: Option<usize>, value: &Value, levels: usize) -> Result<(), Fault>
-        requires { IsPlaceOf self.old place }
+        requires place { IsPlaceOf self.old place }
+        requires free { (id : ℕ) (key : List ℕ)
+            → ¬ (slice_get self.old id ≡ Some (node_at place key)) }
         ensures ok { OnOk result (self.new
             ≡ self.old ++ listed (length self.old) place (view value.now)) }
         ensures readable { OnOk result (IsReadable levels (view value.now)) }
@@ -38,8 +43,10 @@ impl Tree {
         if levels == 0 {
             return Err(Fault::TooDeep);
         }
+        bytes_of_parts();
         for (key, member) in members.iter() {
-            let id = self.add(place, key.as_str())?;
+            let id = self.len();
+            self.add(place, key.as_str())?;
             self.add_json(Some(id), member, levels - 1)?;
         }
         Ok(())

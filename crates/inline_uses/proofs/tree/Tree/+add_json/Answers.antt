@@ -1,11 +1,28 @@
-use Rattle.std.proofs.Common.{rules, arith, ◌≡◌, ◌≤◌, ◌<◌, ◌-◌, [], ◌∷◌, ◌++◌, Some, Ok, Err, length, string_bytes, refl, ap, sym, subst, ◌∙◌}
+use Rattle.std.proofs.Common.{rules, arith, ◌≡◌, ◌≤◌, ◌<◌, ◌-◌, [], ◌∷◌, ◌++◌, Some, Ok, Err, length, length-append, string_bytes, refl, ap, sym, subst, ◌∙◌}
 use Rattle.std.specs.Str.{chars}
+use Rattle.inlinable_string.specs.Text.{bytes_of}
+use Rattle.serde_json.specs.Data.{object}
 use Rattle.serde_json.specs.View.{view, members_view}
+use Rattle.serde_json.proofs.Views.{view-Object}
 use Rattle.inline_uses.specs.Tree.{node_at, listed, IsReadable, IsFaultOf}
 use Rattle.inline_uses.specs.declared.tree.Fault.TheVariants.{LongKey}
-use Rattle.inline_uses.proofs.Readable.{one_read, not_added}
+use Rattle.inline_uses.proofs.Listed.{in_order, not_taken, before_one, none_under, last_place}
+use Rattle.inline_uses.proofs.Readable.{all_decide, one_read, not_added}
 use Rattle.inline_uses.proofs.Trees.{one_more, wider}
 use Rattle.inline_uses.proofs.tree.Tree.+add_json.Goals as goal
+
+pub loop-key-init : goal.loop-key-init
+loop-key-init t c =
+    let is : view c.args.value.now ≡ object (members_view c.in-Object.members.entries)
+    = rw c.in-Object.is (view-Object c.in-Object.members) in
+    let all : c.into_iter-key-iterator.result ≡ c.in-Object.members.entries = search rules in
+    record {
+      place = c.requires.place;
+      decide = rw (is, all) (all_decide c.args.levels _);
+      adds = rw (is, all) refl;
+      ordered = rw all (in_order _ c.iter-key-items.ensures.ordered);
+      before = λ id key is. absurd (c.requires.free id key is);
+    }
 
 pub loop-key-preserved : goal.loop-key-preserved
 loop-key-preserved t c =
@@ -13,34 +30,56 @@ loop-key-preserved t c =
     let key = string_bytes c.in-Some.key.now in
     let below = view c.in-Some.member.now in
     let left = members_view c.next.new.self in
-    let (place, decide, adds) = rw c.in-Some.ensures.steps at c.loop-key.invariant in
+    let was = rw c.in-Some.ensures.steps at c.loop-key.invariant in
     let is_new : c.add.new.self ≡ old ++ node_at c.args.place (chars key) ∷ []
-    = c.in_ok-id.ensures.ok ∙ rw c.as_str.ensures.value refl in
+    = c.in_ok-add.ensures.ok ∙ rw c.as_str.ensures.value refl in
     let is_after : c.add_json.new.self
     ≡ c.add.new.self ++ listed (length c.add.new.self) (Some (length old)) below
-    = rw (← c.in_ok-id.ensures.id) c.in_ok-add_json.ensures.ok in
+    = rw (← c.len-id.ensures.count) c.in_ok-add_json.ensures.ok in
     let fits : ¬ (16 < length key) = λ long.
-    let e : Ok c.in_ok-id.id ≡ Err LongKey = sym c.in_ok-id.was
+    let e : Ok _ ≡ Err LongKey = sym c.in_ok-add.was
     ∙ c.add.ensures.long_key.1 (subst (λ k. 16 < length k) (sym c.as_str.ensures.value) long) in
     cc in
     let short : length key ≤ 16 = omega (arith, fits) in
     let readable : IsReadable (c.args.levels - 1) below = c.in_ok-add_json.ensures.readable in
-    let some : 0 < c.args.levels = search rules in (
-      rw (is_after, is_new) (wider _ _ c.args.place (wider old _ c.args.place place)),
-      one_read c.args.levels (view c.args.value.now) key below left decide short readable some,
-      one_more old c.args.place key below left _ _ is_new is_after ∙ adds,
-    )
+    let some : 0 < c.args.levels = search rules in
+    let bytes : bytes_of (chars key) ≡ key = search rules in
+    record {
+      place = rw (is_after, is_new) (wider _ _ c.args.place (wider old _ c.args.place was.place));
+      decide = one_read c.args.levels (view c.args.value.now) key below left was.decide short
+          readable some;
+      adds = one_more old c.args.place key below left _ _ is_new is_after ∙ was.adds;
+      ordered = was.ordered.1;
+      before = before_one old _ _ c.args.place key below left is_new is_after
+          (rw (is_new, length-append) (omega arith)) was.place bytes was.ordered.0 was.before;
+    }
 
-pub returns-in_err-id-clause-fault : goal.returns-in_err-id-clause-fault
-returns-in_err-id-clause-fault t c =
+pub add_json-requires : goal.add_json-requires
+add_json-requires t c = (
+  search rules,
+  (
+    last_place c.loop-key.self c.add.new.self _ c.len-id.result c.in_ok-add.ensures.ok
+        c.len-id.ensures.count,
+    none_under c.loop-key.self c.add.new.self c.args.place _ c.len-id.result
+        c.in_ok-add.ensures.ok c.len-id.ensures.count c.len-id.ensures.tree
+        (rw c.in-Some.ensures.steps at c.loop-key.invariant).place,
+  ),
+)
+
+pub returns-in_err-add-clause-fault : goal.returns-in_err-add-clause-fault
+returns-in_err-add-clause-fault t c =
     let key = string_bytes c.in-Some.key.now in
-    let (place, decide, adds) = rw c.in-Some.ensures.steps at c.loop-key.invariant in
-    let fault : IsFaultOf c.args.levels (view c.args.value.now) c.in_err-id.field-0.0
+    let was = rw c.in-Some.ensures.steps at c.loop-key.invariant in
+    let bytes : bytes_of (chars key) ≡ key = search rules in
+    let fault : IsFaultOf c.args.levels (view c.args.value.now) c.in_err-add.field-0.0
     = not_added c.args.levels (view c.args.value.now) key (view c.in-Some.member.now)
-    (members_view c.next.new.self) c.in_err-id.field-0.0 decide
+    (members_view c.next.new.self) c.in_err-add.field-0.0 was.decide
     (λ e. subst (λ k. 16 < length k) c.as_str.ensures.value
-    (c.add.ensures.long_key.0 (c.in_err-id.was ∙ ap Err e)))
-    (λ e. (c.add.ensures.no_node.0 (c.in_err-id.was ∙ ap Err e)).1 place)
-    (λ e. c.add.ensures.object (c.in_err-id.was ∙ ap Err e))
-    (λ e. c.add.ensures.depth (c.in_err-id.was ∙ ap Err e)) in
+    (c.add.ensures.long_key.0 (c.in_err-add.was ∙ ap Err e)))
+    (λ e. (c.add.ensures.no_node.0 (c.in_err-add.was ∙ ap Err e)).1 was.place)
+    (λ e. let (_, _, (id, is)) = c.add.ensures.taken.0 (c.in_err-add.was ∙ ap Err e) in
+    not_taken c.loop-key.self c.args.place key (view c.in-Some.member.now)
+    (members_view c.next.new.self) bytes was.before id (rw c.as_str.ensures.value at is))
+    (λ e. c.add.ensures.object (c.in_err-add.was ∙ ap Err e))
+    (λ e. c.add.ensures.depth (c.in_err-add.was ∙ ap Err e)) in
     search (rules, fault)

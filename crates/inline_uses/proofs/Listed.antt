@@ -1,0 +1,144 @@
+-- The nodes that the members of a JSON object add to a tree, in the order of their keys.
+use Rattle.std.proofs.Common.{◌≡◌, ◌⊎◌, ◌<◌, ◌≤◌, ◌+◌, inl, inr, ℕ, zero, suc, List, [], ◌∷◌, ◌++◌, length, Option, Some, Ordering, Less, String, string_bytes, refl, ap, sym, subst, ◌∙◌, arith, rules}
+use Rattle.std.specs.Prelude.{slice_get, ⊤}
+use Rattle.std.specs.List.{AllByRecursion}
+use Rattle.std.specs.List.Sorted.{IsStrictlySortedBy}
+use Rattle.std.specs.Map.{keys_of}
+use Rattle.std.specs.Cmp.Lexicographic.{slice_cmp}
+use Rattle.std.specs.Ordering.{nat_cmp}
+use Rattle.std.specs.Str.{chars}
+use Rattle.std.specs.declared.alloc.Global.{Global}
+use Rattle.std.proofs.lemmas.Cmp.{tied_itself, nat_list_cmp_total}
+use Rattle.std.proofs.lemmas.List.{length-append}
+use Rattle.std.proofs.lemmas.Option.{slice_get_within}
+use Rattle.inlinable_string.specs.Text.{bytes_of}
+use Rattle.serde_json.specs.Data.{Data, null, boolean, number, string, array, object, Members, no_members, member}
+use Rattle.serde_json.specs.View.{members_view}
+use Rattle.serde_json.specs.declared.value.Value.{Value}
+use Rattle.inline_uses.specs.Symbols.{key_order}
+use Rattle.inline_uses.specs.Tree.{node_at, IsPlaceOf, IsTree, listed, listed_members}
+use Rattle.inline_uses.specs.declared.tree.Node.{Node}
+use Rattle.inline_uses.proofs.Tables.{from_push}
+
+-- the node is under the n-th, or under one after that
+abbrev pub IsUnderLate : ℕ → Node → Type 0
+IsUnderLate n node = (p : ℕ) × (node.parent ≡ Some p) × (n ≤ p)
+
+all_append : {X : Type 0} (P : X → Type 0) (xs ys : List X) → AllByRecursion P xs
+    → AllByRecursion P ys → AllByRecursion P (xs ++ ys)
+all_append P [] ys h k = k
+all_append P (x ∷ xs) ys h k = (h.0, all_append P xs ys h.1 k)
+
+mutual
+  all_late : (m n p : ℕ) (d : Data) → m ≤ n → m ≤ p
+      → AllByRecursion (IsUnderLate m) (listed n (Some p) d)
+  all_late m n p null h k = tt
+  all_late m n p (boolean b) h k = tt
+  all_late m n p (number x) h k = tt
+  all_late m n p (string s) h k = tt
+  all_late m n p (array ds) h k = tt
+  all_late m n p (object ms) h k = members_late m n p ms h k
+
+  members_late : (m n p : ℕ) (ms : Members) → m ≤ n → m ≤ p
+      → AllByRecursion (IsUnderLate m) (listed_members n (Some p) ms)
+  members_late m n p no_members h k = tt
+  members_late m n p (member key d ms) h k =
+      let own = listed (suc n) (Some n) d in (
+        (p, refl, k),
+        all_append (IsUnderLate m) own _ (all_late m (suc n) n d (omega arith) h)
+            (members_late m (suc n + length own) p ms (omega arith) k),
+      )
+
+at_index : {X : Type 0} (P : X → Type 0) (xs : List X) (i : ℕ) (x : X) → AllByRecursion P xs
+    → slice_get xs i ≡ Some x → P x
+at_index P [] i x all is = cc
+at_index P (y ∷ xs) zero x all is = let e : y ≡ x = cc in subst P e all.0
+at_index P (y ∷ xs) (suc i) x all is = at_index P xs i x all.1 is
+
+pub from_append : {X : Type 0} (P : X → Type 0) (xs ys : List X) (i : ℕ) (x : X)
+    → AllByRecursion P ys → slice_get (xs ++ ys) i ≡ Some x → (slice_get xs i ≡ Some x) ⊎ P x
+from_append P [] ys i x all is = inr (at_index P ys i x all is)
+from_append P (z ∷ xs) ys zero x all is = inl is
+from_append P (z ∷ xs) ys (suc i) x all is = from_append P xs ys i x all is
+
+-- the key is below those of all members
+abbrev pub IsBelow : List ℕ → Members → Type 0
+IsBelow key no_members = ⊤
+IsBelow key (member k d ms) = (key_order key k ≡ Less) × IsBelow key ms
+
+abbrev pub AreOrdered : Members → Type 0
+AreOrdered no_members = ⊤
+AreOrdered (member k d ms) = IsBelow k ms × AreOrdered ms
+
+-- what is under the place has keys that are below those of the members
+abbrev pub AreBefore : List Node → Option ℕ → Members → Type 0
+AreBefore nodes place ms = (id : ℕ) (key : List ℕ)
+    → slice_get nodes id ≡ Some (node_at place key) → IsBelow (bytes_of key) ms
+
+abbrev string_order : String Global → String Global → Ordering
+string_order a b = slice_cmp nat_cmp (string_bytes a) (string_bytes b)
+
+below_all : (key : String Global) (es : List (String Global × Value))
+    → AllByRecursion (λ k. string_order key k ≡ Less) (keys_of es)
+    → IsBelow (string_bytes key) (members_view es)
+below_all key [] all = tt
+below_all key (e ∷ es) all = (all.0, below_all key es all.1)
+
+-- the members of a map are in the order of its keys
+pub in_order : (es : List (String Global × Value)) → IsStrictlySortedBy string_order (keys_of es)
+    → AreOrdered (members_view es)
+unfolding IsStrictlySortedBy
+in_order [] h = tt
+in_order (e ∷ es) h = (below_all e.0 es h.0, in_order es h.1)
+
+-- the key of the next member is not taken
+pub not_taken : (nodes : List Node) (place : Option ℕ) (k : List ℕ) (d : Data) (rest : Members)
+    → bytes_of (chars k) ≡ k → AreBefore nodes place (member k d rest) → (id : ℕ)
+    → ¬ (slice_get nodes id ≡ Some (node_at place (chars k)))
+not_taken nodes place k d rest bytes before id is =
+    let less : key_order k k ≡ Less
+    = subst (λ b. key_order b k ≡ Less) bytes (before id (chars k) is).0 in
+    let tied = tied_itself nat_list_cmp_total k in
+    cc
+
+-- after a member, and what is in its value, the others are still before those that are left
+pub before_one : (nodes added new : List Node) (place : Option ℕ) (k : List ℕ) (d : Data)
+    → (rest : Members) → added ≡ nodes ++ node_at place (chars k) ∷ []
+    → new ≡ added ++ listed (length added) (Some (length nodes)) d → length nodes ≤ length added
+    → IsPlaceOf nodes place → bytes_of (chars k) ≡ k → IsBelow k rest
+    → AreBefore nodes place (member k d rest) → AreBefore new place rest
+before_one nodes added new place k d rest is_added is_new longer within bytes below before
+    id key is =
+    let own = listed (length added) (Some (length nodes)) d in
+    let late = all_late (length nodes) (length added) (length nodes) d longer (omega arith) in
+    elim (from_append (IsUnderLate (length nodes)) added own id (node_at place key) late
+    (subst (λ ns. slice_get ns id ≡ Some (node_at place key)) is_new is)) [
+      | inl here ↦ elim (from_push nodes (node_at place key) (node_at place (chars k)) id
+          (subst (λ ns. slice_get ns id ≡ Some (node_at place key)) is_added here)) [
+            | inl old ↦ (before id key old).1
+            | inr last ↦ let same : chars k ≡ key = ap (λ (n : Node). n.key) last.1 in
+                subst (λ b. IsBelow b rest) (sym bytes ∙ ap bytes_of same) below
+          ]
+      | inr (p, e, above) ↦ let less : p < length nodes = subst (IsPlaceOf nodes) e within in
+          absurd (omega (arith, less, above))
+    ]
+
+-- nothing is under a node that was just added
+pub none_under : (nodes new : List Node) (place : Option ℕ) (k : List ℕ) (n : ℕ)
+    → new ≡ nodes ++ node_at place k ∷ [] → n ≡ length nodes → IsTree nodes
+    → IsPlaceOf nodes place → (id : ℕ) (key : List ℕ)
+    → ¬ (slice_get new id ≡ Some (node_at (Some n) key))
+none_under nodes new place k n is_new count tree within id key is =
+    elim (from_push nodes (node_at (Some n) key) (node_at place k) id
+    (subst (λ ns. slice_get ns id ≡ Some (node_at (Some n) key)) is_new is)) [
+      | inl old ↦ let earlier : n < id = tree.later id n key old in
+          let less = slice_get_within nodes id _ old in
+          omega (arith, earlier, less, count)
+      | inr last ↦ let same : place ≡ Some n = ap (λ (m : Node). m.parent) last.1 in
+          let less : n < length nodes = subst (IsPlaceOf nodes) same within in
+          omega (arith, less, count)
+    ]
+
+pub last_place : (nodes new : List Node) (node : Node) (n : ℕ) → new ≡ nodes ++ node ∷ []
+    → n ≡ length nodes → n < length new
+last_place nodes new node n is_new count = rw (is_new, length-append) (omega (arith, count))
