@@ -53,92 +53,6 @@ fn assert_replaced(rt: &impl Abort, alloc: Global, sequence: &[u8], reply: Reply
     }
 }
 
-/// The byte ranges of a character's UTF-8, from its first byte on.
-const RANGES: &[&[(u8, u8)]] = &[
-    &[(0x00, 0x7F)],
-    &[(0xC2, 0xDF), (0x80, 0xBF)],
-    &[(0xE0, 0xE0), (0xA0, 0xBF), (0x80, 0xBF)],
-    &[(0xE1, 0xEC), (0x80, 0xBF), (0x80, 0xBF)],
-    &[(0xED, 0xED), (0x80, 0x9F), (0x80, 0xBF)],
-    &[(0xEE, 0xEF), (0x80, 0xBF), (0x80, 0xBF)],
-    &[(0xF0, 0xF0), (0x90, 0xBF), (0x80, 0xBF), (0x80, 0xBF)],
-    &[(0xF1, 0xF3), (0x80, 0xBF), (0x80, 0xBF), (0x80, 0xBF)],
-    &[(0xF4, 0xF4), (0x80, 0x8F), (0x80, 0xBF), (0x80, 0xBF)],
-];
-
-/// The first bytes of the ranges, or the last ones, and one of them changed.
-fn sequence_of(ranges: &[(u8, u8)], takes_last: bool, changed: Option<(usize, u8)>) -> [u8; 4] {
-    let mut sequence = [0; 4];
-    for (i, &(first, last)) in ranges.iter().enumerate() {
-        let value = match changed {
-            Some((place, value)) if place == i => value,
-            _ => if takes_last { last } else { first },
-        };
-        if let Some(byte) = sequence.get_mut(i) {
-            *byte = value;
-        }
-    }
-    sequence
-}
-
-/// Replaces letters by that sequence.
-fn assert_sequence(
-    rt: &impl Abort,
-    alloc: Global,
-    ranges: &[(u8, u8)],
-    takes_last: bool,
-    changed: Option<(usize, u8)>,
-    reply: Reply,
-) {
-    let sequence = sequence_of(ranges, takes_last, changed);
-    assert!(rt; ranges.len() <= sequence.len());
-    assert_replaced(rt, alloc, &sequence[..ranges.len()], reply);
-}
-
-#[test]
-fn bytes_at_the_ends_of_each_range_are_taken(rt: HostRuntime) {
-    let alloc = rt.alloc();
-    for ranges in RANGES {
-        for takes_last in [false, true] {
-            for (i, &(first, last)) in ranges.iter().enumerate() {
-                assert_sequence(&rt, alloc, ranges, takes_last, Some((i, first)), Done);
-                assert_sequence(&rt, alloc, ranges, takes_last, Some((i, last)), Done);
-            }
-        }
-    }
-}
-
-/// A sequence that ends too early, or has a byte beside the ends of its range. The first bytes that
-/// begin no character have a test of their own.
-#[test]
-fn bytes_just_outside_of_a_range_are_refused(rt: HostRuntime) {
-    let alloc = rt.alloc();
-    for ranges in RANGES {
-        for takes_last in [false, true] {
-            for (i, &(first, last)) in ranges.iter().enumerate().skip(1) {
-                let (before, after) = (first.wrapping_sub(1), last.wrapping_add(1));
-                assert_sequence(&rt, alloc, ranges, takes_last, Some((i, before)), NotUtf8);
-                assert_sequence(&rt, alloc, ranges, takes_last, Some((i, after)), NotUtf8);
-                let cut = ranges.get(..i).unwrap_or(&[]);
-                assert_sequence(&rt, alloc, cut, takes_last, None, NotUtf8);
-            }
-        }
-    }
-}
-
-fn assert_first_bytes_refused(rt: &impl Abort, alloc: Global, first: u8, last: u8) {
-    for byte in first..=last {
-        assert_replaced(rt, alloc, &[byte, b'a', b'a', b'a'], NotUtf8);
-        assert_replaced(rt, alloc, &[byte, 0x80, 0x80, 0x80], NotUtf8);
-    }
-}
-
-#[test]
-fn a_byte_that_begins_no_character_is_refused(rt: HostRuntime) {
-    assert_first_bytes_refused(&rt, rt.alloc(), 0x80, 0xC1);
-    assert_first_bytes_refused(&rt, rt.alloc(), 0xF5, 0xFF);
-}
-
 const ILL_FORMED: &[&[u8]] = &[
     // A byte that only goes on, alone and after a whole character.
     b"\x80",
@@ -151,6 +65,7 @@ const ILL_FORMED: &[&[u8]] = &[
     b"\xF0\x80\x80\x80",
     b"\xED\xBF\xBF",
     b"\xFF",
+    b"\xF5\x80\x80\x80",
     // A character that is cut short by the next one.
     b"\xF0\x9D\xC3\xA9",
 ];
