@@ -1,5 +1,5 @@
 //! Literals, whose characters a contract says by `codes`.
-ghost use Rattle.std.specs.Prelude.{◌≡◌, ◌++◌, IfOk, OnOk, codes};
+ghost use Rattle.std.specs.Prelude.{◌≡◌, ◌↔◌, ◌++◌, IfOk, IsTrue, OnOk, codes};
 ghost use Rattle.std.specs.Str.{chars};
 ghost use Rattle.inlinable_string.specs.Text.{bytes_of};
 ghost use Rattle.inlinable_string.specs.Values.{inlinable_state};
@@ -45,4 +45,12 @@ pub fn as_item<S: StringExt>(line: &mut S) -> Result<(), AllocError>
     splices_at_the_ends();
     line.insert_str(0, "- ")?;
     line.push_str(";")
+}
+
+/// Whether an answer is yes, and one of any text is.
+pub fn is_yes<S: StringExt>(answer: &InlineStringN<8>, other: &S) -> (bool, bool)
+    ensures inline { IsTrue result.0 ↔ (answer.now ≡ codes "yes") }
+    ensures any { IsTrue result.1 ↔ ((S.state other.now).text ≡ codes "yes") }
+{
+    (answer.eq_str("yes"), other.eq_str("yes"))
 }

@@ -1,7 +1,8 @@
 -- Texts and their bytes.
-use Rattle.inlinable_string.proofs.Common.{common_steps, ◌≡◌, ℕ, ◌+◌, ◌≤◌, true, List, [], ◌∷◌, ◌++◌, length, take, drop, refl, sym, ap, ◌∙◌, arith, subst, length-append, take-append-drop, length-take-le, append-nil, Result, Ok, Err, is_ok, if◌then◌else◌, OnOk, OnErr, IsOk, Option, Some, None, MatchOption, IfSome, IfNone, IsTrue, ◌↔◌, nat_eq, rules, nil_from_length, and_parts, eqb-true, ltb-true, String, string_bytes, string_len, IsUtf8-string_bytes, length-le-encodes, length-encode, len_utf8_bounds, encode_utf8, chars, chars-IsAscii, all_scalars, IsAscii, IsUtf8, IsCharBoundary, chars-nil, encodes-chars, scalars-chars, chars-append, chars_from_encodes, encodes-append, encodes_same, IsUtf8-take, IsCharBoundary-at_seam, bytes_of, size, IsCut, IsPlace, IsSplice, IsRemoval}
+use Rattle.inlinable_string.proofs.Common.{common_steps, ◌≡◌, ℕ, Bool, ◌+◌, ◌≤◌, true, List, [], ◌∷◌, ◌++◌, length, take, drop, refl, sym, ap, ◌∙◌, arith, subst, length-append, take-append-drop, length-take-le, append-nil, Result, Ok, Err, is_ok, if◌then◌else◌, OnOk, OnErr, IsOk, Option, Some, None, MatchOption, IfSome, IfNone, IsTrue, ◌↔◌, nat_eq, rules, nil_from_length, and_parts, eqb-true, ltb-true, String, string_bytes, string_len, IsUtf8-string_bytes, length-le-encodes, length-encode, len_utf8_bounds, encode_utf8, chars, chars-IsAscii, all_scalars, IsAscii, IsUtf8, IsCharBoundary, chars-nil, encodes-chars, scalars-chars, chars-append, chars_from_encodes, encodes-append, encodes_same, IsUtf8-take, IsCharBoundary-at_seam, bytes_of, size, IsCut, IsPlace, IsSplice, IsRemoval}
 use Rattle.std.proofs.lemmas.Str.Ascii.{IsAscii-nil, IsAscii-cons}
 use Rattle.std.specs.Char.{is_ascii}
+use Rattle.std.specs.Cmp.Lexicographic.{pointwise}
 use Rattle.std.specs.List.{list_all}
 use Rattle.std.specs.String.Boundary.{IsSplitPoint}
 
@@ -16,6 +17,21 @@ all_ascii (b ∷ bs) h =
 -- bytes that are ASCII are characters
 pub ascii_chars : (bs : List ℕ) → list_all is_ascii bs ≡ true → chars bs ≡ bs
 ascii_chars bs h = chars-IsAscii bs (all_ascii bs h)
+
+-- the bytes w of a text t are bs exactly if its characters are those of bs
+module _ {t w bs : List ℕ} {b : Bool} (u : IsUtf8 w) (v : IsUtf8 bs) (shown : chars w ≡ t)
+    (compared : b ≡ pointwise nat_eq w bs) where
+  same : (IsTrue b → w ≡ bs) × (w ≡ bs → IsTrue b)
+  same = search (rules, compared)
+
+  pub same_text : (IsTrue b → t ≡ chars bs) × (t ≡ chars bs → IsTrue b)
+  same_text = (
+    λ e. sym shown ∙ ap chars (same.0 e),
+    λ e. same.1 (sym (encodes-chars w u) ∙ ap bytes_of (shown ∙ e) ∙ encodes-chars bs v),
+  )
+
+  pub same_ascii : list_all is_ascii bs ≡ true → (IsTrue b → t ≡ bs) × (t ≡ bs → IsTrue b)
+  same_ascii a = subst (λ s. (IsTrue b → t ≡ s) × (t ≡ s → IsTrue b)) (ascii_chars bs a) same_text
 
 pub size-append : (a b : List ℕ) → size (a ++ b) ≡ size a + size b
 size-append a b = ap length (encodes-append a b) ∙ length-append (bytes_of a) (bytes_of b)

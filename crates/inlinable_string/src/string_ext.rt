@@ -250,7 +250,10 @@ pub trait StringExt {
 
     /// Returns whether the text is `string`.
     fn eq_str(&self, string: &str) -> bool
-        ensures { IsTrue result ↔ (bytes_of (state self.now).text ≡ string.now) }
+        ensures bytes { IsTrue result ↔ (bytes_of (state self.now).text ≡ string.now) }
+        ensures text { IsTrue result ↔ ((state self.now).text ≡ chars string.now) }
+        ensures ascii { list_all is_ascii string.now ≡ true
+            → (IsTrue result ↔ ((state self.now).text ≡ string.now)) }
     {
         self.as_str() == string
     }

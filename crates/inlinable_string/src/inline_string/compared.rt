@@ -1,11 +1,14 @@
 //! Equality, order and hashes of a text in an array, which are those of its `str`: neither where
 //! it starts nor the free bytes beside it are seen.
-ghost use Rattle.std.specs.Prelude.{◌≡◌, ◌↔◌, IsTrue, Some, nat_eq, refl};
+ghost use Rattle.std.specs.Prelude.{◌≡◌, ◌↔◌, IsTrue, Some, nat_eq, refl, true};
+ghost use Rattle.std.specs.Char.{is_ascii};
 ghost use Rattle.std.specs.Ordering.{nat_cmp};
 ghost use Rattle.std.specs.Cmp.{on_equiv, on_total, on_po, on_per, partial_equiv_from_equiv};
 ghost use Rattle.std.specs.Cmp.Lexicographic.{pointwise, slice_cmp, nat_list_eq_equiv, nat_list_cmp_total, texts_po, texts_ties};
 ghost use Rattle.std.specs.Cmp.Rules.{hashing};
 ghost use Rattle.std.specs.Hash as fed;
+ghost use Rattle.std.specs.List.{list_all};
+ghost use Rattle.std.specs.Str.{chars};
 ghost use Rattle.std.proofs.Common.{rules};
 ghost use Rattle.inlinable_string.specs.Text.{bytes_of};
 
@@ -16,7 +19,10 @@ use std::hash::{Hash, Hasher};
 impl<const N: usize> InlineStringN<N> {
     /// Returns whether the text is `string`.
     pub fn eq_str(&self, string: &str) -> bool
-        ensures { IsTrue result ↔ (bytes_of self.now ≡ string.now) }
+        ensures bytes { IsTrue result ↔ (bytes_of self.now ≡ string.now) }
+        ensures text { IsTrue result ↔ (self.now ≡ chars string.now) }
+        ensures ascii { list_all is_ascii string.now ≡ true
+            → (IsTrue result ↔ (self.now ≡ string.now)) }
     {
         self.as_str() == string
     }
