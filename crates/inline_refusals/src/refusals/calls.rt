@@ -2,10 +2,10 @@
 use super::kind::Kind::{self, N0, N8, N30, String, User};
 use super::kind::assert_rows;
 use super::row::Call::{
-    self, Add, Chars, Clone, From, FromChars, FromJson, FromStr, FromStrs, FromUtf8Lossy,
-    FromUtf16, FromUtf16Lossy, InsertFirst, InsertStrFirst, IntoBytes, Push, PushStr, Reserve,
-    ReserveExact, ShrinkToFit, Strs, ToLimit8, ToLimit300, Unpaired, WriteChar, WriteFormatted,
-    WriteStr,
+    self, Add, Case, Chars, Clone, From, FromChars, FromJson, FromStr, FromStrs, FromUtf8Lossy,
+    FromUtf16, FromUtf16Lossy, InsertFirst, InsertStrFirst, IntoArray, IntoBytes, IntoString, Push,
+    PushStr, ReplaceRange, Reserve, ReserveExact, Retain, ShrinkToFit, SplitOff, Strs,
+    ThroughString, ToLimit8, ToLimit300, Unpaired, WriteChar, WriteFormatted, WriteStr,
 };
 use super::row::Way::{Own, Refs, Std};
 use super::row::{Row, Text};
@@ -272,6 +272,81 @@ const WRITTEN_CHARS: &[Row] = &[
 #[test]
 fn a_character_is_written_into_a_text(rt: HostRuntime) -> Result<(), Fail> {
     assert_rows(&rt, rt.alloc(), WRITTEN_CHARS)
+}
+
+/// The range is the first character: what replaces it ends with one.
+const REPLACED: &[Row] = &[
+    (N30, (0, A29), ReplaceRange(0, 1, "ba"), 0, "b", "", Inline),
+    (N30, (0, A30), ReplaceRange(0, 1, "éa"), 1, "é", "", Heap),
+    (N0, (0, ""), ReplaceRange(0, 0, "é"), 1, "é", "", Heap),
+    (
+        N30,
+        (31, A31),
+        ReplaceRange(31, 31, "bc"),
+        1,
+        "",
+        "bc",
+        Heap,
+    ),
+    (N30, (34, A31), ReplaceRange(0, 1, "bca"), 0, "bc", "", Heap),
+];
+
+#[test]
+fn a_range_is_replaced(rt: HostRuntime) -> Result<(), Fail> {
+    assert_rows(&rt, rt.alloc(), REPLACED)
+}
+
+const SPLIT: &[Row] = &[
+    (N30, (31, A31), SplitOff, 1, "", "", Heap),
+    (N30, (31, A30), SplitOff, 0, "", "", Inline),
+    (N30, (0, A30), SplitOff, 0, "", "", Inline),
+    (N8, (31, "123456789"), SplitOff, 1, "", "", Heap),
+];
+
+#[test]
+fn a_text_is_split(rt: HostRuntime) -> Result<(), Fail> {
+    assert_rows(&rt, rt.alloc(), SPLIT)
+}
+
+const KEPT: &[Row] = &[
+    (N30, (31, A31), Retain, 0, "", "", Heap),
+    (N30, (0, A30), Retain, 0, "", "", Inline),
+    (N30, (31, A31), Case, 0, "", "", Heap),
+    (N30, (0, A30), Case, 0, "", "", Inline),
+];
+
+#[test]
+fn characters_are_kept_and_change_their_case(rt: HostRuntime) -> Result<(), Fail> {
+    assert_rows(&rt, rt.alloc(), KEPT)
+}
+
+const STRINGS: &[Row] = &[
+    (N30, (31, A31), IntoString, 0, "", "", Heap),
+    (N30, (0, A30), IntoString, 1, "", "", Heap),
+    (N8, (0, "12345678"), IntoString, 1, "", "", Heap),
+    (N30, (31, A31), ThroughString, 0, "", "", Heap),
+    (N30, (31, A30), ThroughString, 0, "", "", Inline),
+    (N30, (31, A31), IntoArray, 0, "", "", Heap),
+    (N30, (31, A30), IntoArray, 0, "", "", Inline),
+];
+
+#[test]
+fn a_text_becomes_a_string_and_is_made_of_one(rt: HostRuntime) -> Result<(), Fail> {
+    assert_rows(&rt, rt.alloc(), STRINGS)
+}
+
+#[test]
+fn edits_of_an_array_request_nothing(rt: HostRuntime) -> Result<(), Fail> {
+    let mut text = InlineStringN::<8>::from("aéb1");
+    let copy = text.copy();
+    assert!(&rt; text.is_char_boundary(1) && text.is_char_boundary(3));
+    assert!(&rt; text.replace_range(1..3, "€").is_ok() && text.as_str() == "a€b1");
+    text.retain(|ch| !ch.is_ascii_digit());
+    text.make_ascii_uppercase();
+    assert!(&rt; text.is_char_boundary(1));
+    let rest = text.split_off(1);
+    assert!(&rt; text.as_str() == "A" && rest.as_str() == "€B" && copy.as_str() == "aéb1");
+    super::tell(&rt, rt.alloc(), &Refusals::none(), (0, 0))
 }
 
 #[test]

@@ -4,7 +4,7 @@ ghost use Rattle.std.specs.Prelude.{◌≤◌};
 use super::row::{Call, Outcome, Row, Way, Wrong, outcome, started, wrong_made, wrong_refusal};
 use Way::{Own, Refs, Std};
 use inlinable_string::inline_json::JsonError;
-use inlinable_string::{InlinableStringN, StringExt};
+use inlinable_string::{InlinableStringN, InlineStringN, Storage, StringExt};
 use std::alloc::{AllocError, Global};
 use std::fmt::Write;
 use std::process::Abort;
@@ -76,6 +76,58 @@ fn is_added<const N: usize>(text: &mut InlinableStringN<N>, call: Call, is_again
     }
 }
 
+/// Edits a text in a way that `String` has and the traits lack. What is split off is the text then.
+fn edited<const N: usize>(
+    mut text: InlinableStringN<N>,
+    call: Call,
+) -> Result<InlinableStringN<N>, InlinableStringN<N>>
+    requires { N ≤ 300 }
+{
+    let answer = match call {
+        Call::ReplaceRange(from, to, with)
+            if from <= to && text.is_char_boundary(from) && text.is_char_boundary(to) =>
+            text.replace_range(from..to, with),
+        Call::SplitOff if text.is_char_boundary(0) => match text.split_off(0) {
+            Ok(rest) if text.is_empty() => {
+                text = rest;
+                Ok(())
+            }
+            Ok(_) => Ok(()),
+            Err(AllocError) => Err(AllocError),
+        },
+        Call::Retain => {
+            text.retain(|_| true);
+            Ok(())
+        }
+        _ => {
+            text.make_ascii_uppercase();
+            text.make_ascii_lowercase();
+            Ok(())
+        }
+    };
+    match answer {
+        Ok(()) => Ok(text),
+        Err(AllocError) => Err(text),
+    }
+}
+
+/// What is wrong with a text that becomes a `String`, and then a text or an array.
+fn wrong_through<const N: usize>(string: String, row: &Row) -> Option<Wrong>
+    requires { N ≤ 300 }
+{
+    match row.2 {
+        Call::IntoString => wrong_made(string.as_str(), string.storage(), row),
+        Call::ThroughString => {
+            let text: InlinableStringN<N> = string.into();
+            wrong_made(text.as_str(), text.storage(), row)
+        }
+        _ => match InlineStringN::<N>::try_from(string) {
+            Ok(text) => wrong_made(text.as_str(), Storage::Inline, row),
+            Err(back) => wrong_made(back.as_str(), Storage::Heap, row),
+        },
+    }
+}
+
 /// Makes a call of this type or of its traits.
 fn own_outcome<const N: usize>(
     alloc: Global,
@@ -122,6 +174,13 @@ fn own_outcome<const N: usize>(
                 Err(JsonError::NoMemory) => Err(text),
             }
         }
+        Call::ReplaceRange(..) | Call::SplitOff | Call::Retain | Call::Case => edited(
+            text, row.2,
+        ).map(|text| wrong_made(text.as_str(), text.storage(), row)),
+        Call::IntoString | Call::ThroughString | Call::IntoArray => match text.into_string() {
+            Ok(string) => Ok(wrong_through::<N>(string, row)),
+            Err(kept) => Err(kept),
+        },
         _ => outcome(alloc, text, row),
     }
 }

@@ -52,6 +52,19 @@ pub enum Call {
     ToLimit8,
     ToLimit300,
     FromJson,
+    /// Replaces the bytes between two offsets.
+    ReplaceRange(usize, usize, Text),
+    /// Splits all off.
+    SplitOff,
+    /// Keeps each character.
+    Retain,
+    /// To upper case, and back to lower case.
+    Case,
+    IntoString,
+    /// And back by `into`.
+    ThroughString,
+    /// And then by `try_from` into an array, or back as it is.
+    IntoArray,
 }
 
 pub type Text = &'static str;
