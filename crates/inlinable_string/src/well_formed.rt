@@ -155,7 +155,7 @@ fn row_of(byte: u8) -> u64
 /// Returns whether each byte is ASCII.
 // No early exit, so that the loop is vectorized.
 #[inline(always)]
-fn is_ascii(bytes: &[u8]) -> bool
+pub(crate) fn is_ascii(bytes: &[u8]) -> bool
     ensures { IsTrue result ↔ IsAscii bytes.now }
 {
     let mut is_ascii = true;
