@@ -6,11 +6,8 @@ ghost use Rattle.inlinable_string.specs.Text.{size};
 ghost use Rattle.inlinable_string.specs.Lossy.{lossy_utf8, char_len, subpart_len, count_in, following};
 
 use crate::cells::write_at;
-use crate::well_formed::is_ascii;
+use crate::well_formed::{LANES, is_ascii};
 use std::alloc::{AllocError, Global};
-
-/// The bytes that are tested for ASCII together.
-const LANES: usize = 8;
 
 /// Decodes the bytes, with U+FFFD for each maximal subpart that is no character. Allocates once,
 /// with the capacity that [`room_for`] returns.
@@ -33,7 +30,7 @@ fn room_for(bytes: &[u8]) -> Option<usize>
 {
     let mut others: usize = 0;
     let mut start = 0;
-    // by parts whose count is a `u8`, of which the loop adds more at a time
+    // Counts in a `u8` are added 16 at a time, those in a `usize` by two.
     while start < bytes.len() {
         let end = start + (bytes.len() - start).min(255);
         let mut few: u8 = 0;
@@ -63,7 +60,7 @@ fn write(bytes: &[u8], made: &mut [u8]) -> usize
             end += LANES;
             continue;
         }
-        // its bytes are not tested together again
+        // These bytes are read by characters, and no block of them is tested again.
         let untested = rest.len().saturating_sub(LANES);
         while untested < rest.len() {
             match char_or_subpart_len(rest) {
