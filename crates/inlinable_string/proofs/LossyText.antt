@@ -5,17 +5,17 @@ use Rattle.inlinable_string.proofs.Text.{size-append, size-chars}
 use Rattle.inlinable_string.proofs.Subparts.{one_more, lossy_valid, no_char, replaced-chars}
 use Rattle.inlinable_string.proofs.Starts.{ascii}
 
--- what a character at the front is read as
-char_front : (bs : List ℕ) (k : ℕ) → char_len bs ≡ k → 0 < k → IsUtf8 (take k bs)
+-- a character at the front
+pub char_front : (bs : List ℕ) (k : ℕ) → char_len bs ≡ k → 0 < k → IsUtf8 (take k bs)
 char_front bs k is some =
     let all : 0 + k ≡ k = omega arith in
     subst (λ n. IsUtf8 (take n bs)) all (one_more bs 0 k IsUtf8-nil is some)
 
-char_read : (bs : List ℕ) (k : ℕ) → char_len bs ≡ k → 0 < k
+-- what text at the front is read as
+run_read : (bs : List ℕ) (k : ℕ) → IsUtf8 (take k bs)
     → lossy_utf8 bs ≡ chars (take k bs) ++ lossy_utf8 (drop k bs)
-char_read bs k is some =
-    ap lossy_utf8 (sym (take-append-drop k bs))
-    ∙ lossy_valid (take k bs) (drop k bs) (char_front bs k is some)
+run_read bs k u =
+    ap lossy_utf8 (sym (take-append-drop k bs)) ∙ lossy_valid (take k bs) (drop k bs) u
 
 -- the code of U+FFFD
 replacement : IsUtf8 (0xEF ∷ 0xBF ∷ 0xBD ∷ [])
@@ -57,21 +57,21 @@ size_left bs rest made end so =
       length-take-le end made so.within,
     )
 
--- there is room for the character that comes
-pub char_room : (bs rest made : List ℕ) (end k : ℕ) → Written bs rest made end
-    → size (lossy_utf8 bs) ≤ length made → char_len rest ≡ k → 0 < k → k ≤ length rest
+-- there is room for the text that comes
+pub run_room : (bs rest made : List ℕ) (end k : ℕ) → Written bs rest made end
+    → size (lossy_utf8 bs) ≤ length made → IsUtf8 (take k rest) → k ≤ length rest
     → end + k ≤ length made
-char_room bs rest made end k so room is some within =
+run_room bs rest made end k so room u within =
     omega (
       arith,
       size_left bs rest made end so,
-      ap size (char_read rest k is some),
+      ap size (run_read rest k u),
       size-append (chars (take k rest)) (lossy_utf8 (drop k rest)),
-      size-chars (take k rest) (char_front rest k is some),
+      size-chars (take k rest) u,
       length-take-le k rest within,
     )
 
--- for U+FFFD too, where none does
+-- for U+FFFD too, where none comes
 pub fault_room : (bs rest made : List ℕ) (end : ℕ) → Written bs rest made end
     → size (lossy_utf8 bs) ≤ length made → char_len rest ≡ 0 → 0 < length rest
     → end + 3 ≤ length made
@@ -83,21 +83,20 @@ fault_room bs rest made end so room none some =
       replaced_size (lossy_utf8 (drop (subpart_len rest) rest)),
     )
 
--- a character more
-pub char_written : (bs rest made new : List ℕ) (end k : ℕ) → Written bs rest made end
-    → char_len rest ≡ k → 0 < k → end + k ≤ length new
+-- text more
+pub run_written : (bs rest made new : List ℕ) (end k : ℕ) → Written bs rest made end
+    → IsUtf8 (take k rest) → end + k ≤ length new
     → take (end + k) new ≡ take end made ++ take k rest → Written bs (drop k rest) new (end + k)
-char_written bs rest made new end k so is some within front =
-    let u = char_front rest k is some in record {
-      within = within;
-      utf8 = subst IsUtf8 (sym front) (IsUtf8-append _ _ so.utf8 u);
-      text = ap (λ f. chars f ++ lossy_utf8 (drop k rest)) front
-          ∙ ap (λ t. t ++ lossy_utf8 (drop k rest))
-          (chars-append (take end made) (take k rest) so.utf8)
-          ∙ append_assoc (chars (take end made)) (chars (take k rest)) (lossy_utf8 (drop k rest))
-          ∙ ap (λ t. chars (take end made) ++ t) (sym (char_read rest k is some))
-          ∙ so.text;
-    }
+run_written bs rest made new end k so u within front = record {
+  within = within;
+  utf8 = subst IsUtf8 (sym front) (IsUtf8-append _ _ so.utf8 u);
+  text = ap (λ f. chars f ++ lossy_utf8 (drop k rest)) front
+      ∙ ap (λ t. t ++ lossy_utf8 (drop k rest))
+      (chars-append (take end made) (take k rest) so.utf8)
+      ∙ append_assoc (chars (take end made)) (chars (take k rest)) (lossy_utf8 (drop k rest))
+      ∙ ap (λ t. chars (take end made) ++ t) (sym (run_read rest k u))
+      ∙ so.text;
+}
 
 -- a maximal subpart more
 pub fault_written : (bs rest made new : List ℕ) (end k : ℕ) → Written bs rest made end

@@ -63,7 +63,7 @@ const ROWS: &[u64] = &[
 const NO_TEXT: u64 = 0o60;
 
 /// The bytes that are tested for ASCII together.
-const LANES: usize = 16;
+pub(crate) const LANES: usize = 16;
 
 /// Those at the front, where a longer text is often ASCII throughout.
 const FRONT_LANES: usize = 64;
@@ -155,7 +155,7 @@ fn row_of(byte: u8) -> u64
 /// Returns whether each byte is ASCII.
 // No early exit, so that the loop is vectorized.
 #[inline(always)]
-fn is_ascii(bytes: &[u8]) -> bool
+pub(crate) fn is_ascii(bytes: &[u8]) -> bool
     ensures { IsTrue result ↔ IsAscii bytes.now }
 {
     let mut is_ascii = true;

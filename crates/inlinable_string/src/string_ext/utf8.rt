@@ -5,6 +5,8 @@ ghost use Rattle.std.specs.String.{string_bytes};
 ghost use Rattle.inlinable_string.specs.Text.{size};
 ghost use Rattle.inlinable_string.specs.Lossy.{lossy_utf8, char_len, subpart_len, count_in, following};
 
+use crate::cells::write_at;
+use crate::well_formed::{LANES, is_ascii};
 use std::alloc::{AllocError, Global};
 
 /// Decodes the bytes, with U+FFFD for each maximal subpart that is no character. Allocates once,
@@ -27,10 +29,18 @@ fn room_for(bytes: &[u8]) -> Option<usize>
     ensures { IfSome result (λ room. size (lossy_utf8 bytes.now) ≤ room) }
 {
     let mut others: usize = 0;
-    for i in 0..bytes.len() {
-        if 0x80 <= bytes[i] {
-            others += 1;
+    let mut start = 0;
+    // Counts in a `u8` are added 16 at a time, those in a `usize` by two.
+    while start < bytes.len() {
+        let end = start + (bytes.len() - start).min(255);
+        let mut few: u8 = 0;
+        for i in start..end {
+            if 0x80 <= bytes[i] {
+                few += 1;
+            }
         }
+        others += usize::from(few);
+        start = end;
     }
     others.checked_mul(2)?.checked_add(bytes.len())
 }
@@ -44,16 +54,26 @@ fn write(bytes: &[u8], made: &mut [u8]) -> usize
     let mut rest = bytes;
     let mut end = 0;
     while 0 < rest.len() {
-        match char_or_subpart_len(rest) {
-            Ok(len) => {
-                write_char(rest, len, made, end);
-                rest = &rest[len..];
-                end += len;
-            }
-            Err(len) => {
-                write_replacement(made, end);
-                rest = &rest[len..];
-                end += 3;
+        if LANES <= rest.len() && is_ascii(&rest[..LANES]) {
+            write_at(made, end, &rest[..LANES]);
+            rest = &rest[LANES..];
+            end += LANES;
+            continue;
+        }
+        // These bytes are read by characters, and no block of them is tested again.
+        let untested = rest.len().saturating_sub(LANES);
+        while untested < rest.len() {
+            match char_or_subpart_len(rest) {
+                Ok(len) => {
+                    write_char(rest, len, made, end);
+                    rest = &rest[len..];
+                    end += len;
+                }
+                Err(len) => {
+                    write_replacement(made, end);
+                    rest = &rest[len..];
+                    end += 3;
+                }
             }
         }
     }

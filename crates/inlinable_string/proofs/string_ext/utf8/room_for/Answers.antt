@@ -13,5 +13,5 @@ within (Some s) Fits n m is less = omega (arith, is.1)
 pub returns : goal.returns
 returns c =
     let bytes = c.args.bytes.now in
-    let all = at_drop_all most bytes c.loop-i.i (omega arith) in
+    let all = at_drop_all most bytes c.loop-start.start (omega arith) in
     within _ _ _ _ c.checked_add.ensures (omega (arith, all, within_most bytes))
