@@ -1,10 +1,10 @@
 //! A decoder of UTF-16: each unit is read by itself and its two neighbours.
-ghost use Rattle.std.specs.Prelude.{◌≡◌, ◌+◌, ◌-◌, ◌*◌, ◌%◌, ◌<◌, ◌≤◌, ◌↔◌, ◌||◌, [], ◌∷◌, ◌++◌, length, take, IfOk, IsTrue, Err};
+ghost use Rattle.std.specs.Prelude.{ℕ, slice_index, ◌≡◌, ◌+◌, ◌-◌, ◌*◌, ◌%◌, ◌<◌, ◌≤◌, ◌↔◌, ◌||◌, [], ◌∷◌, ◌++◌, length, take, IfOk, IsTrue, Err};
 ghost use Rattle.std.specs.Char.Utf16.{is_high_surrogate, is_low_surrogate, surrogate_pair_char};
 ghost use Rattle.std.specs.Str.{chars, IsAscii};
 ghost use Rattle.std.specs.String.{string_bytes};
 ghost use Rattle.inlinable_string.specs.Text.{bytes_of, size};
-ghost use Rattle.inlinable_string.specs.Utf16.{HasUnpaired, lossy_unit, lossy_utf16};
+ghost use Rattle.inlinable_string.specs.Utf16.{HasUnpaired, lossy_unit, lossy_utf16, lossy_utf16_before};
 ghost use Rattle.inlinable_string.specs.Utf16Count.{unit_len, len_before, mismatches_before};
 ghost use Rattle.inlinable_string.specs.declared.string_ext.make.Utf16Error.TheVariants.{Unpaired};
 
@@ -156,8 +156,20 @@ fn text_of_len(alloc: Global, units: &[u16], len: usize) -> Result<String, Alloc
 }
 
 /// Writes the UTF-8 of that text.
-#[tactic(auto, using(crate::proofs::Units::written))]
 fn write_units(units: &[u16], bytes: &mut [u8])
+    requires { length bytes.old ≡ size (lossy_utf16 units.now) }
+    ensures { bytes.new ≡ bytes_of (lossy_utf16 units.now) }
+{
+    if bytes.len() < units.len() + units.len() / 4 {
+        write_mostly_ascii(units, bytes);
+    } else {
+        write_each(units, bytes);
+    }
+}
+
+/// The same, unit by unit.
+#[tactic(auto, using(crate::proofs::Units::written))]
+fn write_each(units: &[u16], bytes: &mut [u8])
     requires { length bytes.old ≡ size (lossy_utf16 units.now) }
     ensures { bytes.new ≡ bytes_of (lossy_utf16 units.now) }
 {
@@ -165,6 +177,79 @@ fn write_units(units: &[u16], bytes: &mut [u8])
     for i in 0..units.len() {
         at = write_unit(units, i, bytes, at);
     }
+}
+
+/// The units that are tested for ASCII together.
+const LANES: usize = 8;
+
+/// The same, with units that are ASCII written several at a time: quicker where most are.
+// Out of line: else the bytes may be the units for all that the compiler knows, and each is written
+// by itself. Where a block is not ASCII, none is tested up to the unit that is not.
+#[inline(never)]
+#[tactic(auto, using(crate::proofs::Units::written))]
+fn write_mostly_ascii(units: &[u16], bytes: &mut [u8])
+    requires { length bytes.old ≡ size (lossy_utf16 units.now) }
+    ensures { bytes.new ≡ bytes_of (lossy_utf16 units.now) }
+{
+    let mut at = 0;
+    let mut i = 0;
+    let mut is_tested = true;
+    while i < units.len() {
+        if is_tested && LANES <= units.len() - i && is_ascii_block(units, i) {
+            at = write_block(units, i, bytes, at);
+            i += LANES;
+        } else {
+            is_tested = 0x80 <= units[i];
+            at = write_unit(units, i, bytes, at);
+            i += 1;
+        }
+    }
+}
+
+/// Returns whether each of the units of the block at `from` is ASCII.
+#[inline(always)]
+fn is_ascii_block(units: &[u16], from: usize) -> bool
+    requires { from + 8 ≤ length units.now }
+    ensures { IsTrue result
+        ↔ ((j : ℕ) → from ≤ j → j < from + 8 → slice_index units.now j < 0x80) }
+{
+    let mut is_ascii = true;
+    for i in from..from + LANES {
+        is_ascii &= units[i] < 0x80;
+    }
+    is_ascii
+}
+
+/// Writes the units of that block after what those before it give, and returns where they end.
+#[inline(always)]
+#[tactic(auto, using(crate::proofs::Units::written))]
+fn write_block(units: &[u16], from: usize, bytes: &mut [u8], at: usize) -> usize
+    requires units { from + 8 ≤ length units.now }
+    requires ascii { (j : ℕ) → from ≤ j → j < from + 8 → slice_index units.now j < 0x80 }
+    requires room { length bytes.old ≡ size (lossy_utf16 units.now) }
+    requires at { at ≡ size (lossy_utf16_before units.now from) }
+    requires before { take at bytes.old ≡ bytes_of (lossy_utf16_before units.now from) }
+    ensures end { result ≡ size (lossy_utf16_before units.now (from + 8)) }
+    ensures bytes { take result bytes.new ≡ bytes_of (lossy_utf16_before units.now (from + 8)) }
+{
+    let mut end = at;
+    for i in from..from + LANES {
+        end = write_ascii_unit(units, i, bytes, end);
+    }
+    end
+}
+
+/// Writes the unit at `i`, which is ASCII, at `at`, and returns where it ends.
+#[inline(always)]
+fn write_ascii_unit(units: &[u16], i: usize, bytes: &mut [u8], at: usize) -> usize
+    requires unit { i < length units.now }
+    requires ascii { slice_index units.now i < 0x80 }
+    requires room { at + size (lossy_unit units.now i) ≤ length bytes.old }
+    ensures end { result ≡ at + size (lossy_unit units.now i) }
+    ensures bytes { take result bytes.new ≡ take at bytes.old ++ bytes_of (lossy_unit units.now i) }
+{
+    bytes[at] = units[i] as u8;
+    at + 1
 }
 
 /// Writes the UTF-8 of what the unit at `i` gives from `at` on, and returns where that ends.
@@ -178,8 +263,7 @@ fn write_unit(units: &[u16], i: usize, bytes: &mut [u8], at: usize) -> usize
     let unit = units[i];
     // The usual cases first: no neighbour is looked at.
     if unit < 0x80 {
-        bytes[at] = unit as u8;
-        return at + 1;
+        return write_ascii_unit(units, i, bytes, at);
     }
     if !is_surrogate(unit) {
         return write_char(unit_char(unit), bytes, at);

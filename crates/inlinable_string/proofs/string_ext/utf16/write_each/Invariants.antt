@@ -1,5 +1,5 @@
 use Rattle.inlinable_string.proofs.Common.{◌≡◌, length, take, bytes_of, size, lossy_utf16, lossy_utf16_before}
-use Rattle.inlinable_string.proofs.string_ext.utf16.write_units.Given as goal
+use Rattle.inlinable_string.proofs.string_ext.utf16.write_each.Given as goal
 
 abbrev pub invariant-loop-i : goal.invariant-loop-i
 invariant-loop-i l = record {
