@@ -8,4 +8,5 @@ pub mod Search
 pub mod Shown
 pub mod Tables
 pub mod Trees
+pub mod Under
 pub mod Words

@@ -1,35 +1,48 @@
--- The JSON object of a place, of which the nodes before the n-th have been shown.
-use Rattle.std.proofs.Common.{◌≡◌, ◌↔◌, ◌+◌, ◌<◌, ℕ, List, [], ◌∷◌, Bool, true, false, Option, Some, IsSome, map, refl, sym, ap, subst, ◌∙◌, arith}
+-- The JSON object of a place, of whose nodes some have been shown, and others are left.
+use Rattle.std.proofs.Common.{◌≡◌, ◌↔◌, ◌⊎◌, inl, inr, ℕ, List, [], ◌∷◌, Bool, true, false, Option, Some, IsSome, map, refl, sym, ap, subst}
 use Rattle.std.specs.Prelude.{slice_get, nat_eq, IsUtf8}
+use Rattle.std.specs.BTreeMap.{BTreeMap}
 use Rattle.std.specs.Bool.{Decides}
 use Rattle.std.specs.Cmp.Lexicographic.{pointwise, bytes_decides}
 use Rattle.std.specs.List.{AllByRecursion}
 use Rattle.std.specs.Str.{chars}
 use Rattle.inlinable_string.specs.Text.{bytes_of}
-use Rattle.serde_json.specs.Data.{Data, object, Members, put}
+use Rattle.serde_json.specs.Data.{Data, object, Members, no_members, put}
 use Rattle.serde_json.specs.Find.{get_member}
 use Rattle.serde_json.proofs.Views.{get_member-put, get_member-put_other}
-use Rattle.inline_uses.specs.Tree.{node_at, IsTree, Leads, walk, IsShown}
+use Rattle.inline_uses.specs.Tree.{node_at, IsTree, AreFound, Leads, walk, IsShown}
 use Rattle.inline_uses.specs.declared.tree.Node.{Node}
+use Rattle.inline_uses.proofs.Under.{Entry, IsLeft, under, found_left}
 
--- the keys lead down from a node under the place before the n-th
-abbrev pub Starts : List Node → Option ℕ → ℕ → List ℕ → List (List ℕ) → Type 0
-Starts nodes place n key keys = (id : ℕ) × (to : ℕ) × (id < n)
-    × (slice_get nodes id ≡ Some (node_at place (chars key)))
-    × Leads nodes (Some id) (map chars keys) to
+-- the keys lead down from the place to a node
+abbrev pub Starts : List Node → Option ℕ → List ℕ → List (List ℕ) → Type 0
+Starts nodes place key keys = (to : ℕ) × Leads nodes place (map chars (key ∷ keys)) to
 
-abbrev pub IsShownTo : List Node → Option ℕ → ℕ → Data → Type 0
-IsShownTo nodes place n d =
+-- the value shows nodes under the place, and all whose keys are not left
+abbrev pub IsShownBut : List Node → Option ℕ → Data → List Entry → Type 0
+IsShownBut nodes place d left =
     (key : List ℕ) (keys : List (List ℕ)) → IsUtf8 key → AllByRecursion IsUtf8 keys
-    → IsSome (walk d (key ∷ keys)) ↔ Starts nodes place n key keys
+    → (IsSome (walk d (key ∷ keys)) → Starts nodes place key keys)
+    × (Starts nodes place key keys → IsSome (walk d (key ∷ keys)) ⊎ IsLeft left key)
 
-pub all_shown : (nodes : List Node) (place : Option ℕ) (n : ℕ) (d : Data)
-    → ((id : ℕ) (node : Node) → slice_get nodes id ≡ Some node → id < n)
-    → IsShownTo nodes place n d → IsShown nodes place d
-all_shown nodes place n d within shown = λ key keys utf8 all.
-    let s = shown key keys utf8 all in (
-      (λ some. let (id, to, below, is, leads) = s.0 some in (to, (id, is, leads))),
-      λ (to, (id, is, leads)). s.1 (id, to, within id _ is, is, leads),
+pub none_shown : (nodes : List Node) (place : Option ℕ) (ids : BTreeMap (Option ℕ × List ℕ) ℕ)
+    → ((bs : List ℕ) → IsUtf8 bs → bytes_of (chars bs) ≡ bs) → AreFound nodes ids
+    → IsShownBut nodes place (object no_members) (under place ids.entries)
+none_shown nodes place ids law found = λ key keys utf8 all. (
+  (λ some. cc),
+  λ (to, (id, here, leads)). inr (found_left place key ids.entries id (law key utf8)
+      ((found place (chars key) id (ap chars (law key utf8))).1 here)),
+)
+
+pub all_shown : (nodes : List Node) (place : Option ℕ) (d : Data)
+    → IsShownBut nodes place d [] → IsShown nodes place d
+all_shown nodes place d shown = λ key keys utf8 all.
+    let (is, has) = shown key keys utf8 all in (
+      is,
+      λ leads. elim (has leads) [
+        | inl some ↦ some
+        | inr none ↦ absurd none
+      ],
     )
 
 -- a node n that is under the place, and is shown as the member k
@@ -44,53 +57,44 @@ module _ (nodes : List Node) (place : Option ℕ) (n : ℕ) (k : List ℕ) (v : 
   -- keys that begin with its own
   under_key : (key : List ℕ) (keys : List (List ℕ)) → AllByRecursion IsUtf8 keys
       → chars (bytes_of k) ≡ k → IsShown nodes (Some n) v → key ≡ bytes_of k
-      → IsSome (walk (object (put (bytes_of k) v ms)) (key ∷ keys))
-      ↔ Starts nodes place (n + 1) key keys
+      → IsSome (walk (object (put (bytes_of k) v ms)) (key ∷ keys)) ↔ Starts nodes place key keys
   under_key key keys all text inner e =
       let below = same_below inner keys all in
       let found : get_member key (put (bytes_of k) v ms) ≡ Some v =
       rw e (get_member-put (bytes_of k) v ms) in
       let named : slice_get nodes n ≡ Some (node_at place (chars key)) = rw (e, text) is in (
-        (λ some. let (to, leads) = below.0 (rw found at some) in
-            (n, to, omega arith, named, leads)),
-        λ (id, to, less, here, leads).
+        (λ some. let (to, leads) = below.0 (rw found at some) in (to, (n, named, leads))),
+        λ (to, (id, here, leads)).
             let same : id ≡ n = tree.once id n _ here named in
             rw found (below.1
             (to, subst (λ i. Leads nodes (Some i) (map chars keys) to) same leads)),
       )
 
-  -- keys that begin with another
-  under_other : (key : List ℕ) (keys : List (List ℕ)) → IsUtf8 key → AllByRecursion IsUtf8 keys
-      → ((bs : List ℕ) → IsUtf8 bs → bytes_of (chars bs) ≡ bs)
-      → IsShownTo nodes place n (object ms) → ¬ (key ≡ bytes_of k)
-      → IsSome (walk (object (put (bytes_of k) v ms)) (key ∷ keys))
-      ↔ Starts nodes place (n + 1) key keys
-  under_other key keys utf8 all law outer differs =
-      let other : get_member key (put (bytes_of k) v ms) ≡ get_member key ms =
-      get_member-put_other key (bytes_of k) v ms differs in
-      let s = outer key keys utf8 all in (
-        (λ some. let (id, to, less, here, leads) = s.0 (rw other at some) in
-            (id, to, omega arith, here, leads)),
-        λ (id, to, less, here, leads).
-            let apart : ¬ (id ≡ n) = λ same.
-            let e : Some (node_at place (chars key)) ≡ Some (node_at place k)
-            = sym here ∙ ap (slice_get nodes) same ∙ is in
-            let e : node_at place (chars key) ≡ node_at place k = cc in
-            let name : chars key ≡ k = ap (λ (m : Node). m.key) e in
-            differs (sym (law key utf8) ∙ ap bytes_of name) in
-            rw other (s.1 (id, to, omega (arith, apart), here, leads)),
-      )
-
-  pub put_in : chars (bytes_of k) ≡ k → ((bs : List ℕ) → IsUtf8 bs → bytes_of (chars bs) ≡ bs)
-      → IsShown nodes (Some n) v → IsShownTo nodes place n (object ms)
-      → IsShownTo nodes place (n + 1) (object (put (bytes_of k) v ms))
-  put_in text law inner outer = λ key keys utf8 all.
+  pub put_in : (p : Option ℕ) (left : List Entry) → chars (bytes_of k) ≡ k
+      → IsShown nodes (Some n) v → IsShownBut nodes place (object ms) (((p, k), n) ∷ left)
+      → IsShownBut nodes place (object (put (bytes_of k) v ms)) left
+  put_in p left text inner outer = λ key keys utf8 all.
       by_test key keys utf8 all (pointwise nat_eq key (bytes_of k)) (bytes_decides key (bytes_of k))
     where
       by_test : (key : List ℕ) (keys : List (List ℕ)) → IsUtf8 key → AllByRecursion IsUtf8 keys
           → (b : Bool) → Decides b (key ≡ bytes_of k)
-          → IsSome (walk (object (put (bytes_of k) v ms)) (key ∷ keys))
-          ↔ Starts nodes place (n + 1) key keys
-      by_test key keys utf8 all true told = under_key key keys all text inner (told.0 refl)
+          → (IsSome (walk (object (put (bytes_of k) v ms)) (key ∷ keys)) → Starts nodes place key keys)
+          × (Starts nodes place key keys
+          → IsSome (walk (object (put (bytes_of k) v ms)) (key ∷ keys)) ⊎ IsLeft left key)
+      by_test key keys utf8 all true told =
+          let own = under_key key keys all text inner (told.0 refl) in
+          (own.0, λ leads. inl (own.1 leads))
       by_test key keys utf8 all false told =
-          under_other key keys utf8 all law outer (λ e. let f : false ≡ true = told.1 e in cc)
+          let differs : ¬ (key ≡ bytes_of k) = λ e. let f : false ≡ true = told.1 e in cc in
+          let other : get_member key (put (bytes_of k) v ms) ≡ get_member key ms =
+          get_member-put_other key (bytes_of k) v ms differs in
+          let s = outer key keys utf8 all in (
+            (λ some. s.0 (rw other at some)),
+            λ leads. elim (s.1 leads) [
+              | inl some ↦ inl (rw other some)
+              | inr here ↦ elim here [
+                | inl own ↦ absurd (differs (sym own))
+                | inr later ↦ inr later
+              ]
+            ],
+          )

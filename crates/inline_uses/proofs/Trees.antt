@@ -34,17 +34,17 @@ grown nodes place key tree has none short = record {
 }
 
 -- places that compare equal are one place
-same_place : (p q : Option ℕ) → option_cmp nat_cmp p q ≡ Equal → p ≡ q
+pub same_place : (p q : Option ℕ) → option_cmp nat_cmp p q ≡ Equal → p ≡ q
 same_place None None e = refl
 same_place None (Some y) e = cc
 same_place (Some x) None e = cc
 same_place (Some x) (Some y) e = ap Some (ranked x y Equal (sym e))
 
-place_tied : (p : Option ℕ) → option_cmp nat_cmp p p ≡ Equal
+pub place_tied : (p : Option ℕ) → option_cmp nat_cmp p p ≡ Equal
 place_tied None = refl
 place_tied (Some x) = tied_itself nat_cmp_total x
 
-both_tied : (o r : Ordering) → is_eq (ordering_then o r) ≡ true → (o ≡ Equal) × (r ≡ Equal)
+pub both_tied : (o r : Ordering) → is_eq (ordering_then o r) ≡ true → (o ≡ Equal) × (r ≡ Equal)
 both_tied Less r e = cc
 both_tied Equal Less e = cc
 both_tied Equal Equal e = (refl, refl)

@@ -270,11 +270,12 @@ fn flat(alloc: Global, members: usize) -> Result<Value, Fail> {
 }
 
 #[test]
-fn a_flat_object_of_many_keys_is_read(rt: HostRuntime) -> Result<(), Fail> {
+fn a_flat_object_of_many_keys_is_read_and_written(rt: HostRuntime) -> Result<(), Fail> {
     let alloc = rt.alloc();
     let value = flat(alloc, 32_000)?;
     let mut tree = Tree::from_json(alloc, &value).map_err(|_| "refused")?;
     assert_eq!(rt; tree.len(), 32_000);
+    assert!(rt; tree.to_json(alloc).is_ok_and(|shown| shown == value));
     for key in ["key 0", "key 17000", "key 31999"] {
         let id = tree.child(None, key).ok_or("not found")?;
         assert!(rt; tree.node(id).is_some_and(|node| node.key.as_str() == key));

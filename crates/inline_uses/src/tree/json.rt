@@ -5,8 +5,9 @@ ghost use Rattle.serde_json.specs.View.{view};
 ghost use Rattle.inline_uses.specs.Tree.{node_at, IsPlaceOf, IsShown, Leads, listed, IsReadable, IsFaultOf};
 
 use crate::tree::{Fault, LEVELS, Tree};
+use inlinable_string::InlineStringN;
 use inlinable_string::laws::bytes_of_parts;
-use serde_json::{Map, Value};
+use serde_json::{Map, Value, put};
 use std::alloc::Global;
 
 impl Tree {
@@ -66,7 +67,8 @@ impl Tree {
         self.object(alloc, None, LEVELS - 1)
     }
 
-    /// The object of a place, in which `below` more stand one in another at most.
+    /// The object of a place, in which `below` more stand one in another at most. It goes over the
+    /// nodes under the place alone.
     fn object(&self, alloc: Global, place: Option<usize>, below: usize) -> Result<Value, Fault>
         requires { IsPlaceOf self.now place }
         ensures readable { IfOk result (λ value. IsReadable (suc below) (view value)) }
@@ -76,25 +78,21 @@ impl Tree {
             × (suc below ≤ length keys)))) }
     {
         bytes_of_parts();
-        let count = self.nodes.len();
         let mut members = Map::new(alloc);
-        let first = match place {
+        let _ = self.nodes.len();
+        let next = match place {
             Some(id) => id + 1,
             None => 0,
         };
-        for id in first..count {
-            let node = &self.nodes[id];
-            if node.parent != place {
-                continue;
-            }
+        let first = (place, InlineStringN::new());
+        let end = (Some(next), InlineStringN::new());
+        for (entry, id) in self.ids.range(first..end) {
+            let key = entry.1.as_str();
             if below == 0 {
                 return Err(Fault::TooDeep);
             }
-            let key = String::from_str(alloc, node.key.as_str())?;
-            let value = self.object(alloc, Some(id), below - 1)?;
-            let Ok(_) = members.insert(key, value) else {
-                return Err(Fault::NoMemory);
-            };
+            let value = self.object(alloc, Some(*id), below - 1)?;
+            put(&mut members, alloc, key, value)?;
         }
         Ok(Value::Object(members))
     }

@@ -1,113 +1,134 @@
-use Rattle.std.proofs.Common.{rules, arith, ◌≡◌, ◌<◌, ◌≤◌, ◌⊎◌, inl, inr, ℕ, suc, List, [], ◌∷◌, length, Some, string_bytes, refl, ap, sym, subst, ◌∙◌}
+use Rattle.std.proofs.Common.{rules, arith, ◌≡◌, ◌<◌, ◌≤◌, ◌⊎◌, inl, inr, ℕ, suc, List, [], ◌∷◌, length, Option, Some, refl, ap, sym, subst, ◌∙◌}
 use Rattle.std.specs.Prelude.{slice_get}
+use Rattle.std.specs.BTreeMap.Range.{IsEntryInRange, entries_between}
+use Rattle.std.specs.List.{All}
+use Rattle.std.specs.declared.ops.Bound.{Bound}
+use Rattle.std.specs.declared.ops.Bound.TheVariants.{Included, Excluded}
 use Rattle.std.specs.Str.{chars}
-use Rattle.std.proofs.lemmas.Option.{slice_get-get_or, slice_get_within}
+use Rattle.std.proofs.lemmas.Option.{slice_get_within}
 use Rattle.inlinable_string.specs.Text.{bytes_of}
 use Rattle.serde_json.specs.View.{view, members_view}
 use Rattle.serde_json.specs.Data.{object}
-use Rattle.serde_json.proofs.Views.{members_view-insert_entry, view-Object}
-use Rattle.inline_uses.specs.Tree.{node_at, Leads, IsShown, IsReadable}
+use Rattle.serde_json.proofs.Views.{view-Object}
+use Rattle.inline_uses.specs.Tree.{node_at, place_order, AreFound, IsTree, Leads, IsShown, IsReadable}
 use Rattle.inline_uses.specs.declared.tree.Fault.TheVariants.{TooDeep, NoMemory}
 use Rattle.inline_uses.proofs.Readable.{object_of, readable_put}
-use Rattle.inline_uses.proofs.Shown.{all_shown, put_in}
+use Rattle.inline_uses.proofs.Shown.{IsShownBut, none_shown, all_shown, put_in}
+use Rattle.inline_uses.proofs.Under.{first_key, end_key, next_of, under, all_under}
 use Rattle.inline_uses.proofs.tree.Tree.+object.Goals.{in-Some, in-None}
 use Rattle.inline_uses.proofs.tree.Tree.+object.Goals as goal
 
-pub loop-id-preserved : goal.loop-id-preserved
-loop-id-preserved t c =
-    let nodes = c.self.inside.nodes.items in
-    let n = c.loop-id.id in
-    let node = c.index-node.result.now in
-    let within : n < length nodes = search rules in
-    let is : slice_get nodes n ≡ Some node
-    = slice_get-get_or nodes n node within ∙ ap Some (sym c.index-node.ensures) in
-    let parent : node.parent ≡ c.match-place.place = search rules in
-    let named : slice_get nodes n ≡ Some (node_at c.match-place.place node.key)
-    = subst (λ p. slice_get nodes n ≡ Some (node_at p node.key)) parent is in
-    let text : chars (bytes_of node.key) ≡ node.key
-    = ap chars (sym c.as_str.ensures.value) ∙ c.as_str.ensures.text in
-    let name : string_bytes c.in_ok-key.key ≡ bytes_of node.key
-    = c.in_ok-key.ensures.ok ∙ c.as_str.ensures.value in
-    let inner : IsShown nodes (Some n) (view c.in_ok-value.value)
-    = subst (λ ns. IsShown ns (Some n) (view c.in_ok-value.value)) (sym c.self.view_is)
-    c.in_ok-value.ensures.shown in
-    let some : 0 < c.args.below = search rules in
-    let readable : IsReadable c.args.below (view c.in_ok-value.value)
-    = subst (λ below. IsReadable below (view c.in_ok-value.value)) (omega (arith, some))
-    c.in_ok-value.ensures.readable in
-    rw (c.in-Ok.ensures.entries, members_view-insert_entry, name) (
-      put_in nodes c.match-place.place n node.key (view c.in_ok-value.value)
-          (members_view c.loop-id.members.entries) c.self.invariant.0 named text
-          c.bytes_of_parts.ensures.string inner c.loop-id.invariant.0,
-      readable_put c.args.below (bytes_of node.key) (view c.in_ok-value.value)
-          (members_view c.loop-id.members.entries) (c.self.invariant.0.short n node is) readable
-          c.loop-id.invariant.1,
-    )
-
-pub returns-clause-readable : goal.returns-clause-readable
-returns-clause-readable t c =
-    rw (view-Object c.loop-id.members)
-    (object_of c.args.below (members_view c.loop-id.members.entries) c.loop-id.invariant.1)
-
-pub returns-clause-shown : goal.returns-clause-shown
-returns-clause-shown t c =
-    let nodes = c.self.inside.nodes.items in
-    let d = object (members_view c.loop-id.members.entries) in
+pub loop-entry-init : goal.loop-entry-init
+loop-entry-init t c =
+    let nodes = c.args.self.now in
+    let ids = c.self.inside.ids in
+    let found : AreFound nodes ids
+    = subst (λ ns. AreFound ns ids) c.self.view_is c.self.invariant.1 in
     let place : c.match-place.place ≡ c.args.place = elim c.match-place.branch [
       | in-Some w ↦ w.place-is ∙ sym w.in-Some.is
       | in-None w ↦ w.place-is
     ] in
-    let count : length nodes ≤ c.loop-id.id = search rules in
-    let shown : IsShown nodes c.match-place.place d
-    = all_shown nodes c.match-place.place c.loop-id.id d
-    (λ id node is. let less = slice_get_within nodes id node is in omega arith)
-    c.loop-id.invariant.0 in
-    rw (view-Object c.loop-id.members)
-    (subst (λ ns. IsShown ns c.args.place d) c.self.view_is
-    (subst (λ p. IsShown nodes p d) place shown))
+    let next : c.match-place.next ≡ next_of c.args.place = elim c.match-place.branch [
+      | in-Some w ↦ w.next-is ∙ rw w.in-Some.is (omega arith)
+      | in-None w ↦ w.next-is ∙ rw w.in-None.is refl
+    ] in
+    let first : Bound (Option ℕ × List ℕ) = Included (c.match-place.place, c.new.result) in
+    let end : Bound (Option ℕ × List ℕ) = Excluded (Some c.match-place.next, c.new-2.result) in
+    let is_first : first ≡ first_key c.args.place = rw (place, c.new.ensures) refl in
+    let is_end : end ≡ end_key c.args.place = rw (next, c.new-2.ensures) refl in
+    let between : c.range-entry-items.result ≡ entries_between place_order first end ids.entries
+    = c.range-entry-items.ensures.between tt in
+    let all : c.range-entry-items.result ≡ under c.args.place ids.entries
+    = between ∙ ap (λ f. entries_between place_order f end ids.entries) is_first
+    ∙ ap (λ e. entries_between place_order (first_key c.args.place) e ids.entries) is_end in
+    let given : All (IsEntryInRange place_order first end ids) c.range-entry-items.result
+    = (c.range-entry-items.ensures.in_range tt).0 in
+    let inside : All (IsEntryInRange place_order (first_key c.args.place) (end_key c.args.place) ids)
+    c.range-entry-items.result
+    = subst (λ f. All (IsEntryInRange place_order f (end_key c.args.place) ids)
+    c.range-entry-items.result) is_first
+    (subst (λ e. All (IsEntryInRange place_order first e ids) c.range-entry-items.result) is_end
+    given) in
+    record {
+      shown = rw (
+        c.into_iter-entry-iterator.ensures.into_iter_gives,
+        all,
+        c.new-members.ensures.empty,
+      )
+          (none_shown nodes c.args.place ids c.bytes_of_parts.ensures.string found);
+      under = rw c.into_iter-entry-iterator.ensures.into_iter_gives
+          (all_under nodes c.args.place ids _ found inside);
+      readable = rw c.new-members.ensures.empty (search rules);
+    }
+
+pub loop-entry-preserved : goal.loop-entry-preserved
+loop-entry-preserved t c =
+    let nodes = c.args.self.now in
+    let n = c.in-Some-2.id.now in
+    let key = c.in-Some-2.entry.now.1 in
+    let v = view c.in_ok-value.value in
+    let ms = members_view c.loop-entry.members.entries in
+    let tree : IsTree nodes = subst IsTree c.self.view_is c.self.invariant.0 in
+    let was = rw c.in-Some-2.ensures.steps at c.loop-entry.invariant in
+    let text : chars (bytes_of key) ≡ key
+    = ap chars (sym c.as_str-key.ensures.value) ∙ c.as_str-key.ensures.text in
+    let is : slice_get nodes n ≡ Some (node_at c.args.place key) = was.under.0 text in
+    let some : 0 < c.args.below = search rules in
+    let readable : IsReadable c.args.below v
+    = subst (λ below. IsReadable below v) (omega (arith, some)) c.in_ok-value.ensures.readable in
+    record {
+      shown = rw (c.in_ok-put.ensures.ok, c.as_str-key.ensures.value)
+          (put_in nodes c.args.place n key v ms tree is c.in-Some-2.entry.now.0
+          c.next.new.self text c.in_ok-value.ensures.shown
+          was.shown);
+      under = was.under.1;
+      readable = rw (c.in_ok-put.ensures.ok, c.as_str-key.ensures.value)
+          (readable_put c.args.below (bytes_of key) v ms (tree.short n _ is) readable was.readable);
+    }
+
+pub object-requires : goal.object-requires
+object-requires t c =
+    let text : chars (bytes_of c.in-Some-2.entry.now.1) ≡ c.in-Some-2.entry.now.1
+    = ap chars (sym c.as_str-key.ensures.value) ∙ c.as_str-key.ensures.text in
+    let is = (rw c.in-Some-2.ensures.steps at c.loop-entry.invariant).under.0 text in
+    (search rules, slice_get_within c.args.self.now c.in-Some-2.id.now _ is)
 
 pub returns-then-below-eq0-clause-fault : goal.returns-then-below-eq0-clause-fault
 returns-then-below-eq0-clause-fault t c =
-    let nodes = c.self.inside.nodes.items in
-    let n = c.loop-id.id in
-    let node = c.index-node.result.now in
-    let within : n < length nodes = search rules in
-    let is : slice_get nodes n ≡ Some node
-    = slice_get-get_or nodes n node within ∙ ap Some (sym c.index-node.ensures) in
-    let parent : node.parent ≡ c.match-place.place = search rules in
-    let place : c.match-place.place ≡ c.args.place = elim c.match-place.branch [
-      | in-Some w ↦ w.place-is ∙ sym w.in-Some.is
-      | in-None w ↦ w.place-is
-    ] in
-    let here : slice_get c.args.self.now n ≡ Some (node_at c.args.place node.key)
-    = subst (λ ns. slice_get ns n ≡ Some (node_at c.args.place node.key)) c.self.view_is
-    (subst (λ p. slice_get nodes n ≡ Some (node_at p node.key)) (parent ∙ place) is) in
-    let none : c.args.below ≡ 0 = search rules in
-    inr (refl, (node.key ∷ [], n, (n, here, refl), omega (arith, none)))
+    let text : chars (bytes_of c.in-Some-2.entry.now.1) ≡ c.in-Some-2.entry.now.1
+    = ap chars (sym c.as_str-key.ensures.value) ∙ c.as_str-key.ensures.text in
+    let is = (rw c.in-Some-2.ensures.steps at c.loop-entry.invariant).under.0 text in
+    let deep : suc c.args.below ≤ 1 = rw c.if-below-eq0.true (omega arith) in
+    inr (refl, (c.in-Some-2.entry.now.1 ∷ [], c.in-Some-2.id.now, (c.in-Some-2.id.now, is, refl), deep))
+
+pub returns-clause-readable : goal.returns-clause-readable
+returns-clause-readable t c =
+    rw (view-Object c.loop-entry.members)
+    (object_of c.args.below (members_view c.loop-entry.members.entries)
+    c.loop-entry.invariant.readable)
+
+pub returns-clause-shown : goal.returns-clause-shown
+returns-clause-shown t c =
+    let nodes = c.args.self.now in
+    let d = object (members_view c.loop-entry.members.entries) in
+    let none : c.loop-entry.entry-iterator ≡ [] = search rules in
+    let shown : IsShown nodes c.args.place d = all_shown nodes c.args.place d
+    (subst (IsShownBut nodes c.args.place d) none c.loop-entry.invariant.shown) in
+    rw (view-Object c.loop-entry.members) shown
 
 pub returns-in_err-value-clause-fault : goal.returns-in_err-value-clause-fault
 returns-in_err-value-clause-fault t c =
-    let nodes = c.self.inside.nodes.items in
-    let n = c.loop-id.id in
-    let node = c.index-node.result.now in
+    let text : chars (bytes_of c.in-Some-2.entry.now.1) ≡ c.in-Some-2.entry.now.1
+    = ap chars (sym c.as_str-key.ensures.value) ∙ c.as_str-key.ensures.text in
+    let is = (rw c.in-Some-2.ensures.steps at c.loop-entry.invariant).under.0 text in
+    let key = c.in-Some-2.entry.now.1 in
     let f = c.in_err-value.field-0.0 in
-    let within : n < length nodes = search rules in
-    let is : slice_get nodes n ≡ Some node
-    = slice_get-get_or nodes n node within ∙ ap Some (sym c.index-node.ensures) in
-    let parent : node.parent ≡ c.match-place.place = search rules in
-    let place : c.match-place.place ≡ c.args.place = elim c.match-place.branch [
-      | in-Some w ↦ w.place-is ∙ sym w.in-Some.is
-      | in-None w ↦ w.place-is
-    ] in
-    let here : slice_get c.args.self.now n ≡ Some (node_at c.args.place node.key)
-    = subst (λ ns. slice_get ns n ≡ Some (node_at c.args.place node.key)) c.self.view_is
-    (subst (λ p. slice_get nodes n ≡ Some (node_at p node.key)) (parent ∙ place) is) in
     let some : 0 < c.args.below = search rules in
     let fault : (f ≡ NoMemory) ⊎ ((f ≡ TooDeep) × ((keys : List (List ℕ)) × (to : ℕ)
     × Leads c.args.self.now c.args.place keys to × (suc c.args.below ≤ length keys)))
     = elim c.in_err-value.ensures.fault [
       | inl e ↦ inl e
       | inr h ↦ let (e, (keys, to, leads, deep)) = h in
-          inr (e, (node.key ∷ keys, to, (n, here, leads), omega (arith, deep, some)))
+          inr (e, (key ∷ keys, to, (c.in-Some-2.id.now, is, leads), omega (arith, deep, some)))
     ] in
     search (rules, fault)
