@@ -1,6 +1,7 @@
 //! What units of UTF-16 and bytes are read as.
 ghost use Rattle.std.specs.Prelude.{◌≡◌, ◌∷◌, [], true, false};
 ghost use Rattle.inlinable_string.specs.Utf16.{units_of, is_high_at, is_low_at, is_high_before, is_unpaired, HasUnpaired, lossy_unit, lossy_utf16_before, lossy_utf16};
+ghost use Rattle.inlinable_string.specs.Utf16Count.{unit_len, len_before, mismatches_before};
 ghost use Rattle.inlinable_string.specs.Lossy.{following, count_in, subpart_len, char_len, lossy_utf8_past, lossy_utf8};
 
 /// A character below U+10000 is one unit, and each other one is two: the last of one unit, the
@@ -72,6 +73,32 @@ pub fn lists_with_an_unpaired_unit()
     ensures before_a_pair { HasUnpaired (0xD800 ∷ 0xD834 ∷ 0xDD1E ∷ []) }
     ensures low_then_high { HasUnpaired (0xDC00 ∷ 0xD800 ∷ []) }
     ensures behind_a_pair { HasUnpaired (0xD834 ∷ 0xDD1E ∷ 0xDD1E ∷ []) }
+{}
+
+/// How many bytes of UTF-8 a unit counts for, at the ends of each range.
+pub fn bytes_that_a_unit_counts_for()
+    ensures one { unit_len 0x7F ≡ 1 }
+    ensures two_first { unit_len 0x80 ≡ 2 }
+    ensures two_last { unit_len 0x7FF ≡ 2 }
+    ensures three_first { unit_len 0x800 ≡ 3 }
+    ensures three_last { unit_len 0xFFFF ≡ 3 }
+    ensures below { unit_len 0xD7FF ≡ 3 }
+    ensures first_high { unit_len 0xD800 ≡ 2 }
+    ensures last_low { unit_len 0xDFFF ≡ 2 }
+    ensures above { unit_len 0xE000 ≡ 3 }
+{}
+
+/// The bytes of the G clef, of "é" and of "a" are four, two and one. A high surrogate is counted as
+/// unpaired by the unit after it, and a low one by itself.
+pub fn units_that_are_counted()
+    ensures no_bytes { len_before (0x61 ∷ []) 0 ≡ 0 }
+    ensures bytes { len_before (0xD834 ∷ 0xDD1E ∷ 0xE9 ∷ 0x61 ∷ []) 4 ≡ 7 }
+    ensures no_unit { mismatches_before (0xDC00 ∷ []) 0 ≡ 0 }
+    ensures letter { mismatches_before (0x61 ∷ []) 1 ≡ 0 }
+    ensures pair { mismatches_before (0xD834 ∷ 0xDD1E ∷ []) 2 ≡ 0 }
+    ensures low_alone { mismatches_before (0xDC00 ∷ []) 1 ≡ 1 }
+    ensures high_alone { mismatches_before (0xD834 ∷ 0x61 ∷ []) 2 ≡ 1 }
+    ensures before_a_pair { mismatches_before (0xD800 ∷ 0xD834 ∷ 0xDD1E ∷ []) 3 ≡ 1 }
 {}
 
 /// Bytes that are not.
