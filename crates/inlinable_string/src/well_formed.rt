@@ -63,7 +63,7 @@ const ROWS: &[u64] = &[
 const NO_TEXT: u64 = 0o60;
 
 /// The bytes that are tested for ASCII together.
-pub(crate) const LANES: usize = 16;
+const LANES: usize = 16;
 
 /// Those at the front, where a longer text is often ASCII throughout.
 const FRONT_LANES: usize = 64;

@@ -77,6 +77,13 @@ const BYTES: &[Row] = rows! {
     Bytes(b"\xF4\x91\x92\x93\xFFA\x80\xBFB",
         "\u{FFFD}\u{FFFD}\u{FFFD}\u{FFFD}\u{FFFD}A\u{FFFD}\u{FFFD}B"),
     Bytes(b"\xE1\x80\xE2\xF0\x91\x92\xF1\xBFA", "\u{FFFD}\u{FFFD}\u{FFFD}\u{FFFD}A"),
+    // Faults after 16 bytes of ASCII, after 15 and after 64, and a character across the 64th.
+    Bytes(b"abcdefghijklmnop\xFFabcdefghijklmno\xFFabcdefghijklmnopq",
+        "abcdefghijklmnop\u{FFFD}abcdefghijklmno\u{FFFD}abcdefghijklmnopq"),
+    Bytes(b"aaaaaaaaaaaaaaaaaaaaaaaaaaaaaaaaaaaaaaaaaaaaaaaaaaaaaaaaaaaaaaab\xFF",
+        "aaaaaaaaaaaaaaaaaaaaaaaaaaaaaaaaaaaaaaaaaaaaaaaaaaaaaaaaaaaaaaab\u{FFFD}"),
+    Bytes(b"aaaaaaaaaaaaaaaaaaaaaaaaaaaaaaaaaaaaaaaaaaaaaaaaaaaaaaaaaaaaaaa\xC3\xA9",
+        "aaaaaaaaaaaaaaaaaaaaaaaaaaaaaaaaaaaaaaaaaaaaaaaaaaaaaaaaaaaaaaaé"),
 };
 
 const EIGHT_SIGNS_AND_A: &str = "\u{FFFD}\u{FFFD}\u{FFFD}\u{FFFD}\u{FFFD}\u{FFFD}\u{FFFD}\u{FFFD}A";

@@ -6,8 +6,12 @@ ghost use Rattle.inlinable_string.specs.Text.{size};
 ghost use Rattle.inlinable_string.specs.Lossy.{lossy_utf8, char_len, subpart_len, count_in, following};
 
 use crate::cells::write_at;
-use crate::well_formed::{LANES, is_ascii};
+use crate::well_formed::is_ascii;
 use std::alloc::{AllocError, Global};
+
+/// The bytes that are tested for ASCII together: fewer than in the test for UTF-8, since those of a
+/// block that fails are read by characters.
+const LANES: usize = 8;
 
 /// Decodes the bytes, with U+FFFD for each maximal subpart that is no character. Allocates once,
 /// with the capacity that [`room_for`] returns.
@@ -60,7 +64,7 @@ fn write(bytes: &[u8], made: &mut [u8]) -> usize
             end += LANES;
             continue;
         }
-        // These bytes are read by characters, and no block of them is tested again.
+        // These bytes are read by characters, and no block of them is tested.
         let untested = rest.len().saturating_sub(LANES);
         while untested < rest.len() {
             match char_or_subpart_len(rest) {

@@ -8,9 +8,9 @@ loop-rest-init c = at_start _ _
 pub write_at-requires : goal.write_at-requires
 write_at-requires c =
     let ascii = c.is_ascii.ensures.0 c.if-is_ascii.true in
-    let room = run_room _ _ _ _ 16 c.loop-rest.invariant (omega arith) (IsUtf8-from_ascii _ ascii)
+    let room = run_room _ _ _ _ 8 c.loop-rest.invariant (omega arith) (IsUtf8-from_ascii _ ascii)
     (omega arith) in
-    omega (arith, room, length-take-le 16 c.loop-rest.rest.now (omega arith))
+    omega (arith, room, length-take-le 8 c.loop-rest.rest.now (omega arith))
 
 pub loop-rest-preserved-then-is_ascii : goal.loop-rest-preserved-then-is_ascii
 loop-rest-preserved-then-is_ascii c =
@@ -20,11 +20,11 @@ loop-rest-preserved-then-is_ascii c =
     let new = c.write_at.new.cells in
     let end = c.loop-rest.end in
     let u = IsUtf8-from_ascii _ (c.is_ascii.ensures.0 c.if-is_ascii.true) in
-    let room = run_room _ _ _ _ 16 c.loop-rest.invariant (omega arith) u (omega arith) in
-    subst (λ rest. Written bytes rest new (end + 16)) (sym (take_rest rest 16))
-    (run_written _ _ _ new _ 16 c.loop-rest.invariant u (omega (arith, room))
-    (subst (λ n. take (end + n) new ≡ take end made ++ take 16 rest)
-    (length-take-le 16 rest (omega arith)) c.write_at.ensures.text))
+    let room = run_room _ _ _ _ 8 c.loop-rest.invariant (omega arith) u (omega arith) in
+    subst (λ rest. Written bytes rest new (end + 8)) (sym (take_rest rest 8))
+    (run_written _ _ _ new _ 8 c.loop-rest.invariant u (omega (arith, room))
+    (subst (λ n. take (end + n) new ≡ take end made ++ take 8 rest)
+    (length-take-le 8 rest (omega arith)) c.write_at.ensures.text))
 
 pub write_char-requires-clause-room : goal.write_char-requires-clause-room
 write_char-requires-clause-room c =
