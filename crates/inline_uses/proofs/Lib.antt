@@ -3,6 +3,7 @@ pub mod Entries
 pub mod Ids
 pub mod Listed
 pub mod Members
+pub mod ReadBack
 pub mod Readable
 pub mod Search
 pub mod Shown

@@ -1,5 +1,5 @@
 -- The nodes that the members of a JSON object add to a tree, in the order of their keys.
-use Rattle.std.proofs.Common.{◌≡◌, ◌⊎◌, ◌<◌, ◌≤◌, ◌+◌, inl, inr, ℕ, zero, suc, List, [], ◌∷◌, ◌++◌, length, Option, Some, Ordering, Less, String, string_bytes, refl, ap, sym, subst, ◌∙◌, arith, rules}
+use Rattle.std.proofs.Common.{◌≡◌, ◌⊎◌, ◌<◌, ◌≤◌, ◌+◌, inl, inr, ℕ, zero, suc, List, [], ◌∷◌, ◌++◌, length, Option, Some, Ordering, Less, String, string_bytes, refl, ap, subst, arith}
 use Rattle.std.specs.Prelude.{slice_get, ⊤}
 use Rattle.std.specs.List.{AllByRecursion}
 use Rattle.std.specs.List.Sorted.{IsStrictlySortedBy}
@@ -30,7 +30,7 @@ all_append P [] ys h k = k
 all_append P (x ∷ xs) ys h k = (h.0, all_append P xs ys h.1 k)
 
 mutual
-  all_late : (m n p : ℕ) (d : Data) → m ≤ n → m ≤ p
+  pub all_late : (m n p : ℕ) (d : Data) → m ≤ n → m ≤ p
       → AllByRecursion (IsUnderLate m) (listed n (Some p) d)
   all_late m n p null h k = tt
   all_late m n p (boolean b) h k = tt
@@ -100,28 +100,6 @@ not_taken nodes place k d rest bytes before id is =
     = subst (λ b. key_order b k ≡ Less) bytes (before id (chars k) is).0 in
     let tied = tied_itself nat_list_cmp_total k in
     cc
-
--- after a member, and what is in its value, the others are still before those that are left
-pub before_one : (nodes added new : List Node) (place : Option ℕ) (k : List ℕ) (d : Data)
-    → (rest : Members) → added ≡ nodes ++ node_at place (chars k) ∷ []
-    → new ≡ added ++ listed (length added) (Some (length nodes)) d → length nodes ≤ length added
-    → IsPlaceOf nodes place → bytes_of (chars k) ≡ k → IsBelow k rest
-    → AreBefore nodes place (member k d rest) → AreBefore new place rest
-before_one nodes added new place k d rest is_added is_new longer within bytes below before
-    id key is =
-    let own = listed (length added) (Some (length nodes)) d in
-    let late = all_late (length nodes) (length added) (length nodes) d longer (omega arith) in
-    elim (from_append (IsUnderLate (length nodes)) added own id (node_at place key) late
-    (subst (λ ns. slice_get ns id ≡ Some (node_at place key)) is_new is)) [
-      | inl here ↦ elim (from_push nodes (node_at place key) (node_at place (chars k)) id
-          (subst (λ ns. slice_get ns id ≡ Some (node_at place key)) is_added here)) [
-            | inl old ↦ (before id key old).1
-            | inr last ↦ let same : chars k ≡ key = ap (λ (n : Node). n.key) last.1 in
-                subst (λ b. IsBelow b rest) (sym bytes ∙ ap bytes_of same) below
-          ]
-      | inr (p, e, above) ↦ let less : p < length nodes = subst (IsPlaceOf nodes) e within in
-          absurd (omega (arith, less, above))
-    ]
 
 -- nothing is under a node that was just added
 pub none_under : (nodes new : List Node) (place : Option ℕ) (k : List ℕ) (n : ℕ)

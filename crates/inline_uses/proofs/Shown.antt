@@ -45,21 +45,22 @@ all_shown nodes place d shown = λ key keys utf8 all.
       ],
     )
 
+-- after the key of a node that the value shows
+pub same_below : (nodes : List Node) (n : ℕ) (v : Data) → IsShown nodes (Some n) v
+    → (keys : List (List ℕ)) → AllByRecursion IsUtf8 keys
+    → IsSome (walk v keys) ↔ ((to : ℕ) × Leads nodes (Some n) (map chars keys) to)
+same_below nodes n v inner [] all = ((λ _. (n, refl)), λ _. refl)
+same_below nodes n v inner (key ∷ keys) all = inner key keys all.0 all.1
+
 -- a node n that is under the place, and is shown as the member k
 module _ (nodes : List Node) (place : Option ℕ) (n : ℕ) (k : List ℕ) (v : Data) (ms : Members)
     (tree : IsTree nodes) (is : slice_get nodes n ≡ Some (node_at place k)) where
-  -- after its key the value is unchanged
-  same_below : IsShown nodes (Some n) v → (keys : List (List ℕ)) → AllByRecursion IsUtf8 keys
-      → IsSome (walk v keys) ↔ ((to : ℕ) × Leads nodes (Some n) (map chars keys) to)
-  same_below inner [] all = ((λ _. (n, refl)), λ _. refl)
-  same_below inner (key ∷ keys) all = inner key keys all.0 all.1
-
   -- keys that begin with its own
   under_key : (key : List ℕ) (keys : List (List ℕ)) → AllByRecursion IsUtf8 keys
       → chars (bytes_of k) ≡ k → IsShown nodes (Some n) v → key ≡ bytes_of k
       → IsSome (walk (object (put (bytes_of k) v ms)) (key ∷ keys)) ↔ Starts nodes place key keys
   under_key key keys all text inner e =
-      let below = same_below inner keys all in
+      let below = same_below nodes n v inner keys all in
       let found : get_member key (put (bytes_of k) v ms) ≡ Some v =
       rw e (get_member-put (bytes_of k) v ms) in
       let named : slice_get nodes n ≡ Some (node_at place (chars key)) = rw (e, text) is in (

@@ -1,5 +1,5 @@
 -- A tree of nodes with short keys, as its user sees it.
-use Rattle.std.specs.Prelude.{◌≡◌, ◌↔◌, ℕ, suc, ◌+◌, ◌<◌, ◌≤◌, List, [], ◌∷◌, ◌++◌, length, map, Option, Some, slice_get, IfSome, IsSome, IsUtf8, option_and_then, ⊤}
+use Rattle.std.specs.Prelude.{◌≡◌, ◌↔◌, ℕ, suc, ◌+◌, ◌<◌, ◌≤◌, List, [], ◌∷◌, ◌++◌, length, map, Option, Some, None, slice_get, IfSome, IsSome, IsUtf8, option_and_then, ⊤}
 use Rattle.std.specs.BTreeMap.{BTreeMap, get as value_at}
 use Rattle.std.specs.Cmp.Lexicographic.{slice_cmp}
 use Rattle.std.specs.List.{AllByRecursion}
@@ -94,6 +94,13 @@ abbrev pub IsShown : List Node → Option ℕ → Data → Type 0
 IsShown nodes place d =
     (key : List ℕ) (keys : List (List ℕ)) → IsUtf8 key → AllByRecursion IsUtf8 keys
     → IsSome (walk d (key ∷ keys)) ↔ ((to : ℕ) × Leads nodes place (map chars (key ∷ keys)) to)
+
+-- keys lead to a node of one tree exactly where they lead to a node of the other
+abbrev pub HaveSamePaths : List Node → List Node → Type 0
+HaveSamePaths nodes others =
+    (key : List ℕ) (keys : List (List ℕ)) → IsUtf8 key → AllByRecursion IsUtf8 keys
+    → ((to : ℕ) × Leads nodes None (map chars (key ∷ keys)) to)
+    ↔ ((to : ℕ) × Leads others None (map chars (key ∷ keys)) to)
 
 -- the keys of a JSON object, and of the objects in it, have at most 16 bytes
 abbrev mutual

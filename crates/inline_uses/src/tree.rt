@@ -11,7 +11,7 @@ use std::alloc::{AllocError, Global};
 use std::collections::BTreeMap;
 use std::marker::Model;
 
-mod json;
+pub mod json;
 
 /// How many objects may stand one in another in the JSON of a tree, the outermost among them.
 pub const LEVELS: usize = 128;

@@ -1,4 +1,5 @@
 //! Trees, and the JSON of trees.
+use crate::tree::json::copied;
 use crate::tree::{Fault, LEVELS, Tree};
 use inlinable_string::StringExt;
 use serde_json::{Map, Value};
@@ -163,9 +164,10 @@ fn trees_go_through_json_and_come_back(rt: HostRuntime) -> Result<(), Fail> {
     for (text, paths) in DOCUMENTS {
         let value = Value::from_str(alloc, text)?;
         let tree = Tree::from_json(alloc, &value).map_err(|_| "refused")?;
-        assert_eq!(rt; tree.len(), paths.len());
+        let copy = copied(alloc, &tree).map_err(|_| "refused")?;
+        assert_eq!(rt; [tree.len(), copy.len()], [paths.len(); 2]);
         for (id, path) in paths.iter().enumerate() {
-            assert!(rt; has_path(&tree, alloc, id, path));
+            assert!(rt; has_path(&tree, alloc, id, path) && has_path(&copy, alloc, id, path));
         }
         let shown = tree.to_json(alloc).map_err(|_| "refused")?;
         assert!(rt; shown == value);

@@ -2,7 +2,7 @@
 ghost use Rattle.std.specs.Prelude.{◌≡◌, ℕ, suc, ◌++◌, ◌≤◌, List, length, slice_get, Some, None, Err, IfOk, IfErr, OnOk, IsSome, ◌⊎◌};
 ghost use Rattle.serde_json.specs.Find.{as_object};
 ghost use Rattle.serde_json.specs.View.{view};
-ghost use Rattle.inline_uses.specs.Tree.{node_at, IsPlaceOf, IsShown, Leads, listed, IsReadable, IsFaultOf};
+ghost use Rattle.inline_uses.specs.Tree.{node_at, IsPlaceOf, IsShown, HaveSamePaths, Leads, listed, IsReadable, IsFaultOf};
 
 use crate::tree::{Fault, LEVELS, Tree};
 use inlinable_string::InlineStringN;
@@ -17,6 +17,7 @@ impl Tree {
     /// than `LEVELS`, or with `NoMemory`, and never with another fault.
     pub fn from_json(alloc: Global, value: &Value) -> Result<Tree, Fault>
         ensures ok { IfOk result (λ tree. tree ≡ listed 0 None (view value.now)) }
+        ensures shown { IfOk result (λ tree. IsShown tree None (view value.now)) }
         ensures readable { OnOk result (IsReadable 128 (view value.now)) }
         ensures fault { IfErr result (λ fault. IsFaultOf 128 (view value.now) fault) }
         ensures not_object { as_object (view value.now) ≡ None → result ≡ Err Fault.NotObject }
@@ -34,6 +35,7 @@ impl Tree {
             → ¬ (slice_get self.old id ≡ Some (node_at place key)) }
         ensures ok { OnOk result (self.new
             ≡ self.old ++ listed (length self.old) place (view value.now)) }
+        ensures shown { OnOk result (IsShown self.new place (view value.now)) }
         ensures readable { OnOk result (IsReadable levels (view value.now)) }
         ensures fault { IfErr result (λ fault. IsFaultOf levels (view value.now) fault) }
         ensures not_object { as_object (view value.now) ≡ None → result ≡ Err Fault.NotObject }
@@ -96,4 +98,14 @@ impl Tree {
         }
         Ok(Value::Object(members))
     }
+}
+
+/// Returns the tree of a tree's JSON, in which the same keys lead to nodes. The numbers of the nodes
+/// may be others. Fails with `TooDeep` if the tree is too deep, or with `NoMemory`.
+pub fn copied(alloc: Global, tree: &Tree) -> Result<Tree, Fault>
+    ensures same { IfOk result (λ copy. HaveSamePaths tree.now copy) }
+    ensures fault { IfErr result (λ fault. (fault ≡ Fault.NoMemory) ⊎ (fault ≡ Fault.TooDeep)) }
+{
+    let value = tree.to_json(alloc)?;
+    Tree::from_json(alloc, &value)
 }

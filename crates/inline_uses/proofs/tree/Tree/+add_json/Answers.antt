@@ -1,12 +1,13 @@
 use Rattle.std.proofs.Common.{rules, arith, ◌≡◌, ◌≤◌, ◌<◌, ◌-◌, [], ◌∷◌, ◌++◌, Some, Ok, Err, length, length-append, string_bytes, refl, ap, sym, subst, ◌∙◌}
 use Rattle.std.specs.Str.{chars}
 use Rattle.inlinable_string.specs.Text.{bytes_of}
-use Rattle.serde_json.specs.Data.{object}
+use Rattle.serde_json.specs.Data.{object, no_members}
 use Rattle.serde_json.specs.View.{view, members_view}
 use Rattle.serde_json.proofs.Views.{view-Object}
-use Rattle.inline_uses.specs.Tree.{node_at, listed, IsReadable, IsFaultOf}
+use Rattle.inline_uses.specs.Tree.{node_at, listed, IsShown, IsReadable, IsFaultOf}
 use Rattle.inline_uses.specs.declared.tree.Fault.TheVariants.{LongKey}
-use Rattle.inline_uses.proofs.Listed.{in_order, not_taken, before_one, none_under, last_place}
+use Rattle.inline_uses.proofs.Listed.{in_order, not_taken, none_under, last_place}
+use Rattle.inline_uses.proofs.ReadBack.{IsReadBut, none_read, all_read, before_one, read_one}
 use Rattle.inline_uses.proofs.Readable.{all_decide, one_read, not_added}
 use Rattle.inline_uses.proofs.Trees.{one_more, wider}
 use Rattle.inline_uses.proofs.tree.Tree.+add_json.Goals as goal
@@ -22,6 +23,7 @@ loop-key-init t c =
       adds = rw (is, all) refl;
       ordered = rw all (in_order _ c.iter-key-items.ensures.ordered);
       before = λ id key is. absurd (c.requires.free id key is);
+      read = rw (is, all) (none_read c.args.self.now c.args.place _ c.requires.free);
     }
 
 pub loop-key-preserved : goal.loop-key-preserved
@@ -44,14 +46,21 @@ loop-key-preserved t c =
     let readable : IsReadable (c.args.levels - 1) below = c.in_ok-add_json.ensures.readable in
     let some : 0 < c.args.levels = search rules in
     let bytes : bytes_of (chars key) ≡ key = search rules in
+    let longer : length old ≤ length c.add.new.self
+    = rw (is_new, length-append) (omega arith) in
     record {
       place = rw (is_after, is_new) (wider _ _ c.args.place (wider old _ c.args.place was.place));
       decide = one_read c.args.levels (view c.args.value.now) key below left was.decide short
           readable some;
       adds = one_more old c.args.place key below left _ _ is_new is_after ∙ was.adds;
       ordered = was.ordered.1;
-      before = before_one old _ _ c.args.place key below left is_new is_after
-          (rw (is_new, length-append) (omega arith)) was.place bytes was.ordered.0 was.before;
+      before = before_one old _ _ c.args.place key below is_new is_after longer
+          c.len-id.ensures.tree was.place left bytes was.ordered.0 was.before;
+      read = read_one old _ _ c.args.place key below is_new is_after longer c.len-id.ensures.tree
+          was.place (view c.args.value.now) left c.bytes_of_parts.ensures.string bytes
+          was.ordered.0 was.before
+          (subst (λ i. IsShown c.add_json.new.self (Some i) below) c.len-id.ensures.count
+          c.in_ok-add_json.ensures.shown) was.read;
     }
 
 pub add_json-requires : goal.add_json-requires
@@ -83,3 +92,11 @@ returns-in_err-add-clause-fault t c =
     (λ e. c.add.ensures.object (c.in_err-add.was ∙ ap Err e))
     (λ e. c.add.ensures.depth (c.in_err-add.was ∙ ap Err e)) in
     search (rules, fault)
+
+pub returns-clause-shown : goal.returns-clause-shown
+returns-clause-shown t c =
+    let none : c.loop-key.key-iterator ≡ [] = search rules in
+    let read : IsReadBut c.loop-key.self c.args.place (view c.args.value.now) no_members
+    = rw none at c.loop-key.invariant.read in
+    let shown = all_read c.loop-key.self c.args.place (view c.args.value.now) read in
+    search (rules, shown)

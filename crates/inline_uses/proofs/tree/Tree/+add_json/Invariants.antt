@@ -2,6 +2,7 @@ use Rattle.std.proofs.Common.{◌≡◌, ◌++◌, length}
 use Rattle.serde_json.specs.View.{view, members_view}
 use Rattle.inline_uses.specs.Tree.{IsPlaceOf, listed, listed_members}
 use Rattle.inline_uses.proofs.Listed.{AreOrdered, AreBefore}
+use Rattle.inline_uses.proofs.ReadBack.{IsReadBut}
 use Rattle.inline_uses.proofs.Readable.{Decide}
 use Rattle.inline_uses.proofs.tree.Tree.+add_json.Given as goal
 
@@ -14,6 +15,7 @@ invariant-loop-key l = record {
       ≡ l.fn.self ++ listed (length l.fn.self) l.place (view l.fn.value);
   ordered : AreOrdered (members_view l.key-iterator);
   before : AreBefore l.self l.place (members_view l.key-iterator);
+  read : IsReadBut l.self l.place (view l.fn.value) (members_view l.key-iterator);
 }
 
 abbrev pub decreases-add_json : goal.decreases-add_json

@@ -1,0 +1,235 @@
+-- Nodes that are read from members one by one: keys lead to them as they lead into the JSON.
+use Rattle.std.proofs.Common.{◌≡◌, ◌↔◌, ◌⊎◌, ◌<◌, ◌≤◌, inl, inr, ℕ, zero, suc, List, [], ◌∷◌, ◌++◌, length, Bool, true, false, Result, Ok, Err, IfOk, Option, Some, None, IsSome, map, Ordering, Less, Equal, Greater, is_eq, refl, sym, ap, subst, ◌∙◌, arith}
+use Rattle.std.specs.Prelude.{slice_get, nat_eq, IsUtf8}
+use Rattle.std.specs.Bool.{Decides}
+use Rattle.std.specs.Cmp.Lexicographic.{pointwise, bytes_decides, texts_ties}
+use Rattle.std.specs.List.{AllByRecursion}
+use Rattle.std.specs.Ordering.{match_ordering}
+use Rattle.std.specs.Str.{chars}
+use Rattle.std.proofs.lemmas.Cmp.{tied_itself, nat_list_cmp_total}
+use Rattle.std.proofs.lemmas.Option.{slice_get_within}
+use Rattle.inlinable_string.specs.Text.{bytes_of}
+use Rattle.serde_json.specs.Data.{Data, object, Members, no_members, member}
+use Rattle.serde_json.specs.Find.{get_member}
+use Rattle.inline_uses.specs.Symbols.{key_order}
+use Rattle.inline_uses.specs.Tree.{node_at, IsPlaceOf, IsTree, Leads, walk, IsShown, HaveSamePaths, listed}
+use Rattle.inline_uses.specs.declared.tree.Fault.{Fault}
+use Rattle.inline_uses.specs.declared.tree.Node.{Node}
+use Rattle.inline_uses.proofs.Listed.{IsUnderLate, all_late, from_append, IsBelow, AreBefore, not_taken}
+use Rattle.inline_uses.proofs.Shown.{Starts, same_below}
+use Rattle.inline_uses.proofs.Tables.{at_push, from_push}
+use Rattle.inline_uses.proofs.Under.{next_of}
+
+-- keys lead into the value where they lead to a node, or into the members that are left
+abbrev pub IsReadBut : List Node → Option ℕ → Data → Members → Type 0
+IsReadBut nodes place d left =
+    (key : List ℕ) (keys : List (List ℕ)) → IsUtf8 key → AllByRecursion IsUtf8 keys
+    → IsSome (walk d (key ∷ keys))
+    ↔ (Starts nodes place key keys ⊎ IsSome (walk (object left) (key ∷ keys)))
+
+pub none_read : (nodes : List Node) (place : Option ℕ) (ms : Members)
+    → ((id : ℕ) (key : List ℕ) → ¬ (slice_get nodes id ≡ Some (node_at place key)))
+    → IsReadBut nodes place (object ms) ms
+none_read nodes place ms free = λ key keys utf8 all. (
+  (λ some. inr some),
+  λ h. elim h [
+    | inl leads ↦ let (to, (id, here, _)) = leads in absurd (free id (chars key) here)
+    | inr some ↦ some
+  ],
+)
+
+pub all_read : (nodes : List Node) (place : Option ℕ) (d : Data)
+    → IsReadBut nodes place d no_members → IsShown nodes place d
+all_read nodes place d read = λ key keys utf8 all.
+    let s = read key keys utf8 all in (
+      (λ some. elim (s.0 some) [
+        | inl leads ↦ leads
+        | inr none ↦ cc
+      ]),
+      λ leads. s.1 (inl leads),
+    )
+
+before_append : {X : Type 0} (xs ys : List X) (i : ℕ) (x : X) → slice_get xs i ≡ Some x
+    → slice_get (xs ++ ys) i ≡ Some x
+before_append [] ys i x is = cc
+before_append (z ∷ xs) ys zero x is = is
+before_append (z ∷ xs) ys (suc i) x is = before_append xs ys i x is
+
+other_key : {A : Type 0} (o : Ordering) (a b : A) → ¬ (o ≡ Equal) → match_ordering o a b a ≡ a
+other_key Less a b not = refl
+other_key Equal a b not = absurd (not refl)
+other_key Greater a b not = refl
+
+absent : (key : List ℕ) (ms : Members) → IsBelow key ms → get_member key ms ≡ None
+absent key no_members below = refl
+absent key (member k d ms) below = rw below.0 (absent key ms below.1)
+
+-- the nodes with one more, and then those of its value
+module _ (nodes added new : List Node) (place : Option ℕ) (k : List ℕ) (e : Data)
+    (is_added : added ≡ nodes ++ node_at place (chars k) ∷ [])
+    (is_new : new ≡ added ++ listed (length added) (Some (length nodes)) e)
+    (longer : length nodes ≤ length added) (tree : IsTree nodes) (within : IsPlaceOf nodes place)
+  where
+    older : (id : ℕ) (node : Node) → slice_get nodes id ≡ Some node → slice_get new id ≡ Some node
+    older id node is =
+        let here : slice_get added id ≡ Some node
+        = subst (λ ns. slice_get ns id ≡ Some node) (sym is_added)
+        (before_append nodes (node_at place (chars k) ∷ []) id node is) in
+        subst (λ ns. slice_get ns id ≡ Some node) (sym is_new)
+        (before_append added (listed (length added) (Some (length nodes)) e) id node here)
+
+    named : slice_get new (length nodes) ≡ Some (node_at place (chars k))
+    named =
+        let here : slice_get added (length nodes) ≡ Some (node_at place (chars k))
+        = subst (λ ns. slice_get ns (length nodes) ≡ Some (node_at place (chars k))) (sym is_added)
+        (at_push nodes (node_at place (chars k))) in
+        subst (λ ns. slice_get ns (length nodes) ≡ Some (node_at place (chars k))) (sym is_new)
+        (before_append added (listed (length added) (Some (length nodes)) e) (length nodes) _ here)
+
+    -- each node is an old one, the one more, or under that or a later one
+    ways : (id : ℕ) (node : Node) → slice_get new id ≡ Some node
+        → (slice_get nodes id ≡ Some node)
+        ⊎ (((id ≡ length nodes) × (node_at place (chars k) ≡ node)) ⊎ IsUnderLate (length nodes) node)
+    ways id node is =
+        elim (from_append (IsUnderLate (length nodes)) added
+        (listed (length added) (Some (length nodes)) e) id node
+        (all_late (length nodes) (length added) (length nodes) e longer (omega arith))
+        (subst (λ ns. slice_get ns id ≡ Some node) is_new is)) [
+          | inl here ↦ elim (from_push nodes node (node_at place (chars k)) id
+              (subst (λ ns. slice_get ns id ≡ Some node) is_added here)) [
+                | inl old ↦ inl old
+                | inr last ↦ inr (inl last)
+              ]
+          | inr late ↦ inr (inr late)
+        ]
+
+    up : (p : Option ℕ) (keys : List (List ℕ)) (to : ℕ) → Leads nodes p keys to → Leads new p keys to
+    up p [] to leads = leads
+    up p (key ∷ keys) to (id, here, leads) = (id, older id _ here, up (Some id) keys to leads)
+
+    down : (p : ℕ) (keys : List (List ℕ)) (to : ℕ) → p < length nodes → next_of place ≤ p
+        → Leads new (Some p) keys to → Leads nodes (Some p) keys to
+    down p [] to less after leads = leads
+    down p (key ∷ keys) to less after (id, here, leads) =
+        elim (ways id (node_at (Some p) key) here) [
+          | inl old ↦ let later : p < id = tree.later id p key old in
+              let inside = slice_get_within nodes id _ old in
+              (id, old, down id keys to inside (omega arith) leads)
+          | inr more ↦ elim more [
+            | inl last ↦ let same : place ≡ Some p = ap (λ (n : Node). n.parent) last.1 in
+                let late : next_of (Some p) ≤ p = subst (λ q. next_of q ≤ p) same after in
+                absurd (omega (arith, late))
+            | inr (q, is, above) ↦ let same : p ≡ q = cc in
+                absurd (omega (arith, less, above, same))
+          ]
+        ]
+
+    after_place : (q : Option ℕ) (id : ℕ) (key : List ℕ) → slice_get nodes id ≡ Some (node_at q key)
+        → next_of q ≤ id
+    after_place None id key is = omega arith
+    after_place (Some p) id key is = let later : p < id = tree.later id p key is in omega arith
+
+    -- a node under the place is an old one, or the one more
+    under_place : (id : ℕ) (key : List ℕ) → slice_get new id ≡ Some (node_at place key)
+        → (slice_get nodes id ≡ Some (node_at place key)) ⊎ ((id ≡ length nodes) × (chars k ≡ key))
+    under_place id key here = elim (ways id (node_at place key) here) [
+      | inl old ↦ inl old
+      | inr more ↦ elim more [
+        | inl last ↦ inr (last.0, ap (λ (n : Node). n.key) last.1)
+        | inr (q, is, above) ↦ let less : q < length nodes = subst (IsPlaceOf nodes) is within in
+            absurd (omega (arith, less, above))
+      ]
+    ]
+
+    -- what is under the place is still before the members that are left
+    pub before_one : (rest : Members) → bytes_of (chars k) ≡ k → IsBelow k rest
+        → AreBefore nodes place (member k e rest) → AreBefore new place rest
+    before_one rest bytes below before id key is = elim (under_place id key is) [
+      | inl old ↦ (before id key old).1
+      | inr last ↦ subst (λ b. IsBelow b rest) (sym bytes ∙ ap bytes_of last.1) below
+    ]
+
+    pub read_one : (d : Data) (rest : Members) → ((bs : List ℕ) → IsUtf8 bs → bytes_of (chars bs) ≡ bs)
+        → bytes_of (chars k) ≡ k → IsBelow k rest → AreBefore nodes place (member k e rest)
+        → IsShown new (Some (length nodes)) e → IsReadBut nodes place d (member k e rest)
+        → IsReadBut new place d rest
+    read_one d rest law bytes below before inner read = λ key keys utf8 all.
+        by_test key keys utf8 all (pointwise nat_eq key k) (bytes_decides key k)
+      where
+        by_test : (key : List ℕ) (keys : List (List ℕ)) → IsUtf8 key → AllByRecursion IsUtf8 keys
+            → (b : Bool) → Decides b (key ≡ k) → IsSome (walk d (key ∷ keys))
+            ↔ (Starts new place key keys ⊎ IsSome (walk (object rest) (key ∷ keys)))
+        by_test key keys utf8 all true told =
+            let same : key ≡ k = told.0 refl in
+            let own = same_below new (length nodes) e inner keys all in
+            let tied : key_order key k ≡ Equal
+            = subst (λ x. key_order x k ≡ Equal) (sym same) (tied_itself nat_list_cmp_total k) in
+            let found : get_member key (member k e rest) ≡ Some e = rw tied refl in
+            let none : get_member key rest ≡ None
+            = subst (λ x. get_member x rest ≡ None) (sym same) (absent k rest below) in
+            let s = read key keys utf8 all in (
+              (λ some. elim (s.0 some) [
+                | inl (to, leads) ↦ inl (to, up place (map chars (key ∷ keys)) to leads)
+                | inr here ↦ let (to, leads) = own.0 (rw found at here) in
+                    inl (
+                      to,
+                      (
+                        length nodes,
+                        subst (λ x. slice_get new (length nodes) ≡ Some (node_at place (chars x)))
+                            (sym same) named,
+                        leads,
+                      ),
+                    )
+              ]),
+              λ h. elim h [
+                | inl (to, (id, here, leads)) ↦ elim (under_place id (chars key) here) [
+                  | inl old ↦ absurd (not_taken nodes place k e rest bytes before id
+                      (subst (λ x. slice_get nodes id ≡ Some (node_at place (chars x))) same old))
+                  | inr last ↦ s.1 (inr (rw found (own.1
+                      (to, subst (λ i. Leads new (Some i) (map chars keys) to) last.0 leads))))
+                ]
+                | inr some ↦ let f : false ≡ true = rw none at some in cc
+              ],
+            )
+        by_test key keys utf8 all false told =
+            let differs : ¬ (key ≡ k) = λ same. let f : false ≡ true = told.1 same in cc in
+            let untied : ¬ (key_order key k ≡ Equal)
+            = λ tied. differs ((bytes_decides key k).0 (texts_ties key k ∙ ap is_eq tied)) in
+            let passed : get_member key (member k e rest) ≡ get_member key rest
+            = other_key (key_order key k) (get_member key rest) (Some e) untied in
+            let s = read key keys utf8 all in (
+              (λ some. elim (s.0 some) [
+                | inl (to, leads) ↦ inl (to, up place (map chars (key ∷ keys)) to leads)
+                | inr here ↦ inr (rw passed at here)
+              ]),
+              λ h. elim h [
+                | inl (to, (id, here, leads)) ↦ elim (under_place id (chars key) here) [
+                  | inl old ↦ s.1 (inl (
+                    to,
+                    (
+                      id,
+                      old,
+                      down id (map chars keys) to
+                          (slice_get_within nodes id _ old) (after_place place id _ old) leads,
+                    ),
+                  ))
+                  | inr last ↦ absurd (differs
+                      (sym (law key utf8) ∙ ap bytes_of (sym last.1) ∙ bytes))
+                ]
+                | inr some ↦ s.1 (inr (rw passed some))
+              ],
+            )
+
+-- two lists of nodes that one value shows
+same_paths : (nodes others : List Node) (d : Data) → IsShown nodes None d → IsShown others None d
+    → HaveSamePaths nodes others
+same_paths nodes others d shown is = λ key keys utf8 all.
+    let s = shown key keys utf8 all in
+    let t = is key keys utf8 all in
+    ((λ leads. t.0 (s.1 leads)), λ leads. s.0 (t.1 leads))
+
+pub shown_again : (nodes : List Node) (d : Data) (result : Result (List Node) Fault)
+    → IsShown nodes None d → IfOk result (λ others. IsShown others None d)
+    → IfOk result (λ others. HaveSamePaths nodes others)
+shown_again nodes d (Ok others) shown is = same_paths nodes others d shown is
+shown_again nodes d (Err fault) shown is = tt
