@@ -9,6 +9,17 @@ macro_rules! rows {
     };
 }
 
+/// The same call at four limits of a text.
+#[cfg(test)]
+macro_rules! at_each_limit {
+    ($call:ident($($given:expr),*)) => {
+        $call::<0>($($given),*);
+        $call::<4>($($given),*);
+        $call::<8>($($given),*);
+        $call::<30>($($given),*);
+    };
+}
+
 #[cfg(test)]
 mod beside;
 #[cfg(test)]

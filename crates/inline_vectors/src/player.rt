@@ -164,8 +164,9 @@ fn wrong_reply(replies: &[Reply], steps: &[Step]) -> Option<usize> {
     None
 }
 
-/// Makes the steps by one run, with the plain program beside it, with this memory.
-fn play_at_once<T: Played>(
+/// Makes the steps in this way, with this memory: by one run, with the plain program beside it, or
+/// each by a command of its own.
+fn play_steps<T: Played>(
     rt: &impl Abort,
     alloc: Global,
     text: &mut T,
@@ -174,6 +175,12 @@ fn play_at_once<T: Played>(
     memory: Memory,
     steps: &[Step],
 ) -> RowTally {
+    if !matches!(way, Way::RunOfAll | Way::DynOfAll) {
+        let hoard = hold(rt, alloc, memory);
+        let tally = play_singly(text, made, way, steps);
+        drop(hoard);
+        return tally;
+    }
     let mut commands = Vec::new(alloc);
     let mut replies = Vec::new(alloc);
     for step in steps {
@@ -198,27 +205,6 @@ fn play_at_once<T: Played>(
         Ok(steps.len())
     } else {
         Err((last, Wrong::Plain))
-    }
-}
-
-/// Makes the steps in this way, with this memory.
-fn play_steps<T: Played>(
-    rt: &impl Abort,
-    alloc: Global,
-    text: &mut T,
-    made: Made,
-    way: Way,
-    memory: Memory,
-    steps: &[Step],
-) -> RowTally {
-    match way {
-        Way::RunOfAll | Way::DynOfAll => play_at_once(rt, alloc, text, made, way, memory, steps),
-        _ => {
-            let hoard = hold(rt, alloc, memory);
-            let tally = play_singly(text, made, way, steps);
-            drop(hoard);
-            tally
-        }
     }
 }
 

@@ -107,11 +107,7 @@ fn assert_replaced<const N: usize>(rt: &impl Abort, alloc: Global)
 
 #[test]
 fn a_range_is_replaced_as_a_string_replaces_it(rt: HostRuntime) {
-    let alloc = rt.alloc();
-    assert_replaced::<0>(&rt, alloc);
-    assert_replaced::<4>(&rt, alloc);
-    assert_replaced::<8>(&rt, alloc);
-    assert_replaced::<30>(&rt, alloc);
+    at_each_limit!(assert_replaced(&rt, rt.alloc()));
 }
 
 /// A text, its digits, what of it isn't ASCII, and every second character from the first on.
@@ -208,9 +204,5 @@ fn is_retained<const N: usize>(
 
 #[test]
 fn characters_are_kept_as_a_string_keeps_them(rt: HostRuntime) {
-    let alloc = rt.alloc();
-    assert_retained::<0>(&rt, alloc);
-    assert_retained::<4>(&rt, alloc);
-    assert_retained::<8>(&rt, alloc);
-    assert_retained::<30>(&rt, alloc);
+    at_each_limit!(assert_retained(&rt, rt.alloc()));
 }

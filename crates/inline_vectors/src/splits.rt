@@ -81,33 +81,21 @@ fn is_split<const N: usize>(
         }
 }
 
-/// The first row that is wrong, in an array, as the text is made, and on the heap.
-fn wrong_split<const N: usize>(
-    rt: &impl Abort,
-    alloc: Global,
-    memory: Memory,
-    rows: &[SplitRow],
-) -> Option<usize>
+/// Asserts that each row is right, in an array, as the text is made, and on the heap.
+fn assert_split<const N: usize>(rt: &impl Abort, alloc: Global, memory: Memory, rows: &[SplitRow])
     requires { N ≤ 300 }
 {
     for (i, row) in rows.iter().enumerate() {
-        if !is_split_in_an_array::<N>(row)
-            || !is_split::<N>(rt, alloc, None, memory, row)
-            || !is_split::<N>(rt, alloc, Some(N + 1), memory, row)
-        {
-            return Some(i);
-        }
+        let is_right = is_split_in_an_array::<N>(row)
+            && is_split::<N>(rt, alloc, None, memory, row)
+            && is_split::<N>(rt, alloc, Some(N + 1), memory, row);
+        assert!(rt; is_right, "row {i} at {N}");
     }
-    None
 }
 
 #[test]
 fn a_text_is_split_as_a_string_is(rt: HostRuntime) {
-    let alloc = rt.alloc();
-    assert_none_wrong(&rt, wrong_split::<0>(&rt, alloc, Ample, SPLITS));
-    assert_none_wrong(&rt, wrong_split::<4>(&rt, alloc, Ample, SPLITS));
-    assert_none_wrong(&rt, wrong_split::<8>(&rt, alloc, Ample, SPLITS));
-    assert_none_wrong(&rt, wrong_split::<30>(&rt, alloc, Ample, SPLITS));
+    at_each_limit!(assert_split(&rt, rt.alloc(), Ample, SPLITS));
 }
 
 /// Rests of at most 8 bytes, of at most 30, and of more. Few, since memory is held for each.
@@ -119,9 +107,9 @@ const LONG_SPLITS: &[SplitRow] = rows! {
 #[test]
 fn only_a_rest_that_outgrows_the_limit_takes_memory(rt: HostRuntime) {
     let alloc = rt.alloc();
-    assert_none_wrong(&rt, wrong_split::<0>(&rt, alloc, Held, LONG_SPLITS));
-    assert_none_wrong(&rt, wrong_split::<8>(&rt, alloc, Held, LONG_SPLITS));
-    assert_none_wrong(&rt, wrong_split::<30>(&rt, alloc, Held, LONG_SPLITS));
+    assert_split::<0>(&rt, alloc, Held, LONG_SPLITS);
+    assert_split::<8>(&rt, alloc, Held, LONG_SPLITS);
+    assert_split::<30>(&rt, alloc, Held, LONG_SPLITS);
     // One request, of the rest's 40 bytes.
     let row = (A_TEN_CLEFS, 1, "a", TEN_CLEFS);
     assert!(rt; is_split::<30>(&rt, alloc, None, OneBlock(40), &row));
@@ -177,28 +165,21 @@ fn is_cased<const N: usize>(
     is_upper && is_lying(&text, lower, storage) && text.capacity() == capacity
 }
 
-/// The first row that is wrong, in an array, as the text is made, and on the heap.
-fn wrong_case<const N: usize>(rt: &impl Abort, alloc: Global) -> Option<usize>
+/// Asserts that each row is right, in an array, as the text is made, and on the heap.
+fn assert_cased<const N: usize>(rt: &impl Abort, alloc: Global)
     requires { N ≤ 300 }
 {
     for (i, row) in CASES.iter().enumerate() {
-        if !is_cased_in_an_array::<N>(row)
-            || !is_cased::<N>(rt, alloc, None, row)
-            || !is_cased::<N>(rt, alloc, Some(N + 1), row)
-        {
-            return Some(i);
-        }
+        let is_right = is_cased_in_an_array::<N>(row)
+            && is_cased::<N>(rt, alloc, None, row)
+            && is_cased::<N>(rt, alloc, Some(N + 1), row);
+        assert!(rt; is_right, "row {i} at {N}");
     }
-    None
 }
 
 #[test]
 fn ascii_letters_alone_change_their_case(rt: HostRuntime) {
-    let alloc = rt.alloc();
-    assert_none_wrong(&rt, wrong_case::<0>(&rt, alloc));
-    assert_none_wrong(&rt, wrong_case::<4>(&rt, alloc));
-    assert_none_wrong(&rt, wrong_case::<8>(&rt, alloc));
-    assert_none_wrong(&rt, wrong_case::<30>(&rt, alloc));
+    at_each_limit!(assert_cased(&rt, rt.alloc()));
 }
 
 #[test]
