@@ -14,8 +14,7 @@ returns-in_err-push g c =
     c.into_iter-ch-iterator.ensures.into_iter_gives c.loop-ch.yielded_by _
     c.from_residual.result c.from_residual.ensures.0 _ _ c.in-Some.ch _ _ c.loop-ch.invariant
     (text_of_char_refs-more _ c.in-Some.ch) refl c.in_err-push.ensures.granted
-    c.in_err-push.ensures.err
-    c.in-Some.ensures.steps in
+    c.in_err-push.ensures.err c.in-Some.ensures.steps in
     record { ok = not_ok _ _ end.2; err = end.0; granted = end.1; room = not_ok _ _ end.2 }
 
 pub returns-clause-ok : goal.returns-clause-ok

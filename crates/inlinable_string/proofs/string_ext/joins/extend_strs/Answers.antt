@@ -18,8 +18,7 @@ returns-in_err-push_str g c =
     let end = stopped text_of_strs _ c.next.new.self _
     c.into_iter-string-iterator.ensures.into_iter_gives c.loop-string.yielded_by _
     c.from_residual.result c.from_residual.ensures.0 _ _ c.in-Some.string _ _
-    c.loop-string.invariant
-    (text_of_strs-more _ c.in-Some.string) (sym (size-chars _ known.utf8))
+    c.loop-string.invariant (text_of_strs-more _ c.in-Some.string) (sym (size-chars _ known.utf8))
     (rw known.value at push.granted) push.err c.in-Some.ensures.steps in
     record { ok = not_ok _ _ end.2; err = end.0; granted = end.1; room = not_ok _ _ end.2 }
 
