@@ -1,6 +1,7 @@
 pub mod Cursor
 pub mod Entries
 pub mod Ids
+pub mod Lexemes
 pub mod Listed
 pub mod Members
 pub mod ReadBack
