@@ -1,5 +1,5 @@
 //! Loops over characters and strings: a call, and one of std's adapters for what the loop does.
-ghost use Rattle.std.specs.Prelude.{◌≡◌, ◌++◌, ◌==◌, if◌then◌else◌, map, filter, replicate, IfOk, OnOk};
+ghost use Rattle.std.specs.Prelude.{◌≡◌, ◌++◌, ◌==◌, if◌then◌else◌, map, filter, replicate, reverse, IfOk, OnOk};
 ghost use Rattle.std.specs.Char.{is_ascii_digit};
 ghost use Rattle.std.specs.Str.{chars};
 ghost use Rattle.inlinable_string.specs.Joins.{text_of_strs};
@@ -29,6 +29,13 @@ fn underscored(ch: char) -> char
     ensures { result ≡ (if ch == 45 then 95 else ch) }
 {
     if ch == '-' { '_' } else { ch }
+}
+
+/// Letters the other way round.
+pub fn reversed(letters: &[char]) -> Result<InlineStringN<32>, NotEnoughSpaceError>
+    ensures { IfOk result (λ made. made ≡ reverse letters.now) }
+{
+    InlineStringN::from_chars(letters.iter().rev().copied())
 }
 
 /// Adds words to the end of a text of an array.
