@@ -55,7 +55,7 @@ HOSTILE = {'accepted': 1_200, **dict.fromkeys((
     'done', 'char', 'none', 'bad place', 'not utf-8', 'wrong length', 'no memory'), 30)}
 
 # Edits in `wrong-definitions/`, by crate: just as many.
-WRONG_DEFINITIONS = {'inlinable_string': 140, 'script_language': 90}
+WRONG_DEFINITIONS = {'inlinable_string': 140, 'script_language': 90, 'inline_uses': 18}
 
 # Edits in `wrong-clauses/`, and public functions of `callers` that promise something.
 WRONG_CLAUSES, CALLERS = 5, 136
