@@ -9,3 +9,4 @@ pub mod symbols;
 mod tests;
 pub mod tokens;
 pub mod tree;
+pub mod worked;
