@@ -24,7 +24,7 @@ FIRST = re.compile(r'^```rust\n(.*?)^```$', re.MULTILINE | re.DOTALL)
 
 # A C function that a program reaches, and what the README says of them.
 REACHED = re.compile(r'^ *\S+::(\w+) +reached$', re.MULTILINE)
-TRUSTED = re.compile('of which the program calls (.*?) \\(', re.DOTALL)
+TRUSTED = re.compile(r'of which the program calls (.*?)\.$', re.MULTILINE | re.DOTALL)
 
 
 def promising(text):

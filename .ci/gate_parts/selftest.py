@@ -123,7 +123,7 @@ REPOSITORY = {
     'bench/sums.py': text_of(in_tree('bench', 'sums.py')), 'bench/workloads.py': WORKLOADS,
     'bench/sums': '11 from 6\n', PROOF: 'one = 1\n',
     'README.md': '```rust\nfn main() {}\n```\nIt prints `fn pasted::main: proved`. `toy/src/lib.rt` has `rows::row`.\n'
-                 'C files, of which the program calls `read` (so `rt` lists).\n'}
+                 'C files, of which the program calls `read`.\n'}
 # By part, the words behind it and the environment in which it passes.
 IN_ORDER = {
     'edits': ('--jobs 2', {'WORD': '    2\n', 'REFUSED': 'toy/one toy/other'}),
