@@ -57,7 +57,7 @@ def require_first_program(top, library):
 
 def require_trusted():
     """The README names each C function that the program calls, and no other."""
-    said, _ = run_rt(crate_folder(PROGRAM), 'check', '--list-axioms')
+    said, _ = run_in(crate_folder(PROGRAM), 'rt', 'check', '--list-axioms')
     reached = set(REACHED.findall(said))
     named = set(re.findall(r'`(\w+)`', TRUSTED.search(text_of(in_tree('README.md')))[1]))
     if not reached or reached != named:
