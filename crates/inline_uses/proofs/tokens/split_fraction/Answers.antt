@@ -49,5 +49,7 @@ returns-clause-front c =
     let digits = chars c.split_while.result.0.now in
     let point = c.in-Some.ensures.some ∙ ap (λ d. d ∷ after) c.if-first-ne46.false in
     let whole = point ∙ ap (λ l. 46 ∷ l) c.split_while.ensures.split in
-    c.split_before.ensures.front (46 ∷ digits) whole ∙ sym (fraction_from (chars c.args.source.now) after digits point c.split_while.ensures.front
-    (some_here _ _ _ c.in-Some-split_first.ensures.some))
+    let some = some_here _ _ _ c.in-Some-split_first.ensures.some in
+    c.split_before.ensures.front (46 ∷ digits) whole
+    ∙ sym (fraction_from (chars c.args.source.now) after digits point c.split_while.ensures.front
+    some)
