@@ -32,11 +32,13 @@ some_same : {A : Type 0} (x y : A) → Some x ≡ Some y → x ≡ y
 some_same x y is = cc
 
 -- what a source begins with that has a token of the kind
-pub text_starts : (source rest : List ℕ) (c : ℕ) → kind_at source ≡ Some Text
-    → source ≡ c ∷ rest → source ≡ 34 ∷ rest
-text_starts source rest c is whole =
-    whole ∙ ap (λ d. d ∷ rest) (text_begins c (slice_get rest 0)
-    (some_same (kind_of c (slice_get rest 0)) Text (sym (ap kind_at whole) ∙ is)))
+pub text_is : (source after inside rest : List ℕ) (c : ℕ) → kind_at source ≡ Some Text
+    → source ≡ c ∷ after → after ≡ inside ++ 34 ∷ rest
+    → source ≡ (34 ∷ inside ++ 34 ∷ []) ++ rest
+text_is source after inside rest c is whole ends =
+    whole ∙ ap (λ d. d ∷ after) (text_begins c (slice_get after 0)
+    (some_same (kind_of c (slice_get after 0)) Text (sym (ap kind_at whole) ∙ is)))
+    ∙ ap (λ l. 34 ∷ l) (ends ∙ sym (append_assoc inside (34 ∷ []) rest))
 
 pub mark_starts : (source rest : List ℕ) (c m : ℕ) → kind_at source ≡ Some (Mark m)
     → source ≡ c ∷ rest → source ≡ m ∷ rest
@@ -244,7 +246,8 @@ module _ (s rest : List ℕ) (i : ℕ) (utf8 : IsUtf8 s) (within : i < length s)
       whole ∙ sym (append_assoc (take i s) (42 ∷ []) (47 ∷ rest))
       ∙ ap (λ l. l ++ 47 ∷ rest) bytes
       ∙ append_assoc (bytes_of front) (42 ∷ 47 ∷ bytes_of back) (47 ∷ rest) in
-      none (length (bytes_of front)) (omega (arith, count, length-take-le i s (omega (arith, within))))
+      let front_len = length-take-le i s (omega (arith, within)) in
+      none (length (bytes_of front)) (omega (arith, count, front_len))
       (bytes_of back ++ 47 ∷ rest) (ap (drop (length (bytes_of front))) all
       ∙ drop_front (bytes_of front) (42 ∷ 47 ∷ (bytes_of back ++ 47 ∷ rest)))
 
@@ -305,7 +308,8 @@ none_at (c ∷ source) is = let bad : ⊥ = cc in absurd bad
 
 pub nothing_left : (source : List ℕ) → IsUtf8 source → kind_at (chars source) ≡ None
     → source ≡ []
-nothing_left source utf8 is = sym (encodes-chars source utf8) ∙ ap bytes_of (none_at (chars source) is)
+nothing_left source utf8 is =
+    sym (encodes-chars source utf8) ∙ ap bytes_of (none_at (chars source) is)
 
 -- a character more in a line, or a line more
 lines_by : (b : Bool) (line n : ℕ) → line + (cond b 1 0 + n) ≡ cond b (line + 1) line + n

@@ -27,23 +27,19 @@ loop-token-preserved g c =
     let some = some_length text (rw c.in-Some.is at c.in-Ok.ensures.progress) in
     let kind = rw c.in-Some.is at c.in-Ok.ensures.kind in
     let is = rw c.in-Some.is at c.in-Ok.ensures.text in
+    let more_solid = sum_by_push (λ t. cond (is_solid t) 1 0) so_far.0 token in
     let sizes = ap length parts ∙ length-append text rest in
     let P : List (Kind × List ℕ) → Type 0 = λ ts. AreTokens (chars c.args.source.now) ts in (
       c.chars_of_parts.ensures.utf8,
       omega (arith, c.loop-token.invariant.1, sizes, some, c.solid_count-count.ensures.most),
       (
         passed.0 ++ chars text,
-        passed.1 ∙ ap (λ l. passed.0 ++ l) split ∙ sym (append_assoc passed.0 (chars text) (chars rest)),
+        passed.1 ∙ ap (λ l. passed.0 ++ l) split
+            ∙ sym (append_assoc passed.0 (chars text) (chars rest)),
       ),
       (
         so_far.0 ++ token ∷ [],
-        grind (
-          arith,
-          so_far.1,
-          c.solid_count-count.ensures.count,
-          sum_by_push (λ t. cond (is_solid t) 1 0)
-              so_far.0 token,
-        ),
+        grind (arith, so_far.1, c.solid_count-count.ensures.count, more_solid),
         λ more are. subst P (sym (append_assoc so_far.0 (token ∷ []) more))
             (so_far.2 (token ∷ more) (c.next_token.new.word, chars rest, split, kind, is, are)),
       ),

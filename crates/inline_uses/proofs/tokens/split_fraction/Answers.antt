@@ -48,6 +48,8 @@ returns-clause-front c =
     let after = chars c.in-Some.after.now in
     let digits = chars c.split_while.result.0.now in
     let point = c.in-Some.ensures.some ∙ ap (λ d. d ∷ after) c.if-first-ne46.false in
-    c.split_before.ensures.front (46 ∷ digits) (point ∙ ap (λ l. 46 ∷ l) c.split_while.ensures.split)
+    let whole = point ∙ ap (λ l. 46 ∷ l) c.split_while.ensures.split in
+    let some = some_here _ _ _ c.in-Some-split_first.ensures.some in
+    c.split_before.ensures.front (46 ∷ digits) whole
     ∙ sym (fraction_from (chars c.args.source.now) after digits point c.split_while.ensures.front
-    (some_here _ _ _ c.in-Some-split_first.ensures.some))
+    some)
