@@ -7,6 +7,7 @@ use Rattle.std.specs.List.{AllByRecursion}
 use Rattle.std.specs.Ordering.{match_ordering}
 use Rattle.std.specs.Str.{chars}
 use Rattle.std.proofs.lemmas.Cmp.{tied_itself, nat_list_cmp_total}
+use Rattle.std.proofs.lemmas.List.{length-append}
 use Rattle.std.proofs.lemmas.Option.{slice_get_within}
 use Rattle.inlinable_string.specs.Text.{bytes_of}
 use Rattle.serde_json.specs.Data.{Data, object, Members, no_members, member}
@@ -68,8 +69,11 @@ absent key (member k d ms) below = rw below.0 (absent key ms below.1)
 module _ (nodes added new : List Node) (place : Option ℕ) (k : List ℕ) (e : Data)
     (is_added : added ≡ nodes ++ node_at place (chars k) ∷ [])
     (is_new : new ≡ added ++ listed (length added) (Some (length nodes)) e)
-    (longer : length nodes ≤ length added) (tree : IsTree nodes) (within : IsPlaceOf nodes place)
+    (tree : IsTree nodes) (within : IsPlaceOf nodes place)
   where
+    longer : length nodes ≤ length added
+    longer = rw (is_added, length-append) (omega arith)
+
     older : (id : ℕ) (node : Node) → slice_get nodes id ≡ Some node → slice_get new id ≡ Some node
     older id node is =
         let here : slice_get added id ≡ Some node
@@ -89,7 +93,8 @@ module _ (nodes added new : List Node) (place : Option ℕ) (k : List ℕ) (e : 
     -- each node is an old one, the one more, or under that or a later one
     ways : (id : ℕ) (node : Node) → slice_get new id ≡ Some node
         → (slice_get nodes id ≡ Some node)
-        ⊎ (((id ≡ length nodes) × (node_at place (chars k) ≡ node)) ⊎ IsUnderLate (length nodes) node)
+        ⊎ (((id ≡ length nodes) × (node_at place (chars k) ≡ node))
+        ⊎ IsUnderLate (length nodes) node)
     ways id node is =
         elim (from_append (IsUnderLate (length nodes)) added
         (listed (length added) (Some (length nodes)) e) id node
@@ -103,7 +108,8 @@ module _ (nodes added new : List Node) (place : Option ℕ) (k : List ℕ) (e : 
           | inr late ↦ inr (inr late)
         ]
 
-    up : (p : Option ℕ) (keys : List (List ℕ)) (to : ℕ) → Leads nodes p keys to → Leads new p keys to
+    up : (p : Option ℕ) (keys : List (List ℕ)) (to : ℕ) → Leads nodes p keys to
+        → Leads new p keys to
     up p [] to leads = leads
     up p (key ∷ keys) to (id, here, leads) = (id, older id _ here, up (Some id) keys to leads)
 
@@ -149,7 +155,8 @@ module _ (nodes added new : List Node) (place : Option ℕ) (k : List ℕ) (e : 
       | inr last ↦ subst (λ b. IsBelow b rest) (sym bytes ∙ ap bytes_of last.1) below
     ]
 
-    pub read_one : (d : Data) (rest : Members) → ((bs : List ℕ) → IsUtf8 bs → bytes_of (chars bs) ≡ bs)
+    pub read_one : (d : Data) (rest : Members)
+        → ((bs : List ℕ) → IsUtf8 bs → bytes_of (chars bs) ≡ bs)
         → bytes_of (chars k) ≡ k → IsBelow k rest → AreBefore nodes place (member k e rest)
         → IsShown new (Some (length nodes)) e → IsReadBut nodes place d (member k e rest)
         → IsReadBut new place d rest

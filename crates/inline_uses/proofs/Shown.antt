@@ -79,7 +79,8 @@ module _ (nodes : List Node) (place : Option ℕ) (n : ℕ) (k : List ℕ) (v : 
     where
       by_test : (key : List ℕ) (keys : List (List ℕ)) → IsUtf8 key → AllByRecursion IsUtf8 keys
           → (b : Bool) → Decides b (key ≡ bytes_of k)
-          → (IsSome (walk (object (put (bytes_of k) v ms)) (key ∷ keys)) → Starts nodes place key keys)
+          → (IsSome (walk (object (put (bytes_of k) v ms)) (key ∷ keys))
+          → Starts nodes place key keys)
           × (Starts nodes place key keys
           → IsSome (walk (object (put (bytes_of k) v ms)) (key ∷ keys)) ⊎ IsLeft left key)
       by_test key keys utf8 all true told =

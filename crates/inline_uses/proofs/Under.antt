@@ -138,3 +138,21 @@ found_left place key (((p, k), v) ∷ es) id bytes is =
         let e : false ≡ true = sym outside ∙ inside in cc
     by_test false other here true inside later = inr (later here)
     by_test false other here false outside later = later here
+
+-- what a range with equal bounds gives
+pub range_is : (place p : Option ℕ) (n : ℕ) (k l : List ℕ)
+    → (ids : BTreeMap (Option ℕ × List ℕ) ℕ) (es : List Entry) → p ≡ place → n ≡ next_of place
+    → k ≡ [] → l ≡ []
+    → es ≡ entries_between place_order (Included (p, k)) (Excluded (Some n, l)) ids.entries
+    → All (IsEntryInRange place_order (Included (p, k)) (Excluded (Some n, l)) ids) es
+    → (es ≡ under place ids.entries)
+    × All (IsEntryInRange place_order (first_key place) (end_key place) ids) es
+range_is place p n k l ids es e f g h between inside =
+    let first : Included (p, k) ≡ first_key place = rw (e, g) refl in
+    let end : Excluded (Some n, l) ≡ end_key place = rw (f, h) refl in (
+      between ∙ ap (λ a. entries_between place_order a (Excluded (Some n, l)) ids.entries) first
+          ∙ ap (λ b. entries_between place_order (first_key place) b ids.entries) end,
+      subst (λ b. All (IsEntryInRange place_order (first_key place) b ids) es) end
+          (subst (λ a. All (IsEntryInRange place_order a (Excluded (Some n, l)) ids) es) first
+          inside),
+    )

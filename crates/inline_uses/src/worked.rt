@@ -41,7 +41,8 @@ pub fn values_have_their_faults()
     ensures object { ¬ (IsFaultOf 1 (object no_members) NotObject) }
     ensures deep { IsFaultOf 0 (object no_members) TooDeep }
     ensures shallow { ¬ (IsFaultOf 1 (object no_members) TooDeep) }
-    ensures long { IsFaultOf 2 (object (member (codes "seventeen bytes a") null no_members)) LongKey }
+    ensures long { IsFaultOf 2 (object (member (codes "seventeen bytes a") null no_members))
+        LongKey }
     ensures short { ¬ (IsFaultOf 2 (object (member (codes "sixteen bytes ab") null no_members))
         LongKey) }
     ensures taken { ¬ (IsFaultOf 1 null Taken) }

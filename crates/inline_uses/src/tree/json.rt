@@ -100,8 +100,8 @@ impl Tree {
     }
 }
 
-/// Returns the tree of a tree's JSON, in which the same keys lead to nodes. The numbers of the nodes
-/// may be others. Fails with `TooDeep` if the tree is too deep, or with `NoMemory`.
+/// Returns the tree of a tree's JSON, in which the same keys lead to nodes. Their numbers may be
+/// others. Fails with `TooDeep` if the tree is too deep, or with `NoMemory`.
 pub fn copied(alloc: Global, tree: &Tree) -> Result<Tree, Fault>
     ensures same { IfOk result (λ copy. HaveSamePaths tree.now copy) }
     ensures fault { IfErr result (λ fault. (fault ≡ Fault.NoMemory) ⊎ (fault ≡ Fault.TooDeep)) }

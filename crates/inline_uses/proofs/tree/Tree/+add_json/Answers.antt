@@ -1,16 +1,25 @@
-use Rattle.std.proofs.Common.{rules, arith, ◌≡◌, ◌≤◌, ◌<◌, ◌-◌, [], ◌∷◌, ◌++◌, Some, Ok, Err, length, length-append, string_bytes, refl, ap, sym, subst, ◌∙◌}
+use Rattle.std.proofs.Common.{rules, arith, ◌≡◌, ◌≤◌, ◌<◌, ◌↔◌, ℕ, List, Result, [], ◌∷◌, ◌++◌, Some, Ok, Err, length, string_bytes, refl, ap, sym, subst, ◌∙◌}
 use Rattle.std.specs.Str.{chars}
 use Rattle.inlinable_string.specs.Text.{bytes_of}
 use Rattle.serde_json.specs.Data.{object, no_members}
 use Rattle.serde_json.specs.View.{view, members_view}
 use Rattle.serde_json.proofs.Views.{view-Object}
-use Rattle.inline_uses.specs.Tree.{node_at, listed, IsShown, IsReadable, IsFaultOf}
+use Rattle.inline_uses.specs.Tree.{node_at, listed, IsShown, IsFaultOf}
+use Rattle.inline_uses.specs.declared.tree.Fault.{Fault}
 use Rattle.inline_uses.specs.declared.tree.Fault.TheVariants.{LongKey}
 use Rattle.inline_uses.proofs.Listed.{in_order, not_taken, none_under, last_place}
 use Rattle.inline_uses.proofs.ReadBack.{IsReadBut, none_read, all_read, before_one, read_one}
 use Rattle.inline_uses.proofs.Readable.{all_decide, one_read, not_added}
 use Rattle.inline_uses.proofs.Trees.{one_more, wider}
 use Rattle.inline_uses.proofs.tree.Tree.+add_json.Goals as goal
+
+-- a key that was added is no long one
+short_key : (key : List ℕ) (n : ℕ) (result : Result ℕ Fault) → result ≡ Ok n
+    → (result ≡ Err LongKey) ↔ (16 < length key) → length key ≤ 16
+short_key key n result is long =
+    let fits : ¬ (16 < length key) = λ more.
+    let e : Ok n ≡ Err LongKey = sym is ∙ long.1 more in cc in
+    omega (arith, fits)
 
 pub loop-key-init : goal.loop-key-init
 loop-key-init t c =
@@ -38,25 +47,19 @@ loop-key-preserved t c =
     let is_after : c.add_json.new.self
     ≡ c.add.new.self ++ listed (length c.add.new.self) (Some (length old)) below
     = rw (← c.len-id.ensures.count) c.in_ok-add_json.ensures.ok in
-    let fits : ¬ (16 < length key) = λ long.
-    let e : Ok _ ≡ Err LongKey = sym c.in_ok-add.was
-    ∙ c.add.ensures.long_key.1 (subst (λ k. 16 < length k) (sym c.as_str.ensures.value) long) in
-    cc in
-    let short : length key ≤ 16 = omega (arith, fits) in
-    let readable : IsReadable (c.args.levels - 1) below = c.in_ok-add_json.ensures.readable in
-    let some : 0 < c.args.levels = search rules in
+    let short : length key ≤ 16 = short_key key _ c.add.result c.in_ok-add.was
+    (subst (λ k. (c.add.result ≡ Err LongKey) ↔ (16 < length k)) c.as_str.ensures.value
+    c.add.ensures.long_key) in
     let bytes : bytes_of (chars key) ≡ key = search rules in
-    let longer : length old ≤ length c.add.new.self
-    = rw (is_new, length-append) (omega arith) in
     record {
       place = rw (is_after, is_new) (wider _ _ c.args.place (wider old _ c.args.place was.place));
       decide = one_read c.args.levels (view c.args.value.now) key below left was.decide short
-          readable some;
+          c.in_ok-add_json.ensures.readable (search rules);
       adds = one_more old c.args.place key below left _ _ is_new is_after ∙ was.adds;
       ordered = was.ordered.1;
-      before = before_one old _ _ c.args.place key below is_new is_after longer
+      before = before_one old _ _ c.args.place key below is_new is_after
           c.len-id.ensures.tree was.place left bytes was.ordered.0 was.before;
-      read = read_one old _ _ c.args.place key below is_new is_after longer c.len-id.ensures.tree
+      read = read_one old _ _ c.args.place key below is_new is_after c.len-id.ensures.tree
           was.place (view c.args.value.now) left c.bytes_of_parts.ensures.string bytes
           was.ordered.0 was.before
           (subst (λ i. IsShown c.add_json.new.self (Some i) below) c.len-id.ensures.count

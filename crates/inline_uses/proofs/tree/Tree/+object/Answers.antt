@@ -1,20 +1,16 @@
-use Rattle.std.proofs.Common.{rules, arith, ◌≡◌, ◌<◌, ◌≤◌, ◌⊎◌, inl, inr, ℕ, suc, List, [], ◌∷◌, length, Option, Some, refl, ap, sym, subst, ◌∙◌}
+use Rattle.std.proofs.Common.{rules, arith, ◌≡◌, ◌<◌, ◌≤◌, ◌⊎◌, inl, inr, ℕ, suc, List, [], ◌∷◌, length, Some, refl, ap, sym, subst, ◌∙◌}
 use Rattle.std.specs.Prelude.{slice_get}
-use Rattle.std.specs.BTreeMap.Range.{IsEntryInRange, entries_between}
-use Rattle.std.specs.List.{All}
-use Rattle.std.specs.declared.ops.Bound.{Bound}
-use Rattle.std.specs.declared.ops.Bound.TheVariants.{Included, Excluded}
 use Rattle.std.specs.Str.{chars}
 use Rattle.std.proofs.lemmas.Option.{slice_get_within}
 use Rattle.inlinable_string.specs.Text.{bytes_of}
 use Rattle.serde_json.specs.View.{view, members_view}
 use Rattle.serde_json.specs.Data.{object}
 use Rattle.serde_json.proofs.Views.{view-Object}
-use Rattle.inline_uses.specs.Tree.{node_at, place_order, AreFound, IsTree, Leads, IsShown, IsReadable}
+use Rattle.inline_uses.specs.Tree.{node_at, AreFound, IsTree, Leads, IsShown, IsReadable}
 use Rattle.inline_uses.specs.declared.tree.Fault.TheVariants.{TooDeep, NoMemory}
 use Rattle.inline_uses.proofs.Readable.{object_of, readable_put}
 use Rattle.inline_uses.proofs.Shown.{IsShownBut, none_shown, all_shown, put_in}
-use Rattle.inline_uses.proofs.Under.{first_key, end_key, next_of, under, all_under}
+use Rattle.inline_uses.proofs.Under.{next_of, all_under, range_is}
 use Rattle.inline_uses.proofs.tree.Tree.+object.Goals.{in-Some, in-None}
 use Rattle.inline_uses.proofs.tree.Tree.+object.Goals as goal
 
@@ -32,23 +28,10 @@ loop-entry-init t c =
       | in-Some w ↦ w.next-is ∙ rw w.in-Some.is (omega arith)
       | in-None w ↦ w.next-is ∙ rw w.in-None.is refl
     ] in
-    let first : Bound (Option ℕ × List ℕ) = Included (c.match-place.place, c.new.result) in
-    let end : Bound (Option ℕ × List ℕ) = Excluded (Some c.match-place.next, c.new-2.result) in
-    let is_first : first ≡ first_key c.args.place = rw (place, c.new.ensures) refl in
-    let is_end : end ≡ end_key c.args.place = rw (next, c.new-2.ensures) refl in
-    let between : c.range-entry-items.result ≡ entries_between place_order first end ids.entries
-    = c.range-entry-items.ensures.between tt in
-    let all : c.range-entry-items.result ≡ under c.args.place ids.entries
-    = between ∙ ap (λ f. entries_between place_order f end ids.entries) is_first
-    ∙ ap (λ e. entries_between place_order (first_key c.args.place) e ids.entries) is_end in
-    let given : All (IsEntryInRange place_order first end ids) c.range-entry-items.result
-    = (c.range-entry-items.ensures.in_range tt).0 in
-    let inside : All (IsEntryInRange place_order (first_key c.args.place) (end_key c.args.place) ids)
-    c.range-entry-items.result
-    = subst (λ f. All (IsEntryInRange place_order f (end_key c.args.place) ids)
-    c.range-entry-items.result) is_first
-    (subst (λ e. All (IsEntryInRange place_order first e ids) c.range-entry-items.result) is_end
-    given) in
+    let items = c.range-entry-items in
+    let (all, inside) = range_is c.args.place c.match-place.place c.match-place.next c.new.result
+    c.new-2.result ids items.result place next c.new.ensures c.new-2.ensures
+    (items.ensures.between tt) (items.ensures.in_range tt).0 in
     record {
       shown = rw (
         c.into_iter-entry-iterator.ensures.into_iter_gives,
@@ -99,7 +82,8 @@ returns-then-below-eq0-clause-fault t c =
     = ap chars (sym c.as_str-key.ensures.value) ∙ c.as_str-key.ensures.text in
     let is = (rw c.in-Some-2.ensures.steps at c.loop-entry.invariant).under.0 text in
     let deep : suc c.args.below ≤ 1 = rw c.if-below-eq0.true (omega arith) in
-    inr (refl, (c.in-Some-2.entry.now.1 ∷ [], c.in-Some-2.id.now, (c.in-Some-2.id.now, is, refl), deep))
+    let n = c.in-Some-2.id.now in
+    inr (refl, (c.in-Some-2.entry.now.1 ∷ [], n, (n, is, refl), deep))
 
 pub returns-clause-readable : goal.returns-clause-readable
 returns-clause-readable t c =
