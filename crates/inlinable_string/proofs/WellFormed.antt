@@ -1,9 +1,11 @@
 -- The states of the test for UTF-8, and the ranges of bytes that each has before it.
-use Rattle.inlinable_string.proofs.Common.{common_steps, ◌≡◌, ◌↔◌, inl, ℕ, zero, suc, ◌+◌, ◌*◌, ◌/◌, ◌%◌, ◌<◌, ◌≤◌, Bool, true, false, List, [], ◌∷◌, ◌++◌, length, take, drop, refl, ap, sym, ◌∙◌, arith, subst, ⊎_elim, IsAscii, IsUtf8, IsUtf8-append, IsUtf8-encode, encode_utf8, encode_utf8_all, append-nil, take_all, take_more, length-encode, len_utf8_bounds, nil_from_length, eqb-true, take-append-drop, drop_at, append_assoc, if◌then◌else◌, nat_lt, nat_eq, cases_lt, cases_Bool, cond-true, cond-false, and_parts, nat_tests, ltb-true, lt-ltb, le-ltb, slice_index, following, count_in, char_len}
+use Rattle.inlinable_string.proofs.Common.{common_steps, ◌≡◌, ◌↔◌, inl, ℕ, zero, suc, ◌+◌, ◌*◌, ◌/◌, ◌%◌, ◌<◌, ◌≤◌, Bool, true, false, List, [], ◌∷◌, ◌++◌, length, take, drop, refl, ap, sym, ◌∙◌, arith, subst, ⊎_elim, IsAscii, IsUtf8, IsUtf8-append, IsUtf8-encode, encode_utf8, encode_utf8_all, append-nil, length-append, take_all, take_more, length-encode, len_utf8_bounds, nil_from_length, eqb-true, take-append-drop, drop_at, append_assoc, if◌then◌else◌, nat_lt, nat_eq, cases_lt, cases_Bool, cond-true, cond-false, and_parts, nat_tests, ltb-true, lt-ltb, le-ltb, slice_index, following, count_in, char_len}
 use Rattle.std.specs.Int.{is_in_range}
-use Rattle.std.specs.Prelude.{◌&&◌, ◌^◌}
+use Rattle.std.specs.Prelude.{◌&&◌, ◌^◌, ◌-◌}
 use Rattle.inlinable_string.specs.WellFormed.{Follows, nothing, ranges_of, is_state, state_of, Leads}
-use Rattle.std.proofs.lemmas.Str.{IsUtf8-nil}
+use Rattle.std.proofs.Math.Seq.{drop-append_seam}
+use Rattle.std.proofs.lemmas.List.{drop-append-le, length-drop}
+use Rattle.std.proofs.lemmas.Str.{IsUtf8-nil, IsAscii-drop}
 use Rattle.std.proofs.str.Laws.{one}
 use Rattle.inlinable_string.specs.declared.well_formed.TheConstants.{ROWS}
 use Rattle.inlinable_string.proofs.Subparts.{Begins, len_of_char, one_more}
@@ -289,6 +291,16 @@ ascii_leads (b ∷ bs) is =
 
 pub ascii_block : (bs : List ℕ) (n : ℕ) → n ≡ 0 → IsAscii bs → Leads n bs n
 ascii_block bs n first is = subst (λ m. Leads m bs m) (sym first) (ascii_leads bs is)
+
+-- what is left to read is ASCII where a longer end of the bytes is
+pub last_ascii : (bs rest : List ℕ) (n from : ℕ) → IsReadTo bs rest from
+    → n + length rest ≤ length bs → IsAscii (take (length bs - n) (drop n bs)) → IsAscii rest
+last_ascii bs rest n from (front, is, read) long ascii =
+    let within : n ≤ length front = omega (arith, length-append front rest, ap length is, long) in
+    let whole = take_all (length bs - n) (drop n bs) (omega (arith, length-drop n bs)) in
+    let parts = whole ∙ ap (drop n) is ∙ drop-append-le n front rest within in
+    subst IsAscii (drop-append_seam (drop n front) rest)
+    (IsAscii-drop _ (length (drop n front)) (subst IsAscii parts ascii))
 
 -- text ends in the first state alone
 ends : (n : ℕ) → nat_eq n 0 ≡ false → Follows (ranges_of n) [] → ⊥

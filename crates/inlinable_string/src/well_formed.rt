@@ -92,6 +92,10 @@ pub(crate) fn is_utf8(bytes: &[u8]) -> bool
         }
         rest = after;
     }
+    // What is left is shorter than a block, and the end of one.
+    if bits & 63 == 0 && LANES <= bytes.len() && is_ascii(&bytes[bytes.len() - LANES..]) {
+        return true;
+    }
     read(bits, rest) & 63 == 0
 }
 
