@@ -12,14 +12,13 @@ from collections import namedtuple
 from time import monotonic
 
 from floors import WRONG_DEFINITIONS
-from gate_parts.edit_files import edits_of, texts_with
+from gate_parts.edit_files import DEFINITIONS as FOLDER, edits_of, texts_with
 from gate_parts.edits import listed
 from gate_parts.options import options
 from gate_parts.rooms import Room, require_proof, said_of, tried_in_copies
 from gate_parts.said import ill_formed, open_goals
 from gate_parts.tree import TOP, Failure, crate_folder, crates_with, text_of, with_those_below
 
-FOLDER = 'wrong-definitions'
 # How many are tried in one check: what it prints should be readable where one is not refused.
 TOGETHER = 40
 # The number of a copy, in the path of an error.

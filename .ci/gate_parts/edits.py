@@ -173,10 +173,11 @@ def tried(top, task):
 
 
 def prepared(crate, named):
-    """The groups of edits of the crate, which can all be applied."""
-    groups = groups_of(crate, [edit for edit in own_edits(crate) if named in edit.name])
-    for group in groups:
-        texts_with(crate_folder(crate), group)
+    """The groups of edits of the crate, each of which can be applied."""
+    edits = [edit for edit in own_edits(crate) if named in edit.name]
+    for edit in edits:
+        texts_with(crate_folder(crate), [edit])
+    groups = groups_of(crate, edits)
     print(f'{crate}: {sum(map(len, groups))} edits in {len(groups)} checks, '
           f'{sum(len(group) == 1 for group in groups)} of them of one edit', flush=True)
     return [(crate, group) for group in groups]

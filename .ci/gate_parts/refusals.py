@@ -101,8 +101,9 @@ def are_refused(library, edits, named):
 
 def bodies_are_refused():
     """Whether tests refuse all wrong bodies, of which there are as many as is said."""
-    groups = [(library, read_edits(path, library)) for library in crates_with(FOLDER)
-              for path in sorted(glob(os.path.join(crate_folder(library), FOLDER, '*')))]
+    folders = {library: os.path.join(crate_folder(library), FOLDER) for library in crates_with(FOLDER)}
+    groups = [(library, read_edits(folder, path, library)) for library, folder in folders.items()
+              for path in sorted(glob(os.path.join(folder, '*')))]
     edits = [edit for _, group in groups for edit in group]
     refuse_repetitions(FOLDER, edits)
     if len(edits) != WRONG_BODIES:

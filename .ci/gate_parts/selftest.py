@@ -40,7 +40,6 @@ pub fn law()
 '''
 EDIT = '''edit two_for_one
 refused: one returns-clause-value
-file: src/lib.rt
 old:     1
 new:     2
 '''
@@ -51,18 +50,17 @@ TABLE = '''| Edit | What is wrong | Refused by |
 DEFINITION = '''edit two_is_one
 refused: laws::law returns-clause-value
 refused: above/rows::row returns-clause-value
-file: specs/Word.antt
 old: word = 1
 new: word = 2
 '''
 CLAUSE = '''edit one_promises_nothing
 refused: callers/call returns-clause-value
-file: src/lib.rt
 old: result ≡ LIMIT
 new: result ≡ result
 '''
 BODY = EDIT.replace('one returns-clause-value', 'refusals::first none')
 OTHER_BODY = BODY.replace('first', 'second').replace('    1', '    one()').replace('    2', '    3')
+IN_LIB = 'file: src/lib.rt\nold:'
 # A workload on two types of text, and a program that has its sum.
 WORKLOADS = '''from collections import namedtuple
 
@@ -119,7 +117,7 @@ REPOSITORY = {
     'crates/callers/src/lib.rt': SOURCE.replace('one', 'call'), TOGETHER: EDIT, LISTED: TABLE,
     'crates/inline_script/src/main.rt': 'fn main() {}\n',
     ALONE: 'file: src/lib.rt\nold:     one()\nnew:     2\n', DEFINITIONS: DEFINITION, CLAUSES: CLAUSE,
-    BODIES: BODY, OTHER_BODIES: OTHER_BODY.replace('two_for', 'three_for'),
+    BODIES: BODY, OTHER_BODIES: OTHER_BODY.replace('two_for', 'three_for').replace('old:', IN_LIB),
     'bench/sums.py': text_of(in_tree('bench', 'sums.py')), 'bench/workloads.py': WORKLOADS,
     'bench/sums': '11 from 6\n', PROOF: 'one = 1\n',
     'README.md': '```rust\nfn main() {}\n```\nIt prints `fn pasted::main: proved`. `toy/src/lib.rt` has `rows::row`.\n'
@@ -143,6 +141,7 @@ BROKEN = (
     ('edits', 'clause-other is not refused', TOGETHER, 'clause-value', 'clause-other'),
     ('edits', 'which is not of toy', TOGETHER, ': one', ': above/row'),
     ('edits', 'two_for_one: this is 0 times', TOGETHER, 'old:     1', 'old:     3'),
+    ('edits', 'two_for_one: src/none.rt cannot be read', TOGETHER, 'old:', 'file: src/none.rt\nold:'),
     ('edits', 'two_for_other: this is 0 times', ALONE, 'one()', 'none()'),
     ('edits', 'must-fail/ and the table of its README differ', LISTED, 'two_for_other', 'two'),
     ('edits', 'or change, (Change', TOGETHER, EDIT, EDIT + '\n' + EDIT.replace('two_for_one', 'again')),
@@ -154,7 +153,7 @@ BROKEN = (
     ('definitions', 'not well formed', {'ERROR': ILL}),
     ('definitions', None, {'ERROR': ILL.replace('E0', 'E1')}),
     ('definitions', 'changes nothing that above/rows::row', 'crates/above/src/rows.rt', 'word ≡', 'other ≡'),
-    ('definitions', 'must change files of specs/', DEFINITIONS, DEFINITION, EDIT),
+    ('definitions', 'must change files of specs/', DEFINITIONS, 'old:', IN_LIB),
     ('definitions', 'has 1 edits in wrong-definitions', '.ci/floors.py', "1}, {'toy': 1}\n", "2}, {'toy': 1}\n"),
     ('definitions --named three', '0 wrong definitions', {}),
     ('callers', 'call: returns-clause-value is not refused', {'REFUSED': ''}),
@@ -174,7 +173,7 @@ BROKEN = (
         'one 1 1,last 1 1', 'one 1 0')),
     ('refusals', 'first does not go wrong with `none`', {'WRONG': 'one 2 0,one 2 0'}),
     ('refusals', 'second goes wrong, and no edit', BODIES, BODY, BODY + 'old:     one()\nnew:     3\n'),
-    ('refusals', 'a test is named twice', BODIES, 'file:', 'refused: refusals::first last\nfile:'),
+    ('refusals', 'a test is named twice', BODIES, 'old:', 'refused: refusals::first last\nold:'),
     ('refusals', 'there are 2 wrong bodies', '.ci/floors.py', '(2, 3)}, 2', '(2, 3)}, 1'),
     ('bench', 'wanted 11, given 12', 'bin/program', 'echo 11', 'echo 12'),
     ('bench', 'is not there', 'bin/program', '', None),
