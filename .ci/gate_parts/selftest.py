@@ -9,7 +9,6 @@ import shutil
 import tempfile
 
 from gate_parts import selftest_cases
-from gate_parts.options import options
 from gate_parts.tree import in_tree, run_in, text_of, write_text
 
 FLOORS = '''
@@ -73,13 +72,17 @@ SUMMING = '''#!/bin/sh
 # It says what the variables of its environment tell it to: where WORD stands in a source or a
 # definition, the functions of REFUSED are refused, with a line ERROR before that.
 STAND_IN = r'''#!/usr/bin/env python3
-import os, sys
+import os, re, sys
 crate, words = os.path.basename(os.getcwd()), sys.argv[1:]
-text = ''
+texts = {}
 for place, _, names in os.walk('..'):
-    for name in names:
-        if name.endswith(('.rt', '.antt')):
-            text += open(os.path.join(place, name), encoding='utf-8').read()
+    for path in (os.path.join(place, name) for name in names if name.endswith(('.rt', '.antt'))):
+        texts[path] = open(path, encoding='utf-8').read()
+text = ''.join(texts.values())
+def is_refused(function):
+    copy = re.match('copied::r(.*)::', function)
+    own = ''.join(texts[path] for path in texts if f'/E{copy[1]}' in path) if copy else text
+    return crate + '/' + function.split('::')[-1] in os.environ.get('REFUSED', '').split() and os.environ['WORD'] in own
 if words[0] == 'try':
     for name in ('first', 'second'):
         is_wrong = {'first': '    2\n', 'second': '    3\n'}[name] in text
@@ -89,19 +92,18 @@ if words[0] == 'try':
             print('    {} refused of {} requests, {} unseen'.format(*said.split()))
     print('test result: ok.' if 'CUT_OFF' not in os.environ else '')
     sys.exit()
-refused = os.environ.get('REFUSED', '').split() if os.environ['WORD'] in text else []
-if refused:
+asked = [words[at + 1] for at, word in enumerate(words) if word == '--only'] or {'toy': ['one', 'other'], 'above': ['row'], 'callers': ['call'], 'pasted': ['main'], 'inline_script': ['main']}[crate]
+if any(map(is_refused, asked)):
     print(os.environ.get('ERROR', ''))
-asked = [words[at + 1] for at, word in enumerate(words) if word == '--only']
-for function in asked or {'toy': ['one', 'other'], 'above': ['row'], 'callers': ['call'], 'pasted': ['main'], 'inline_script': ['main']}[crate]:
-    if crate + '/' + function.split('::')[-1] in refused:
+for function in asked:
+    if is_refused(function):
         print('note: src/lib.rt:1:1: it is not proved that all is well (`returns-clause-value`); so it is')
         print(f'fn {crate}::{function}: no proof: expected answers in ./proofs')
     else:
         print(f'fn {crate}::{function}: proved')
 if '--list-axioms' in words:
     print('  libc::read   reached')
-sys.exit(any(each.startswith(crate + '/') for each in refused))
+sys.exit(any(map(is_refused, asked)))
 '''
 TOGETHER, ALONE = 'crates/toy/must-fail-together/lib.edits', 'crates/toy/must-fail/two_for_other.edit'
 LISTED, DEFINITIONS = 'crates/toy/must-fail/README.md', 'crates/toy/wrong-definitions/Word.edits'
@@ -131,13 +133,14 @@ IN_ORDER = {
                       'WRONG': 'none 2 0,none 2 0'}),
     'bench': ('bin/program', {}),
     'counts': ('', {})}
-ILL = './specs/E0Word.antt:1:1: error: `word`: expected type `ℕ`'
+ILL = './specs/E1Word.antt:1:1: error: `word`: expected type `ℕ`'
 # A part, what it must say, and what is broken: another environment, or in a file a text, and what is in its
 # place. Where that is None, the file is gone.
 BROKEN = (
     ('edits', 'one: returns-clause-value is not refused', {'REFUSED': 'toy/other'}),
     ('edits', 'other: returns-clause-value is not refused', {'REFUSED': 'toy/one'}),
     ('edits', 'toy is not proved as it is', {'WORD': '    1\n'}),
+    ('edits --proved', None, {'WORD': '    1\n'}),
     ('edits', 'clause-other is not refused', TOGETHER, 'clause-value', 'clause-other'),
     ('edits', 'which is not of toy', TOGETHER, ': one', ': above/row'),
     ('edits', 'two_for_one: this is 0 times', TOGETHER, 'old:     1', 'old:     3'),
@@ -151,11 +154,12 @@ BROKEN = (
     ('definitions', 'tried at toy/laws::law', {'REFUSED': 'above/row'}),
     ('definitions', 'above/rows::row is not proved as it is', {'WORD': 'word = 1', 'REFUSED': 'above/row'}),
     ('definitions', 'not well formed', {'ERROR': ILL}),
-    ('definitions', None, {'ERROR': ILL.replace('E0', 'E1')}),
+    ('definitions', None, {'ERROR': ILL.replace('E1', 'E2')}),
     ('definitions', 'changes nothing that above/rows::row', 'crates/above/src/rows.rt', 'word ≡', 'other ≡'),
+    ('definitions', 'toy/one is no row', DEFINITIONS, 'laws::law', 'one'),
     ('definitions', 'must change files of specs/', DEFINITIONS, 'old:', IN_LIB),
     ('definitions', 'has 1 edits in wrong-definitions', '.ci/floors.py', "1}, {'toy': 1}\n", "2}, {'toy': 1}\n"),
-    ('definitions --named three', '0 wrong definitions', {}),
+    ('definitions --named three', 'nothing has that name', {}),
     ('callers', 'call: returns-clause-value is not refused', {'REFUSED': ''}),
     ('callers', 'toy is not proved as it is', {'REFUSED': 'toy/one'}),
     ('callers', '1 public functions', '.ci/floors.py', 'CALLERS = 1\n', 'CALLERS = 2\n'),
@@ -250,9 +254,8 @@ def on_run(repository):
             printed.splitlines()[-1].startswith(last) and found == [failing == 'none'] * 3)
 
 
-def main(words):
+def main(_):
     """Whether all that is planted is noticed, and nothing else."""
-    options('selftest', __doc__, words)
     with tempfile.TemporaryDirectory(prefix='gate-selftest-') as place:
         repository = Repository(place)
         rows = [*((part, None) for part in IN_ORDER), *BROKEN]
