@@ -10,12 +10,13 @@ from collections import Counter
 from concurrent.futures import ThreadPoolExecutor
 
 from floors import BENCH_TEXTS, BENCH_WORKLOADS
-from gate_parts.options import options
 from gate_parts.programs import Case, chosen, run
 from gate_parts.tree import PROCESSORS, Failure, in_tree, too_few
 
 sys.path.insert(0, in_tree('bench'))
 import sums  # noqa: E402
+
+OPTIONS = 'programs'
 
 
 def wrong_sums(name, program, runs, stored):
@@ -31,8 +32,8 @@ def wrong_sums(name, program, runs, stored):
     return wrong
 
 
-def main(words):
-    builds = chosen(options('bench', __doc__, words, 'programs').programs, 'bench')
+def main(given):
+    builds = chosen(given.programs, 'bench')
     try:
         stored = sums.stored_sums()
     except sums.BadSums as fault:

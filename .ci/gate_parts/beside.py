@@ -14,12 +14,13 @@ from hashlib import sha256
 
 from floors import BESIDE, BESIDE_OF_EACH
 from gate_parts.call_inputs import calls_line, script_line
+from gate_parts.draw import SEED
 from gate_parts.good_scripts import LINES
 from gate_parts.language import ARGUMENTS
-from gate_parts.options import SEED, options
 from gate_parts.programs import Case, all_runs, chosen, run
 from gate_parts.tree import Failure, in_tree, text_of, too_few
 
+OPTIONS = 'programs --store --lines'
 STEP = 1000
 DRAWN = {'calls': calls_line, 'script': script_line}
 DIGESTS = in_tree('replay', 'digests')
@@ -97,8 +98,7 @@ def check_words(source):
         raise Failure(f'not all of {WORDS}, language.py and good_scripts.py have the words {sorted(words)}')
 
 
-def main(words):
-    given = options('beside', __doc__, words, 'programs', '--store', '--lines')
+def main(given):
     if given.lines:
         print(lines_from(*starts(BESIDE)[given.lines - 1]).decode(), end='')
         return True

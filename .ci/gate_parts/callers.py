@@ -1,9 +1,7 @@
 """gate callers [--jobs N]: shows that the callers of a library need the clauses of its contracts.
 
-The edits of `wrong-clauses` are all applied at once: the library must still be proved, and the callers that
-they name must be refused, which are proved as things are, with no proof of their own. The program of the
-README is pasted into a new crate, where it must be proved and print what the README says; and the README
-must name the C functions that a program calls.
+Those that the edits of `wrong-clauses` name must be proved as things are, with no proof of their own. docs/TESTING.md
+says what else is shown, of the README too.
 """
 import os
 import re
@@ -12,16 +10,13 @@ from time import monotonic
 from floors import CALLERS, WRONG_CLAUSES
 from gate_parts.edit_files import edits_of, texts_with
 from gate_parts.edits import are_refused, functions_of, sources
-from gate_parts.options import options
 from gate_parts.rooms import Room, copies, require_proof, said_of
 from gate_parts.tree import Failure, crate_folder, crates_with, in_tree, run_in, text_of, write_text
 
-FOLDER = 'wrong-clauses'
+OPTIONS, FOLDER = '--jobs', 'wrong-clauses'
 CRATE, PROGRAM = 'callers', 'inline_script'
 ENSURES = re.compile(r'^ *ensures\b', re.MULTILINE)
 FIRST = re.compile(r'^```rust\n(.*?)^```$', re.MULTILINE | re.DOTALL)
-
-
 # A C function that a program reaches, and what the README says of them.
 REACHED = re.compile(r'^ *\S+::(\w+) +reached$', re.MULTILINE)
 TRUSTED = re.compile(r'of which the program calls (.*?)\.$', re.MULTILINE | re.DOTALL)
@@ -78,10 +73,9 @@ def are_needed(library, edits, jobs):
     return are_refused(library, CRATE, edits, said, start)
 
 
-def main(words):
-    jobs = options('callers', __doc__, words, '--jobs').jobs
+def main(given):
     edits = {library: edits_of(library, FOLDER, WRONG_CLAUSES, CRATE)
              for library in {*crates_with(FOLDER), *WRONG_CLAUSES}}
     require_callers()
     require_trusted()
-    return all([are_needed(library, own, jobs) for library, own in edits.items()])
+    return all([are_needed(library, own, given.jobs) for library, own in edits.items()])

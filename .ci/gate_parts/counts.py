@@ -9,7 +9,6 @@ import re
 from collections import Counter
 
 from floors import CITED, PROOFS, UNSAFE
-from gate_parts.options import options
 from gate_parts.tree import TOP, text_of, too_few
 
 LIBRARY = 'inlinable_string'
@@ -174,8 +173,7 @@ def odd_words(texts):
             yield f'{path}: "{word}" is no word of std\'s documentation'
 
 
-def main(words):
-    options('counts', __doc__, words)
+def main(_):
     texts = texts_by_path()
     print_lines(texts)
     (proofs, wrong), (cited, absent) = too_long(texts), missing(texts)

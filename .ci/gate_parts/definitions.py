@@ -3,8 +3,7 @@
 With --named only those are tried whose name has the word in it. A row is a function that does nothing, whose
 contract it is. Each is tried over copies: of the row with its answers, in a module `copied::rN`, and of the
 definitions and lemmas that it reaches and that stand on the changed one (`E1Run` of `Run`). Each row must also
-be proved over copies of all definitions as they are. Where a row reaches no changed file by its own words (it
-names an `impl`, or is no row), the change is made in the files themselves, in a check of its own.
+be proved over copies of all definitions as they are, in the first check of its crate.
 """
 import os
 import re
@@ -12,14 +11,13 @@ from collections import namedtuple
 from time import monotonic
 
 from floors import WRONG_DEFINITIONS
-from gate_parts.edit_files import edits_of, texts_with
+from gate_parts.edit_files import DEFINITIONS as FOLDER, edits_of, texts_with
 from gate_parts.edits import listed
-from gate_parts.options import options
-from gate_parts.rooms import Room, require_proof, said_of, tried_in_copies
+from gate_parts.rooms import Room, require_below, said_of, tried_in_copies
 from gate_parts.said import ill_formed, open_goals
-from gate_parts.tree import TOP, Failure, crate_folder, crates_with, text_of, with_those_below
+from gate_parts.tree import Failure, crate_folder, crates_with, text_of
 
-FOLDER = 'wrong-definitions'
+OPTIONS = 'crates --named --jobs'
 # How many are tried in one check: what it prints should be readable where one is not refused.
 TOGETHER = 40
 # The number of a copy, in the path of an error.
@@ -33,10 +31,10 @@ IMPORT = re.compile(r'^(?:ghost )?use [^;]*;$', re.MULTILINE)
 GIVEN = re.compile(r'\{([^}]*)\};$')
 WORD = re.compile(r'[^\s(){}\[\];,.→λ:]+')
 # A file of definitions or of lemmas. A row with the imports that it needs, and its answers. A wrong
-# definition, and a function that must refuse it: with a row and files to copy, or in place with none.
+# definition, a row that must refuse it, and the files to copy for that.
 File = namedtuple('File', 'crate folder name')
 Row = namedtuple('Row', 'function text answers')
-Trial = namedtuple('Trial', 'edit function row copied')
+Trial = namedtuple('Trial', 'edit row copied')
 
 
 class Files:
@@ -78,16 +76,13 @@ class Files:
 
 
 def row_of(crate, function):
-    """The row; None where the function is another."""
     *modules, name = function.split('::')
     folder = crate_folder(crate)
     source = os.path.join(folder, 'src', *modules) + '.rt'
-    if not modules or not os.path.exists(source):
-        return None
-    text = text_of(source)
+    text = text_of(source) if os.path.exists(source) else ''
     found = re.search(ROW.format(name), text, re.MULTILINE | re.DOTALL)
     if not found or found[0].count('pub fn') != 1:
-        return None
+        raise Failure(f'{crate}/{function} is no row')
     above = '::'.join(['crate', *modules[:-1], ''])
     imports = '\n'.join(needed(IMPORT.findall(text), found[0])).replace('super::', above)
     answers = os.path.join(folder, 'proofs', *modules, name, 'Answers.antt')
@@ -137,98 +132,83 @@ def wrong_definitions(crate):
 
 
 def trials_of(library, files, edit):
-    """How the edit is tried at each function that it names of the crate of these files."""
+    """How the edit is tried at each row that it names of the crate of these files."""
     changed = {File(library, 'specs', os.path.basename(change.path)[:-len('.antt')])
                for change in edit.changes}
     for crate, function in sorted(edit.functions()):
         if crate == files.crate:
             row = row_of(crate, function)
-            copied = files.standing_on(changed, row) if row else set()
-            if not changed <= copied and crate != library:
+            copied = files.standing_on(changed, row)
+            if not changed <= copied:
                 raise Failure(f'{library}: {edit.name} changes nothing that {crate}/{function} reaches')
-            yield Trial(edit, function, *((row, copied) if changed <= copied else (None, set())))
+            yield Trial(edit, row, copied)
 
 
-def require_rows(top, files, trials):
-    """Each named function is proved as things are, in the form in which it will be tried."""
-    rows, every = {trial.function: trial.row for trial in trials}, set(files.texts)
-    with Room(top, files.crate) as room:
-        add_files(room, files, 0, every, {})
-        named = {function: add_row(room, files, row, at, 0, every) if row else function
-                 for at, (function, row) in enumerate(sorted(rows.items(), key=lambda each: not each[1]))}
-        said, _ = said_of(top, files.crate, 1, named.values())
-    for function, copy in named.items():
-        if f'fn {files.crate}::{copy}: proved' not in said.splitlines():
-            raise Failure(f'{files.crate}/{function} is not proved as it is:\n{said}')
-    return set()
+def added_as_they_are(room, files, rows):
+    """Adds copies of the rows as things are to the room; what `rt` calls each."""
+    every = set(files.texts) if rows else set()
+    add_files(room, files, 0, every, {})
+    return [add_row(room, files, row, at, 0, every) for at, row in enumerate(rows)]
 
 
 def added(room, files, number, trial):
-    """Adds what is tried to the room; what `rt` calls the function that must refuse it."""
+    """Adds what is tried to the room; what `rt` calls the row that must refuse it."""
     texts = texts_with(crate_folder(files.library), [trial.edit])
-    if not trial.row:
-        room.write(texts)
-        return trial.function
     add_files(room, files, number, trial.copied, texts)
     return add_row(room, files, trial.row, number, number, trial.copied)
 
 
 def breach(crate, trial, name, said, number):
-    """In words, what is not as the edit says; None where the function, or its copy of this number, is refused
-    by each goal."""
-    bad = [line for line in ill_formed(said)
-           if not trial.row or (COPY.match(line) or ['', str(number)])[1] == str(number)]
+    """In words, what is not as the edit says; None where the copy of this number is refused by each goal."""
+    bad = [line for line in ill_formed(said) if (COPY.match(line) or ['', str(number)])[1] == str(number)]
     if bad:
         return f'the definition is not well formed, or a name has gone: {bad[0]}'
     left = open_goals(crate, name, said)
     for goal in trial.edit.goals:
-        if (goal.crate, goal.function) == (crate, trial.function) and goal.name not in left:
+        if (goal.crate, goal.function) == (crate, trial.row.function) and goal.name not in left:
             return f'tried at {crate}/{goal.function} {goal.name}, not refused; open goals: {listed(left)}'
     return None
 
 
-def tried(top, files, trials):
-    """The names of the edits that are not refused as they say; prints how they went."""
-    start = monotonic()
+def tried(top, files, rows, trials):
+    """The names of the edits that are not refused as they say; prints how they went. The rows must be proved
+    as things are."""
+    start, numbers = monotonic(), range(len(rows), len(rows) + len(trials))
     with Room(top, files.crate) as room:
-        names = [added(room, files, number, trial) for number, trial in enumerate(trials)]
-        said, _ = said_of(top, files.crate, 1, names)
+        copies = added_as_they_are(room, files, rows)
+        names = [added(room, files, number, trial) for number, trial in zip(numbers, trials)]
+        said, _ = said_of(top, files.crate, 1, copies + names)
+    for row, copy in zip(rows, copies):
+        if f'fn {files.crate}::{copy}: proved' not in said.splitlines():
+            raise Failure(f'{files.crate}/{row.function} is not proved as it is:\n{said}')
     found = [(trial.edit.name, breach(files.crate, trial, name, said, number))
-             for number, (trial, name) in enumerate(zip(trials, names))]
+             for number, trial, name in zip(numbers, trials, names)]
     refused = [name for name, wrong in found if not wrong]
     wrong = [f'{files.library}: NOT AS IT MUST BE: {name}: {wrong}' for name, wrong in found if wrong]
     print(f'{files.library}: refused by {files.crate}, {len(refused)} after {monotonic() - start:.0f} s: '
           f'{listed(refused)}', *wrong, *[said] * bool(wrong), sep='\n', flush=True)
-    return {name for name, wrong in found if wrong}
+    return {(files.library, name) for name, wrong in found if wrong}
 
 
-def batches(trials):
-    """The trials in lists, each for one check: as even as can be, and those in place alone."""
-    together = [trial for trial in trials if trial.row]
-    count = -(-len(together) // TOGETHER)
-    return [together[at::count] for at in range(count)] + [[trial] for trial in trials if not trial.row]
+def tasks_of(library, edits):
+    """What is tried of a library, by check: as even as can be, the first of a crate with all of its rows."""
+    for crate in sorted({crate for edit in edits for crate, _ in edit.functions()}):
+        files = Files(library, crate)
+        trials = [trial for edit in edits for trial in trials_of(library, files, edit)]
+        rows, count = sorted({trial.row for trial in trials}), -(-len(trials) // TOGETHER)
+        for at in range(count):
+            yield files, rows * (at == 0), trials[at::count]
 
 
-def tried_all(library, edits, jobs):
-    """The names of the library's wrong definitions that are not refused as they say."""
-    crates = sorted({crate for edit in edits for crate, _ in edit.functions()})
-    trials = {files: [trial for edit in edits for trial in trials_of(library, files, edit)]
-              for files in (Files(library, crate) for crate in crates)}
-    tasks = [(require_rows, files, own) for files, own in trials.items()]
-    tasks += [(tried, files, batch) for files, own in trials.items() for batch in batches(own)]
-    print(f'{library}: {len(edits)} wrong definitions in {len(tasks) - len(trials)} checks', flush=True)
-    for below in sorted(set().union(*(with_those_below([crate]) - {crate} for crate in crates))):
-        require_proof(TOP, below, jobs)
-    wrong = tried_in_copies([library, *crates], jobs, lambda top, task: task[0](top, *task[1:]), tasks)
-    return set().union(*wrong)
-
-
-def main(words):
-    given = options('definitions', __doc__, words, 'crates', '--named', '--jobs')
-    crates = given.crates or sorted({*crates_with(FOLDER), *WRONG_DEFINITIONS})
-    edits = {crate: [edit for edit in wrong_definitions(crate) if given.named in edit.name]
-             for crate in crates}
-    wrong = sum(len(tried_all(library, own, given.jobs)) for library, own in edits.items() if own)
-    good = sum(map(len, edits.values())) - wrong
+def main(given):
+    edits = {library: [edit for edit in wrong_definitions(library) if given.named in edit.name]
+             for library in given.crates or sorted({*crates_with(FOLDER), *WRONG_DEFINITIONS})}
+    tasks = [task for library, own in edits.items() for task in tasks_of(library, own)]
+    crates = sorted({crate for files, _, _ in tasks for crate in (files.library, files.crate)})
+    count = sum(map(len, edits.values()))
+    print(f'{count} wrong definitions in {len(tasks)} checks', flush=True)
+    require_below(given.jobs, crates)
+    wrong = len(set().union(*tried_in_copies(crates, given.jobs, lambda top, task: tried(top, *task), tasks)))
+    good = count - wrong
     print(f'{good} wrong definitions refused as they say, {wrong} not')
     return good > 0 and not wrong

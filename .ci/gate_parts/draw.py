@@ -2,6 +2,8 @@
 import hashlib
 from itertools import accumulate
 
+# Of all that is drawn.
+SEED = '20251122'
 LOW_BITS = 2 ** 64 - 1
 # By width: what looks like an end or a space, the first and last of each width and of each gap.
 CHARS = (' \r\0\t\x0b\x1f\x7f~azAF09_-', '\x80\x85\xa0é\u0301\u07ff',

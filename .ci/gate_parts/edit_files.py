@@ -11,9 +11,8 @@ from gate_parts.tree import Failure, crate_folder, text_of
 
 ENDING = '.edits'
 CHANGE = r'(?:file: (.+)\n)?(?:after: (.+)\n)?old: (.+)\nnew:(?: (.*))?\n'
-EDIT = re.compile(
-    rf'edit (\S+)\n((?:refused: \S+ \S+\n)+)((?:touches: .+\n)*)((?=file: )(?:{CHANGE})+)')
-
+EDIT = re.compile(rf'edit (\S+)\n((?:refused: \S+ \S+\n)+)((?:touches: .+\n)*)((?:{CHANGE})+)')
+DEFINITIONS = 'wrong-definitions'
 
 # A goal of a function that must stay open.
 Goal = namedtuple('Goal', 'crate function name')
@@ -34,7 +33,7 @@ def edits_of(crate, name, said, named=None):
     for path in paths:
         if not path.endswith(ENDING):
             raise Failure(f'{path}: a file of edits ends in {ENDING}')
-    edits = [edit for path in paths for edit in read_edits(path, crate)]
+    edits = [edit for path in paths for edit in read_edits(folder, path, crate)]
     refuse_repetitions(folder, edits)
     require_as_many(crate, name, edits, said)
     for goal in (goal for edit in edits for goal in edit.goals):
@@ -56,13 +55,17 @@ def refuse_repetitions(folder, edits):
                 raise Failure(f'{folder}: {count} edits have the name, or change, {what}')
 
 
-def read_edits(path, crate):
-    """The edits of a file, whose functions are of this crate where they don't name another."""
+def read_edits(folder, path, crate):
+    """The edits of a file of the folder. Where they name no other, their functions are of this crate, and
+    `a/b.edits` changes `src/a/b.rt`, or `specs/a/b.antt` if it has wrong definitions."""
+    name = os.path.relpath(path, folder)[:-len(ENDING)]
+    changed = f'specs/{name}.antt' if os.path.basename(folder) == DEFINITIONS else f'src/{name}.rt'
     text = re.sub('^#.*\n', '', text_of(path), flags=re.MULTILINE)
-    return [read_edit(path, crate, block + '\n') for block in re.split('\n{2,}', text.strip('\n'))]
+    return [read_edit(path, crate, block + '\n', changed) for block in re.split('\n{2,}', text.strip('\n'))]
 
 
-def read_edit(path, crate, text):
+def read_edit(path, crate, text, file=''):
+    """An edit, which changes the file where it names no other."""
     found = EDIT.fullmatch(text)
     if not found:
         raise Failure(f'{path}: this is no edit: {text}')
@@ -70,7 +73,7 @@ def read_edit(path, crate, text):
              for other, function, name in re.findall(r'refused: (?:(\w+)/)?(\S+) (\S+)\n', found[2])]
     if len(set(goals)) < len(goals):
         raise Failure(f'{path}: {found[1]} names a goal twice')
-    changes, file = [], ''
+    changes = []
     for own, after, old, new in re.findall(CHANGE, found[4]):
         file = own or file
         changes.append(Change(file, old, new, after))

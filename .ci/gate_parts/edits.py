@@ -1,8 +1,9 @@
-"""gate edits [CRATE ..] [--named WORD] [--jobs N]: tries wrong code, several edits in one check.
+"""gate edits [CRATE ..] [--named WORD] [--proved] [--jobs N]: tries wrong code, several edits in one check.
 
-With --named only those edits are tried whose name has the word in it. docs/TESTING.md says which go together,
-and why that is as strict as to try each alone. Which functions a change breaks is told by the layout of `rt
-fmt` and by their last names: an edit that names another of the same name leaves that one proved, and fails.
+With --named only those edits are tried whose name has the word in it. The functions that they name must be
+proved as they are; after `rt ci`, --proved says that they are. docs/TESTING.md says which edits go together, and
+why that is as strict as to try each alone. Which functions a change breaks is told by the layout of `rt fmt` and
+by their last names: an edit that names another of the same name leaves that one proved, and fails.
 """
 import os
 import re
@@ -13,11 +14,11 @@ from time import monotonic
 from floors import EDITS, MUST_FAIL
 from gate_parts.edit_files import (
     edits_of, place_of, read_edit, refuse_repetitions, require_as_many, texts_with)
-from gate_parts.options import options
-from gate_parts.rooms import Room, require_proofs, said_of, tried_in_copies
+from gate_parts.rooms import Room, require_below, require_proofs, said_of, tried_in_copies
 from gate_parts.said import answers_of, refused_in
 from gate_parts.tree import Failure, crate_folder, crates_with, text_of
 
+OPTIONS = 'crates --named --proved --jobs'
 FOLDER, ALONE = 'must-fail-together', 'must-fail'
 # A row of the README of `must-fail/`: a name, what is wrong, what refuses it and what it touches.
 ROW = re.compile(r'^\| `(\w+)` \| [^|]+ \| ([^|]+) \|$', re.MULTILINE)
@@ -43,8 +44,8 @@ def must_fail_edits(crate):
 
 def alone_edit(crate, path, name, refused):
     lines = [f'edit {name}', *(f'refused: {function} {goal}' for function, goal in REFUSAL.findall(refused)),
-             *(f'touches: {word}' for word in TOUCHED.findall(refused))]
-    return read_edit(path, crate, '\n'.join([*lines, *filter(None, text_of(path).split('\n'))]) + '\n')
+             *(f'touches: {word}' for word in TOUCHED.findall(refused)), *text_of(path).split('\n')]
+    return read_edit(path, crate, '\n'.join(filter(None, lines)) + '\n')
 
 
 def own_edits(crate):
@@ -173,26 +174,24 @@ def tried(top, task):
 
 
 def prepared(crate, named):
-    """The groups of edits of the crate, which can all be applied."""
-    groups = groups_of(crate, [edit for edit in own_edits(crate) if named in edit.name])
-    for group in groups:
-        texts_with(crate_folder(crate), group)
+    """The groups of edits of the crate, each of which can be applied."""
+    edits = [edit for edit in own_edits(crate) if named in edit.name]
+    for edit in edits:
+        texts_with(crate_folder(crate), [edit])
+    groups = groups_of(crate, edits)
     print(f'{crate}: {sum(map(len, groups))} edits in {len(groups)} checks, '
           f'{sum(len(group) == 1 for group in groups)} of them of one edit', flush=True)
     return [(crate, group) for group in groups]
 
 
-def main(words):
-    given = options('edits', __doc__, words, 'crates', '--named', '--jobs')
+def main(given):
     crates = given.crates or sorted({*crates_with(FOLDER), *crates_with(ALONE), *EDITS, *MUST_FAIL})
     # those of many edits first, so that at the end no processor is left alone with a long check
     tasks = sorted((task for crate in crates for task in prepared(crate, given.named)),
                    key=lambda task: -len(task[1]))
-    if not tasks:
-        raise Failure(f'no edit has {given.named} in its name')
     functions = {crate: functions_of([edit for other, group in tasks if other == crate for edit in group])
                  for crate, _ in tasks}
-    require_proofs(given.jobs, functions)
+    (require_below if given.proved else require_proofs)(given.jobs, functions)
     well = tried_in_copies(sorted(functions), given.jobs, tried, tasks)
     good = sum(len(group) for (_, group), is_well in zip(tasks, well) if is_well)
     others = sum(len(group) for _, group in tasks) - good

@@ -11,14 +11,14 @@ from collections import Counter
 from functools import partial
 
 from floors import HOSTILE, HOSTILE_INPUTS, NAMED_CASES
-from gate_parts.draw import Draw
+from gate_parts.draw import SEED, Draw
 from gate_parts.encodings import nearly_utf8
 from gate_parts.good_scripts import LINES, good_lines, good_script, line_of
 from gate_parts.language import GREATEST, MOST_BYTES, STARTS, Text, Undecided, answer
-from gate_parts.options import SEED, options
 from gate_parts.programs import STREAMS, Case, all_runs, chosen, run
 from gate_parts.tree import Failure, in_tree, too_few
 
+OPTIONS = 'programs'
 NAMED = in_tree('replay', 'named_cases.py')
 # So many differences are printed, the first, with as many bytes of a text; the others are counted alone.
 MOST_PRINTED, MOST_TOLD = 10, 1000
@@ -160,6 +160,5 @@ def are_right(builds, cases, count):
     return not lacking and not any(wrong.values())
 
 
-def main(words):
-    programs = options('hostile', __doc__, words, 'programs').programs
-    return are_right(chosen(programs, 'inline_script'), named_cases(), HOSTILE_INPUTS)
+def main(given):
+    return are_right(chosen(given.programs, 'inline_script'), named_cases(), HOSTILE_INPUTS)

@@ -6,14 +6,11 @@ that it needs the proved build, and is counted apart.
 """
 import os
 import re
-import resource
 import subprocess
-import time
-from concurrent.futures import ThreadPoolExecutor, as_completed
+from concurrent.futures import ThreadPoolExecutor
 from functools import partial
 
 from floors import QUICK_PROVED, TRIED
-from gate_parts.options import options
 from gate_parts.refusals import ENDED, TEST
 from gate_parts.tree import PROCESSORS, crate_folder, run_in, text_of
 
@@ -51,18 +48,12 @@ def program_runs():
     return is_well, f'{PROGRAM} runs its script', ran.stdout + ran.stderr
 
 
-def main(words):
-    options('quick', __doc__, words)
-    steps = [part_is_proved, *(partial(tests_pass, crate) for crate in TRIED), program_runs]
-    start, found = time.monotonic(), []
+def main(_):
+    steps, found = [part_is_proved, *(partial(tests_pass, crate) for crate in TRIED), program_runs], []
     with ThreadPoolExecutor(PROCESSORS) as pool:
-        for step in as_completed([pool.submit(step) for step in steps]):
-            is_well, told, said = step.result()
+        for is_well, told, said in pool.map(lambda step: step(), steps):
             found.append(is_well)
-            how = 'well' if is_well else f'NOT WELL:\n{said}'
-            print(f'{time.monotonic() - start:5.0f} s  {told}: {how}', flush=True)
-    used = resource.getrusage(resource.RUSAGE_CHILDREN)
-    print(f'{used.ru_utime + used.ru_stime:5.0f} s of processor')
+            print(f'{told}: well' if is_well else f'{told}: NOT WELL:\n{said}', flush=True)
     print('Not tried: all other proofs and tests, and what must be refused or answered. The gate is .ci/run.')
     print('PASSED quick' if all(found) else 'FAILED quick')
     return all(found)

@@ -6,8 +6,7 @@ more of each test is its last. A test must say `one refused` where one of its re
 it has unseen ones, `last refused` at the next, and `none refused` after it. So a call that allocates where it need
 not is found, even if it does without where that fails. Each allocation is one build of a crate's tests.
 
-Without CRATE the wrong bodies of `wrong-bodies/` are tried too, those of a file in one build: each test that one
-names must go wrong, and print the word behind it. A test that only other files name must not.
+Without CRATE the wrong bodies of `wrong-bodies/` are tried too, as docs/TESTING.md says.
 """
 import os
 import re
@@ -15,11 +14,10 @@ from glob import glob
 
 from floors import REFUSALS, WRONG_BODIES
 from gate_parts.edit_files import read_edits, refuse_repetitions, texts_with
-from gate_parts.options import options
 from gate_parts.rooms import Room, copies
 from gate_parts.tree import Failure, crate_folder, crates_with, run_in, too_few
 
-FOLDER = 'wrong-bodies'
+OPTIONS, FOLDER = 'crates', 'wrong-bodies'
 # The allocation that fails over wrong bodies: the first that is one too many may come second.
 REQUEST = 2
 
@@ -101,8 +99,9 @@ def are_refused(library, edits, named):
 
 def bodies_are_refused():
     """Whether tests refuse all wrong bodies, of which there are as many as is said."""
-    groups = [(library, read_edits(path, library)) for library in crates_with(FOLDER)
-              for path in sorted(glob(os.path.join(crate_folder(library), FOLDER, '*')))]
+    folders = {library: os.path.join(crate_folder(library), FOLDER) for library in crates_with(FOLDER)}
+    groups = [(library, read_edits(folder, path, library)) for library, folder in folders.items()
+              for path in sorted(glob(os.path.join(folder, '*')))]
     edits = [edit for _, group in groups for edit in group]
     refuse_repetitions(FOLDER, edits)
     if len(edits) != WRONG_BODIES:
@@ -111,8 +110,7 @@ def bodies_are_refused():
     return all([are_refused(library, group, named) for library, group in groups])
 
 
-def main(words):
-    given = options('refusals', __doc__, words, 'crates').crates
-    if not given and not REFUSALS:
+def main(given):
+    if not given.crates and not REFUSALS:
         raise Failure('no crate is named, and .ci/floors.py has none')
-    return all([*map(is_swept, given or REFUSALS), bool(given) or bodies_are_refused()])
+    return all([*map(is_swept, given.crates or REFUSALS), bool(given.crates) or bodies_are_refused()])

@@ -6,7 +6,7 @@ from concurrent.futures import ThreadPoolExecutor
 from contextlib import ExitStack, contextmanager
 from queue import SimpleQueue
 
-from gate_parts.tree import TOP, Failure, crate_folder, run_in, text_of, with_those_below, write_text
+from gate_parts.tree import TOP, Failure, below, crate_folder, run_in, text_of, with_those_below, write_text
 
 # Read by `rt` beside the crates.
 AT_THE_TOP = ('crates.txt', 'HANDLES')
@@ -26,12 +26,18 @@ def require_proof(top, crate, jobs, functions=()):
         raise Failure(f'{crate} is not proved as it is:\n{said}')
 
 
+def require_below(jobs, crates):
+    """The same of all that these crates of the tree stand on. One at a time, since each check keeps the others
+    out of what it stands on."""
+    for crate in sorted(below(crates)):
+        require_proof(TOP, crate, jobs)
+
+
 def require_proofs(jobs, functions):
-    """The same of the crates of the tree, with the functions of each: whole, where others stand on it, and
-    these first. One at a time, since each check keeps the others out of what it stands on."""
-    below = set().union(*(with_those_below([crate]) - {crate} for crate in functions)) & set(functions)
-    for crate in sorted(functions, key=lambda crate: (crate not in below, crate)):
-        require_proof(TOP, crate, jobs, () if crate in below else functions[crate])
+    """The same of the functions of each of these crates, and whole of those on which others of them stand."""
+    whole = below(functions)
+    for crate in sorted(functions, key=lambda crate: (crate not in whole, crate)):
+        require_proof(TOP, crate, jobs, () if crate in whole else functions[crate])
 
 
 @contextmanager
@@ -52,6 +58,8 @@ def copies(crates, count):
 
 def tried_in_copies(crates, jobs, work, tasks):
     """What `work` answers of each task and a copy of the crates that no other task uses meanwhile."""
+    if not tasks:
+        raise Failure('nothing has that name')
     free = SimpleQueue()
 
     def tried(task):

@@ -9,7 +9,6 @@ import shutil
 import tempfile
 
 from gate_parts import selftest_cases
-from gate_parts.options import options
 from gate_parts.tree import in_tree, run_in, text_of, write_text
 
 FLOORS = '''
@@ -40,7 +39,6 @@ pub fn law()
 '''
 EDIT = '''edit two_for_one
 refused: one returns-clause-value
-file: src/lib.rt
 old:     1
 new:     2
 '''
@@ -51,18 +49,17 @@ TABLE = '''| Edit | What is wrong | Refused by |
 DEFINITION = '''edit two_is_one
 refused: laws::law returns-clause-value
 refused: above/rows::row returns-clause-value
-file: specs/Word.antt
 old: word = 1
 new: word = 2
 '''
 CLAUSE = '''edit one_promises_nothing
 refused: callers/call returns-clause-value
-file: src/lib.rt
 old: result ≡ LIMIT
 new: result ≡ result
 '''
 BODY = EDIT.replace('one returns-clause-value', 'refusals::first none')
 OTHER_BODY = BODY.replace('first', 'second').replace('    1', '    one()').replace('    2', '    3')
+IN_LIB = 'file: src/lib.rt\nold:'
 # A workload on two types of text, and a program that has its sum.
 WORKLOADS = '''from collections import namedtuple
 
@@ -75,13 +72,17 @@ SUMMING = '''#!/bin/sh
 # It says what the variables of its environment tell it to: where WORD stands in a source or a
 # definition, the functions of REFUSED are refused, with a line ERROR before that.
 STAND_IN = r'''#!/usr/bin/env python3
-import os, sys
+import os, re, sys
 crate, words = os.path.basename(os.getcwd()), sys.argv[1:]
-text = ''
+texts = {}
 for place, _, names in os.walk('..'):
-    for name in names:
-        if name.endswith(('.rt', '.antt')):
-            text += open(os.path.join(place, name), encoding='utf-8').read()
+    for path in (os.path.join(place, name) for name in names if name.endswith(('.rt', '.antt'))):
+        texts[path] = open(path, encoding='utf-8').read()
+text = ''.join(texts.values())
+def is_refused(function):
+    copy = re.match('copied::r(.*)::', function)
+    own = ''.join(texts[path] for path in texts if f'/E{copy[1]}' in path) if copy else text
+    return crate + '/' + function.split('::')[-1] in os.environ.get('REFUSED', '').split() and os.environ['WORD'] in own
 if words[0] == 'try':
     for name in ('first', 'second'):
         is_wrong = {'first': '    2\n', 'second': '    3\n'}[name] in text
@@ -91,19 +92,18 @@ if words[0] == 'try':
             print('    {} refused of {} requests, {} unseen'.format(*said.split()))
     print('test result: ok.' if 'CUT_OFF' not in os.environ else '')
     sys.exit()
-refused = os.environ.get('REFUSED', '').split() if os.environ['WORD'] in text else []
-if refused:
+asked = [words[at + 1] for at, word in enumerate(words) if word == '--only'] or {'toy': ['one', 'other'], 'above': ['row'], 'callers': ['call'], 'pasted': ['main'], 'inline_script': ['main']}[crate]
+if any(map(is_refused, asked)):
     print(os.environ.get('ERROR', ''))
-asked = [words[at + 1] for at, word in enumerate(words) if word == '--only']
-for function in asked or {'toy': ['one', 'other'], 'above': ['row'], 'callers': ['call'], 'pasted': ['main'], 'inline_script': ['main']}[crate]:
-    if crate + '/' + function.split('::')[-1] in refused:
+for function in asked:
+    if is_refused(function):
         print('note: src/lib.rt:1:1: it is not proved that all is well (`returns-clause-value`); so it is')
         print(f'fn {crate}::{function}: no proof: expected answers in ./proofs')
     else:
         print(f'fn {crate}::{function}: proved')
 if '--list-axioms' in words:
     print('  libc::read   reached')
-sys.exit(any(each.startswith(crate + '/') for each in refused))
+sys.exit(any(map(is_refused, asked)))
 '''
 TOGETHER, ALONE = 'crates/toy/must-fail-together/lib.edits', 'crates/toy/must-fail/two_for_other.edit'
 LISTED, DEFINITIONS = 'crates/toy/must-fail/README.md', 'crates/toy/wrong-definitions/Word.edits'
@@ -119,7 +119,7 @@ REPOSITORY = {
     'crates/callers/src/lib.rt': SOURCE.replace('one', 'call'), TOGETHER: EDIT, LISTED: TABLE,
     'crates/inline_script/src/main.rt': 'fn main() {}\n',
     ALONE: 'file: src/lib.rt\nold:     one()\nnew:     2\n', DEFINITIONS: DEFINITION, CLAUSES: CLAUSE,
-    BODIES: BODY, OTHER_BODIES: OTHER_BODY.replace('two_for', 'three_for'),
+    BODIES: BODY, OTHER_BODIES: OTHER_BODY.replace('two_for', 'three_for').replace('old:', IN_LIB),
     'bench/sums.py': text_of(in_tree('bench', 'sums.py')), 'bench/workloads.py': WORKLOADS,
     'bench/sums': '11 from 6\n', PROOF: 'one = 1\n',
     'README.md': '```rust\nfn main() {}\n```\nIt prints `fn pasted::main: proved`. `toy/src/lib.rt` has `rows::row`.\n'
@@ -133,16 +133,18 @@ IN_ORDER = {
                       'WRONG': 'none 2 0,none 2 0'}),
     'bench': ('bin/program', {}),
     'counts': ('', {})}
-ILL = './specs/E0Word.antt:1:1: error: `word`: expected type `ℕ`'
+ILL = './specs/E1Word.antt:1:1: error: `word`: expected type `ℕ`'
 # A part, what it must say, and what is broken: another environment, or in a file a text, and what is in its
 # place. Where that is None, the file is gone.
 BROKEN = (
     ('edits', 'one: returns-clause-value is not refused', {'REFUSED': 'toy/other'}),
     ('edits', 'other: returns-clause-value is not refused', {'REFUSED': 'toy/one'}),
     ('edits', 'toy is not proved as it is', {'WORD': '    1\n'}),
+    ('edits --proved', None, {'WORD': '    1\n'}),
     ('edits', 'clause-other is not refused', TOGETHER, 'clause-value', 'clause-other'),
     ('edits', 'which is not of toy', TOGETHER, ': one', ': above/row'),
     ('edits', 'two_for_one: this is 0 times', TOGETHER, 'old:     1', 'old:     3'),
+    ('edits', 'two_for_one: src/none.rt cannot be read', TOGETHER, 'old:', 'file: src/none.rt\nold:'),
     ('edits', 'two_for_other: this is 0 times', ALONE, 'one()', 'none()'),
     ('edits', 'must-fail/ and the table of its README differ', LISTED, 'two_for_other', 'two'),
     ('edits', 'or change, (Change', TOGETHER, EDIT, EDIT + '\n' + EDIT.replace('two_for_one', 'again')),
@@ -152,11 +154,12 @@ BROKEN = (
     ('definitions', 'tried at toy/laws::law', {'REFUSED': 'above/row'}),
     ('definitions', 'above/rows::row is not proved as it is', {'WORD': 'word = 1', 'REFUSED': 'above/row'}),
     ('definitions', 'not well formed', {'ERROR': ILL}),
-    ('definitions', None, {'ERROR': ILL.replace('E0', 'E1')}),
+    ('definitions', None, {'ERROR': ILL.replace('E1', 'E2')}),
     ('definitions', 'changes nothing that above/rows::row', 'crates/above/src/rows.rt', 'word ≡', 'other ≡'),
-    ('definitions', 'must change files of specs/', DEFINITIONS, DEFINITION, EDIT),
+    ('definitions', 'toy/one is no row', DEFINITIONS, 'laws::law', 'one'),
+    ('definitions', 'must change files of specs/', DEFINITIONS, 'old:', IN_LIB),
     ('definitions', 'has 1 edits in wrong-definitions', '.ci/floors.py', "1}, {'toy': 1}\n", "2}, {'toy': 1}\n"),
-    ('definitions --named three', '0 wrong definitions', {}),
+    ('definitions --named three', 'nothing has that name', {}),
     ('callers', 'call: returns-clause-value is not refused', {'REFUSED': ''}),
     ('callers', 'toy is not proved as it is', {'REFUSED': 'toy/one'}),
     ('callers', '1 public functions', '.ci/floors.py', 'CALLERS = 1\n', 'CALLERS = 2\n'),
@@ -174,7 +177,7 @@ BROKEN = (
         'one 1 1,last 1 1', 'one 1 0')),
     ('refusals', 'first does not go wrong with `none`', {'WRONG': 'one 2 0,one 2 0'}),
     ('refusals', 'second goes wrong, and no edit', BODIES, BODY, BODY + 'old:     one()\nnew:     3\n'),
-    ('refusals', 'a test is named twice', BODIES, 'file:', 'refused: refusals::first last\nfile:'),
+    ('refusals', 'a test is named twice', BODIES, 'old:', 'refused: refusals::first last\nold:'),
     ('refusals', 'there are 2 wrong bodies', '.ci/floors.py', '(2, 3)}, 2', '(2, 3)}, 1'),
     ('bench', 'wanted 11, given 12', 'bin/program', 'echo 11', 'echo 12'),
     ('bench', 'is not there', 'bin/program', '', None),
@@ -251,9 +254,8 @@ def on_run(repository):
             printed.splitlines()[-1].startswith(last) and found == [failing == 'none'] * 3)
 
 
-def main(words):
+def main(_):
     """Whether all that is planted is noticed, and nothing else."""
-    options('selftest', __doc__, words)
     with tempfile.TemporaryDirectory(prefix='gate-selftest-') as place:
         repository = Repository(place)
         rows = [*((part, None) for part in IN_ORDER), *BROKEN]

@@ -23,7 +23,6 @@ EDIT = '''# why
 edit two_for_one
 refused: one returns
 touches: a b
-file: src/lib.rt
 old:     1
 new:     2
 '''
@@ -110,7 +109,7 @@ def on_edits(place):
     write_text(path, EDIT + '\n\n' + EDIT)
     change = Change('src/lib.rt', '    1', '    2')
     one = Edit('two_for_one', [Goal('toy', 'one', 'returns')], [change], ('a', 'b'))
-    yield 'edits are parted by empty lines', read_edits(path, 'toy') == [one, one]
+    yield 'edits are parted by empty lines', read_edits(place, path, 'toy') == [one, one]
     write_text(os.path.join(place, 'src', 'lib.rt'), 'first\n    1\nsecond\n    1\n    1\n')
     yield 'a text that is more than once', fails(texts_with, place, [one])
     after = one._replace(changes=[change._replace(after='second\n')])

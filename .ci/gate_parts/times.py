@@ -8,10 +8,10 @@ import shutil
 import subprocess
 from glob import glob
 
-from gate_parts.options import options
 from gate_parts.rooms import copies
 from gate_parts.tree import crate_folder, text_of, write_text
 
+OPTIONS = 'crate --test --only'
 # A function that is done, and the line before the first.
 CHECKED = re.compile(r'^checked (\S+), \d+ of \d+$|^so far: 0 of')
 
@@ -42,8 +42,7 @@ def timed(folder, words):
     return costs
 
 
-def main(words):
-    given = options('times', __doc__, words, 'crate', '--test', '--only')
+def main(given):
     with copies([given.crate], 1) as (room,):
         costs = timed(crate_folder(given.crate, room),
                       ['--test'] * given.test + ['--only', given.only] * bool(given.only))

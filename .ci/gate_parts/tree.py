@@ -62,6 +62,11 @@ def with_those_below(crates):
     return found
 
 
+def below(crates):
+    """All of the repository that one of the crates stands on."""
+    return set().union(*(with_those_below([crate]) - {crate} for crate in crates))
+
+
 def crates_with(folder):
     """The crates that have such a folder, in order."""
     return [crate for crate in sorted(os.listdir(in_tree('crates')))
