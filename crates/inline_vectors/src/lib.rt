@@ -9,17 +9,6 @@ macro_rules! rows {
     };
 }
 
-/// The same call at four limits of a text.
-#[cfg(test)]
-macro_rules! at_each_limit {
-    ($call:ident($($given:expr),*)) => {
-        $call::<0>($($given),*);
-        $call::<4>($($given),*);
-        $call::<8>($($given),*);
-        $call::<30>($($given),*);
-    };
-}
-
 #[cfg(test)]
 mod beside;
 #[cfg(test)]
@@ -30,6 +19,8 @@ mod compared;
 mod cuts;
 #[cfg(test)]
 mod each;
+#[cfg(test)]
+mod edits;
 #[cfg(test)]
 mod encodings;
 #[cfg(test)]
@@ -61,13 +52,9 @@ mod player;
 #[cfg(test)]
 mod printed;
 #[cfg(test)]
-mod ranges;
-#[cfg(test)]
 mod replacements;
 #[cfg(test)]
 mod room;
-#[cfg(test)]
-mod splits;
 #[cfg(test)]
 mod steps;
 #[cfg(test)]
