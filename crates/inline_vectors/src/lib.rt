@@ -24,8 +24,6 @@ mod edits;
 #[cfg(test)]
 mod encodings;
 #[cfg(test)]
-mod generated;
-#[cfg(test)]
 mod growths;
 #[cfg(test)]
 mod held;

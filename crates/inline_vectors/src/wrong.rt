@@ -2,7 +2,6 @@
 //! The row before each is right, so that all rows are gone through.
 use crate::compared::wrong_order;
 use crate::each::{BoxedRow, wrong_list};
-use crate::generated::{List as Generated, ends_of};
 use crate::held::Memory::{Ample, Held};
 use crate::inline::wrong_bytes;
 use crate::joined::Items::{Chars, Strs};
@@ -160,9 +159,4 @@ fn a_wrong_row_of_another_player_is_found(rt: HostRuntime) {
     assert!(rt; found == Some((0, Text)), "{found:?}");
     assert!(rt; play_replaced(&rt, alloc, 8, b"b", 1, NotUtf8).is_err());
     assert!(rt; wrong_bytes::<4>(&rt, &[("ab", 0, 2, "", b"ab\0\x01")]) == Some(0));
-    let list = Generated {
-        commands: [Push('a'), Pop].to_vec(alloc).expect(&rt, "memory"),
-        replies: [Done, Char('b')].to_vec(alloc).expect(&rt, "memory"),
-    };
-    assert!(rt; ends_of(&rt, alloc, None, &list).is_err());
 }
