@@ -10,7 +10,7 @@ use crate::beside::{is_agreed, plain_start};
 use crate::held::Memory::{self, Ample, Held};
 use crate::held::hold;
 use crate::kinds::Kind::{self, Array, Boxable, Inlinable, Own, String as OfString};
-use crate::kinds::{DynText, Made, Played, Text, Way, policy_of};
+use crate::kinds::{DynText, Made, Played, Text, Way, boxed, policy_of};
 use crate::steps::Where::{AsMade, OnHeap};
 use crate::steps::{List, Step, Where, has_inline_room, has_room, storage_of, where_at};
 use crate::texts::whole_of;
@@ -254,7 +254,7 @@ fn play_within<const N: usize>(
 ) -> RowTally
     requires { N ≤ 300 }
 {
-    let text: Text<N> = Text::empty(rt, alloc, made);
+    let text: Text<N> = Text::empty(alloc, made).expect(rt, "memory for a text");
     play_row(rt, alloc, text, made, way, row)
 }
 
@@ -267,7 +267,6 @@ fn play_made(rt: &impl Abort, alloc: Global, made: Made, way: Way, row: Row) -> 
         4 => play_within::<4>(rt, alloc, made, way, row),
         8 => play_within::<8>(rt, alloc, made, way, row),
         10 => play_within::<10>(rt, alloc, made, way, row),
-        13 => play_within::<13>(rt, alloc, made, way, row),
         30 => play_within::<30>(rt, alloc, made, way, row),
         39 => play_within::<39>(rt, alloc, made, way, row),
         limit => {
@@ -279,8 +278,8 @@ fn play_made(rt: &impl Abort, alloc: Global, made: Made, way: Way, row: Row) -> 
 
 /// The same through a `dyn`, if the type has one.
 fn play_made_dyn(rt: &impl Abort, alloc: Global, made: Made, way: Way, row: Row) -> RowTally {
-    match DynText::empty(rt, alloc, made) {
-        Some(text) => play_row(rt, alloc, text, made, way, row),
+    match boxed(alloc, made).expect(rt, "memory for a text") {
+        Some(text) => play_row(rt, alloc, DynText(text), made, way, row),
         None => Ok(0),
     }
 }
