@@ -1,5 +1,5 @@
-//! The kinds of text that tables are played on, as data: one function instantiates each type.
-ghost use Rattle.std.specs.Prelude.{◌≡◌, ◌≤◌, length};
+//! The kinds of text that tables are played on, as data, and texts that get their commands.
+ghost use Rattle.std.specs.Prelude.{◌≡◌, length};
 
 use crate::steps::reply_by_call;
 use crate::texts::is_text;
@@ -68,59 +68,26 @@ pub trait Played {
     fn is_text(&self, content: &str) -> bool;
 }
 
-/// A text of any kind, with a limit of `N`.
+/// A text that gets commands as what it is.
 #[derive(Drop)]
-pub enum Text<const N: usize> {
-    Array(ArrayText<N>),
-    Inlinable(InlinableStringN<N>),
-    Boxable(BoxableString),
-    String(String),
-    Own(HeapText),
+pub struct TypedText<S> {
+    pub text: S,
 }
 
-/// The same expression of the text, whatever its type.
-macro_rules! of_each {
-    ($text:expr, $held:ident => $value:expr) => {
-        match $text {
-            Text::Array($held) => $value,
-            Text::Inlinable($held) => $value,
-            Text::Boxable($held) => $value,
-            Text::String($held) => $value,
-            Text::Own($held) => $value,
-        }
-    };
-}
-
-impl<const N: usize> Text<N> {
-    /// The empty text made so.
-    pub fn empty(alloc: Global, made: Made) -> Result<Self, AllocError>
-        requires { N ≤ 300 }
-    {
-        let room = made.room;
-        Ok(match made.kind {
-            Kind::Array => Text::Array(EmptyText::empty(alloc, room)?),
-            Kind::Inlinable => Text::Inlinable(EmptyText::empty(alloc, room)?),
-            Kind::Boxable => Text::Boxable(BoxableString(EmptyText::empty(alloc, room)?)),
-            Kind::String => Text::String(EmptyText::empty(alloc, room)?),
-            Kind::Own => Text::Own(EmptyText::empty(alloc, room)?),
-        })
-    }
-}
-
-impl<const N: usize> Played for Text<N> {
+impl<S: StringExt> Played for TypedText<S> {
     fn give(&mut self, way: Way, commands: &[Command], replies: &mut [Reply]) {
         match way {
-            Way::Call => of_each!(self, text => give_by_calls(text, commands, replies)),
-            _ => of_each!(self, text => run(text, commands, replies)),
+            Way::Call => give_by_calls(&mut self.text, commands, replies),
+            _ => run(&mut self.text, commands, replies),
         }
     }
 
     fn seen(&self) -> Seen<'_> {
-        of_each!(self, text => seen_of(text))
+        seen_of(&self.text)
     }
 
     fn is_text(&self, content: &str) -> bool {
-        of_each!(self, text => is_text(text, content))
+        is_text(&self.text, content)
     }
 }
 
