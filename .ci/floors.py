@@ -9,7 +9,7 @@ MUST_FAIL = {'inlinable_string': 16}
 EDITS = {'inlinable_string': 235, 'inline_model': 20, 'inline_uses': 51, 'script_language': 35}
 
 # By crate: requests for memory refused one after the other, and how often a test met one.
-REFUSALS = {'inline_refusals': (7, 194)}
+REFUSALS = {'inline_refusals': (7, 192)}
 
 # Edits in `wrong-bodies/`: just as many.
 WRONG_BODIES = 19
@@ -69,7 +69,7 @@ UNSAFE = {'library': 13, 'others': 4}
 # For `gate quick`: functions of the library that are proved, and by crate, tests that must pass without being
 # proved, and how many at most may say that they need the proved build.
 QUICK_PROVED = 14
-TRIED = {'inline_vectors': (51, 28)}
+TRIED = {'inline_vectors': (45, 26)}
 
 # Workloads of the bench, and on how many of them each type of text is run.
 BENCH_WORKLOADS = 82

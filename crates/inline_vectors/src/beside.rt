@@ -3,11 +3,7 @@ ghost use Rattle.std.specs.Prelude.{IsTrue};
 ghost use Rattle.inlinable_string.specs.Run.{LegalReplies, state_after};
 ghost use Rattle.inline_model.specs.Plain.{state_of, IsSeenAs};
 
-use Storage::{Heap, Inline};
-use Verdict::{Agrees, IllegalReply};
-use inlinable_string::Storage;
-use inlinable_string::run::Command::{self, Reserve};
-use inlinable_string::run::Reply::{self, BadPlace, Done, NoMemory};
+use inlinable_string::run::{Command, Reply};
 use inline_model::plain::plain_from;
 use inline_model::plain::room::PlainText;
 use inline_model::verdict::{Policy, Seen, Verdict, verdict_of};
@@ -49,26 +45,4 @@ pub fn is_agreed(
     let verdict = verdict_of(alloc, start, commands, replies, end);
     let verdict = verdict.expect(rt, "memory for the plain program");
     verdict == Verdict::Agrees
-}
-
-/// Reservations on the text "a", their replies, the storage then, and what the plain program says.
-const VERDICTS: &[(Command, Reply, Storage, Verdict)] = &[
-    (Reserve(30), Done, Heap, Agrees),
-    (Reserve(30), NoMemory, Inline, Agrees),
-    (Reserve(30), BadPlace, Inline, IllegalReply),
-    (Reserve(29), NoMemory, Inline, IllegalReply),
-];
-
-#[test]
-fn the_plain_program_tells_a_legal_reply_from_an_illegal_one(rt: HostRuntime) {
-    for &(command, reply, storage, wanted) in VERDICTS {
-        let start = plain_from(rt.alloc(), "a", Inline, 30, true, 30).expect(&rt, "memory");
-        let end = Seen {
-            string: "a",
-            storage,
-            capacity: 31,
-        };
-        let verdict = verdict_of(rt.alloc(), start, &[command], &[reply], end);
-        assert!(rt; verdict.expect(&rt, "memory") == wanted);
-    }
 }

@@ -1,92 +1,22 @@
-//! `InlineStringN` by its own calls, which answer errors of its own, and the bytes that it gives.
-//! What its edits do is tested with the steps of all texts, which play on it as an `ArrayText`.
+//! `InlineStringN` by its own calls, and the bytes that it gives. What its edits do, and what does
+//! not fit, is tested with the steps of all texts, which play on it as an `ArrayText`.
 ghost use Rattle.std.specs.Prelude.{◌≤◌};
 
 use inlinable_string::inline_string::{NotEnoughSpaceError, ReplaceError};
 use inlinable_string::{INLINE_STRING_CAPACITY, InlineString, InlineStringN};
 use std::process::Abort;
-use test_support::letters::{LETTERS_28 as A28, LETTERS_30 as A30};
-
-/// A growth of an array: a character or a text at the end, or at a place.
-#[derive(Clone, Copy)]
-enum Growth<'a> {
-    Push(char),
-    PushStr(&'a str),
-    Insert(usize, char),
-    InsertStr(usize, &'a str),
-}
-
-fn grow<const N: usize>(
-    rt: &impl Abort,
-    text: &mut InlineStringN<N>,
-    growth: Growth,
-) -> Result<(), NotEnoughSpaceError> {
-    match growth {
-        Growth::Push(ch) => text.push(ch),
-        Growth::PushStr(string) => text.push_str(string),
-        Growth::Insert(idx, ch) => {
-            assert!(rt; text.is_char_boundary(idx));
-            text.insert(idx, ch)
-        }
-        Growth::InsertStr(idx, string) => {
-            assert!(rt; text.is_char_boundary(idx));
-            text.insert_str(idx, string)
-        }
-    }
-}
-
-/// Growths of an array of 30 bytes in turn, which of them fit, and the text after each.
-const GROWTHS: &[(Growth, bool, &str)] = &[
-    (Growth::Push('€'), false, A28),
-    (Growth::PushStr("€"), false, A28),
-    (Growth::Insert(0, '€'), false, A28),
-    (Growth::InsertStr(28, "€"), false, A28),
-    (Growth::InsertStr(28, ""), true, A28),
-    (Growth::PushStr(""), true, A28),
-    (Growth::PushStr("aa"), true, A30),
-    (Growth::Push('a'), false, A30),
-    (Growth::Insert(30, 'a'), false, A30),
-    (Growth::PushStr(""), true, A30),
-    (Growth::InsertStr(30, ""), true, A30),
-];
 
 #[test]
 fn what_does_not_fit_is_answered_by_an_error_of_its_own(rt: HostRuntime) {
     assert!(rt; INLINE_STRING_CAPACITY == 30);
-    let mut text = InlineString::from(A28);
-    for (i, &(growth, fits, content)) in GROWTHS.iter().enumerate() {
-        let answer = grow(&rt, &mut text, growth);
-        assert!(rt;
-            answer.is_ok() == fits && text.as_str() == content,
-            "growth {i}"
-        );
-    }
+    let mut text = InlineString::from("é");
+    assert!(rt; text.replace_bytes(&[0xFF]) == Err(ReplaceError::WrongLength));
+    assert!(rt; text.replace_bytes(&[0xC3, 0x61]) == Err(ReplaceError::NotUtf8));
+    assert!(rt; text.eq_str("é") && !text.eq_str("ab"));
     let mut none = InlineStringN::<0>::new();
     let answers = (none.push_str(""), none.push('a'));
     assert!(rt; answers.0 == Ok(()) && answers.1 == Err(NotEnoughSpaceError));
     assert!(rt; none.is_empty());
-}
-
-/// Bytes for the text "é", and the answer to each.
-const REPLACED: &[(&[u8], Result<(), ReplaceError>)] = &[
-    (&[0xFF], Err(ReplaceError::WrongLength)),
-    (&[0xC3, 0x61], Err(ReplaceError::NotUtf8)),
-    (&[0x61, 0x62], Ok(())),
-];
-
-#[test]
-fn cuts_and_replacements_have_answers_of_their_own(rt: HostRuntime) {
-    let mut text = InlineString::from("é");
-    for &(bytes, wanted) in REPLACED {
-        let answer = text.replace_bytes(bytes);
-        assert!(rt; answer == wanted, "{answer:?}");
-    }
-    assert!(rt; text.as_str() == "ab" && text.eq_str("ab") && !text.eq_str("é"));
-    for wanted in [Some('b'), Some('a'), None] {
-        let popped = text.pop();
-        assert!(rt; popped == wanted, "{popped:?}");
-    }
-    assert!(rt; text.is_empty());
 }
 
 #[test]
@@ -140,8 +70,6 @@ const BYTES_OF_4: &[BytesRow] = &[
 #[test]
 fn the_bytes_are_those_of_the_text_and_then_zeros(rt: HostRuntime) {
     assert!(rt; wrong_bytes::<30>(&rt, BYTES_OF_30).is_none());
-    assert!(rt; wrong_bytes::<8>(&rt, &[("hello", 0, 5, "", b"hello\0\0\0")]).is_none());
     assert!(rt; wrong_bytes::<4>(&rt, BYTES_OF_4).is_none());
-    assert!(rt; wrong_bytes::<3>(&rt, &[("€", 0, 3, "", b"\xE2\x82\xAC")]).is_none());
     assert!(rt; wrong_bytes::<0>(&rt, &[("", 0, 0, "", b"")]).is_none());
 }

@@ -1,17 +1,16 @@
 //! Texts that others are added to, by each call of the library and of std's traits: with ample
 //! memory, with none, and with one block. What was added before the item that is refused stays.
 ghost use Rattle.std.specs.Iterator.{at_most};
-ghost use Rattle.std.specs.Prelude.{◌≤◌};
 
 use crate::held::Memory::{self, Ample, Held, OneBlock};
-use crate::held::hold;
+use crate::held::{all_memory, hold};
 use crate::makers::is_made;
 use crate::texts::{LONG, SMALL_AND_LONG, assert_none_wrong, is_lying, text_of};
 use crate::ways::HEAP_ROOM;
 use Items::{Chars, Strs};
 use Storage::{Heap, Inline};
 use inlinable_string::inline_string::NotEnoughSpaceError;
-use inlinable_string::{InlinableString, InlinableStringN, InlineString, Storage, StringMake};
+use inlinable_string::{InlinableString, InlineString, Storage, StringMake};
 use std::alloc::{AllocError, Global};
 use std::fmt::Write;
 use std::process::Abort;
@@ -204,6 +203,7 @@ const WITHOUT_MEMORY: &[JoinRow] = rows! {
     // What comes after the refused item is not added, even where it would fit.
     (None, LETTERS_28, Chars(&['€', 'a']), LETTERS_28, Inline, false),
     (None, LETTERS_30, Strs(&[""]), LETTERS_30, Inline, true),
+    (None, LETTERS_30, Strs(&["a"]), LETTERS_30, Inline, false),
     (None, LETTERS_29, Strs(&["a"]), LETTERS_30, Inline, true),
     (None, LETTERS_28, Strs(&["€"]), LETTERS_28, Inline, false),
     (None, LETTERS_29, Strs(&["bc"]), LETTERS_29, Inline, false),
@@ -230,64 +230,60 @@ fn items_are_added_up_to_the_one_that_is_refused(rt: HostRuntime) {
     );
 }
 
-/// Whether an array takes the one item of a row that is written, and else is unchanged.
-fn is_written(rt: &impl Abort, by_format: bool, &(_, start, items, whole, _, _): &JoinRow) -> bool {
-    let made: Result<InlineString, NotEnoughSpaceError> = start.parse();
-    let mut text = made.expect(rt, "at most 30 bytes");
-    let answer = match items {
-        Chars(items) if items.len() == 1 => text.write_char(items[0]),
-        Strs(items) if items.len() == 1 && by_format => write!(text, "{}", items[0]),
-        Strs(items) if items.len() == 1 => text.write_str(items[0]),
-        _ => return true,
-    };
-    let fits = whole.len() <= 30;
-    answer.is_ok() == fits && text.as_str() == if fits { whole } else { start }
-}
-
-#[test]
-fn what_is_written_into_an_array_is_added_or_refused_whole(rt: HostRuntime) {
-    for (i, row) in JOINED.iter().enumerate() {
-        assert!(rt;
-            is_written(&rt, false, row) && is_written(&rt, true, row),
-            "{i}"
-        );
+/// Whether the call adds all items to an array; `None` where it takes no such items.
+fn added_in_an_array(text: &mut InlineString, call: Call, items: Items) -> Option<bool> {
+    match (call, items) {
+        (Call::Extend, Chars(items)) => Some(text.extend_chars(items.iter().copied()).is_ok()),
+        (Call::Extend, Strs(items)) => Some(text.extend_strs(items.iter().copied()).is_ok()),
+        (Call::WriteOne, Chars(items)) if items.len() == 1 => {
+            Some(text.write_char(items[0]).is_ok())
+        }
+        (Call::WriteOne, Strs(items)) if items.len() == 1 => {
+            Some(text.write_str(items[0]).is_ok())
+        }
+        (Call::WriteFormatted, Strs(items)) if items.len() == 1 => {
+            Some(write!(text, "{}", items[0]).is_ok())
+        }
+        _ => None,
     }
 }
 
-/// Whether a text that stays inline is joined in an array, too, as far as its items fit.
+/// Whether a new array is made of the items exactly where all of them fit.
+fn is_made_in_an_array(items: Items, whole: &str, fits: bool) -> bool {
+    let made = match items {
+        Chars(items) => InlineString::from_chars(items.iter().copied()),
+        Strs(items) => InlineString::from_strs(items.iter().copied()),
+    };
+    match made {
+        Ok(text) => fits && text.as_str() == whole,
+        Err(NotEnoughSpaceError) => !fits,
+    }
+}
+
+/// Whether an array takes the items as a text without memory does, which has no more room.
 fn is_joined_in_an_array(
     rt: &impl Abort,
-    &(room, start, items, whole, storage, is_joined): &JoinRow,
+    &(_, start, items, whole, _, is_joined): &JoinRow,
 ) -> bool {
-    if room.is_some() || storage == Heap {
-        return true;
+    for call in CALLS {
+        let made: Result<InlineString, NotEnoughSpaceError> = start.parse();
+        let mut text = made.expect(rt, "at most 30 bytes");
+        if let Some(is_all) = added_in_an_array(&mut text, *call, items) {
+            if is_all != is_joined || text.as_str() != whole {
+                return false;
+            }
+        }
     }
-    let made: Result<InlineString, NotEnoughSpaceError> = start.parse();
-    let mut text = made.expect(rt, "at most 30 bytes");
-    let (answer, new) = match items {
-        Chars(items) => (
-            text.extend_chars(items.iter().copied()),
-            InlineString::from_chars(items.iter().copied()),
-        ),
-        Strs(items) => (
-            text.extend_strs(items.iter().copied()),
-            InlineString::from_strs(items.iter().copied()),
-        ),
-    };
-    let is_made = match new {
-        Ok(new) => is_joined && new.as_str() == whole,
-        Err(NotEnoughSpaceError) => !is_joined,
-    };
-    answer.is_ok() == is_joined && text.as_str() == whole && (is_made || !start.is_empty())
+    !start.is_empty() || is_made_in_an_array(items, whole, is_joined)
 }
 
 #[test]
 fn items_are_joined_in_an_array_up_to_the_first_that_does_not_fit(rt: HostRuntime) {
-    for row in JOINED {
-        assert!(rt; is_joined_in_an_array(&rt, row));
-    }
-    for row in WITHOUT_MEMORY {
-        assert!(rt; is_joined_in_an_array(&rt, row));
+    for rows in [JOINED, WITHOUT_MEMORY] {
+        for (i, row) in rows.iter().enumerate() {
+            let is_inline = row.0.is_none() && row.4 == Inline;
+            assert!(rt; !is_inline || is_joined_in_an_array(&rt, row), "{i}");
+        }
     }
 }
 
@@ -315,51 +311,16 @@ impl Iterator for SomeLetters {
     }
 }
 
-/// A limit and the memory that is left, the letters that a filter leaves of a hundred characters,
-/// and those of three that come with no hint, as far as they are added.
-type LettersRow<'a> = (usize, Memory, (&'a str, Storage), (&'a str, Storage));
-
-const LETTERS: &[LettersRow] = &[
-    (0, Ample, (LETTERS_31, Heap), ("aaa", Heap)),
-    (30, Ample, (LETTERS_31, Heap), ("aaa", Inline)),
-    (0, Held, ("", Inline), ("", Inline)),
-    (30, Held, (LETTERS_30, Inline), ("aaa", Inline)),
-];
-
-fn are_letters_right<const N: usize>(rt: &impl Abort, alloc: Global, row: &LettersRow) -> bool
-    requires { N ≤ 300 }
-{
-    let &(_, memory, filtered, unannounced) = row;
-    for (is_filtered, count, (letters, storage)) in [
-        (true, 31, filtered),
-        (false, 3, unannounced),
-    ] {
-        let mut text = InlinableStringN::<N>::new(alloc);
-        let hoard = hold(rt, alloc, memory);
-        let answer = if is_filtered {
-            text.extend_chars(MIXED.chars().filter(|ch| *ch == 'a'))
-        } else {
-            text.extend_chars(SomeLetters { left: count })
-        };
-        drop(hoard);
-        let is_whole = letters.len() == count;
-        if answer.is_ok() != is_whole || !is_lying(&text, letters, storage) {
-            return false;
-        }
-    }
-    true
-}
-
 #[test]
 fn no_hint_of_an_iterator_requests_memory(rt: HostRuntime) {
     let alloc = rt.alloc();
-    for (i, row) in LETTERS.iter().enumerate() {
-        let is_right = match row.0 {
-            0 => are_letters_right::<0>(&rt, alloc, row),
-            30 => are_letters_right::<30>(&rt, alloc, row),
-            _ => false,
-        };
-        assert!(&rt; is_right, "{i}");
-    }
     assert!(&rt; MIXED.chars().count() == 100);
+    let mut text = InlinableString::new(alloc);
+    let filtered = text.extend_chars(MIXED.chars().filter(|ch| *ch == 'a'));
+    assert!(&rt; filtered.is_ok() && is_lying(&text, LETTERS_31, Heap));
+    let mut short = InlinableString::new(alloc);
+    let hoard = all_memory(&rt, alloc);
+    let unannounced = short.extend_chars(SomeLetters { left: 3 });
+    drop(hoard);
+    assert!(&rt; unannounced.is_ok() && is_lying(&short, "aaa", Inline));
 }

@@ -1,13 +1,12 @@
-//! The kinds of text that tables are played on, as data: one function instantiates each type.
-ghost use Rattle.std.specs.Prelude.{◌≡◌, ◌≤◌, length};
+//! The kinds of text that tables are played on, as data, and texts that get their commands.
+ghost use Rattle.std.specs.Prelude.{◌≡◌, length};
 
 use crate::steps::reply_by_call;
 use crate::texts::is_text;
 use inlinable_string::run::{Command, Reply, run, run_dyn};
 use inlinable_string::{BoxableString, InlinableString, InlinableStringN, StringExt};
 use inline_model::verdict::{HEAP, Policy, Seen, inlinable, seen_of, seen_of_dyn};
-use std::alloc::Global;
-use std::process::Abort;
+use std::alloc::{AllocError, Global};
 use test_support::{ArrayText, EmptyText, HeapText};
 
 /// How commands are given to a text.
@@ -37,8 +36,6 @@ pub enum Kind {
     String,
     /// `HeapText`, a user-defined type.
     Own,
-    /// A `HeapText` that fails to shrink.
-    Unshrinkable,
 }
 
 /// How a text is made.
@@ -55,7 +52,7 @@ pub struct Made {
 pub fn policy_of(made: Made) -> Policy {
     match made.kind {
         Kind::Array | Kind::Inlinable | Kind::Boxable => inlinable(made.limit),
-        Kind::String | Kind::Own | Kind::Unshrinkable => HEAP,
+        Kind::String | Kind::Own => HEAP,
     }
 }
 
@@ -71,73 +68,26 @@ pub trait Played {
     fn is_text(&self, content: &str) -> bool;
 }
 
-/// A text of any kind, with a limit of `N`.
+/// A text that gets commands as what it is.
 #[derive(Drop)]
-pub enum Text<const N: usize> {
-    Array(ArrayText<N>),
-    Inlinable(InlinableStringN<N>),
-    Boxable(BoxableString),
-    String(String),
-    Own(HeapText),
+pub struct TypedText<S> {
+    pub text: S,
 }
 
-/// The same expression of the text, whatever its type.
-macro_rules! of_each {
-    ($text:expr, $held:ident => $value:expr) => {
-        match $text {
-            Text::Array($held) => $value,
-            Text::Inlinable($held) => $value,
-            Text::Boxable($held) => $value,
-            Text::String($held) => $value,
-            Text::Own($held) => $value,
-        }
-    };
-}
-
-fn empty<S: EmptyText>(rt: &impl Abort, alloc: Global, room: Option<usize>) -> S {
-    S::empty(alloc, room).expect(rt, "memory for a text")
-}
-
-fn own(rt: &impl Abort, alloc: Global, made: Made) -> HeapText {
-    HeapText {
-        string: empty(rt, alloc, made.room),
-        can_shrink: match made.kind {
-            Kind::Unshrinkable => false,
-            _ => true,
-        },
-    }
-}
-
-impl<const N: usize> Text<N> {
-    /// The empty text made so.
-    pub fn empty(rt: &impl Abort, alloc: Global, made: Made) -> Self
-        requires { N ≤ 300 }
-    {
-        let room = made.room;
-        match made.kind {
-            Kind::Array => Text::Array(empty(rt, alloc, room)),
-            Kind::Inlinable => Text::Inlinable(empty(rt, alloc, room)),
-            Kind::Boxable => Text::Boxable(BoxableString(empty(rt, alloc, room))),
-            Kind::String => Text::String(empty(rt, alloc, room)),
-            Kind::Own | Kind::Unshrinkable => Text::Own(own(rt, alloc, made)),
-        }
-    }
-}
-
-impl<const N: usize> Played for Text<N> {
+impl<S: StringExt> Played for TypedText<S> {
     fn give(&mut self, way: Way, commands: &[Command], replies: &mut [Reply]) {
         match way {
-            Way::Call => of_each!(self, text => give_by_calls(text, commands, replies)),
-            _ => of_each!(self, text => run(text, commands, replies)),
+            Way::Call => give_by_calls(&mut self.text, commands, replies),
+            _ => run(&mut self.text, commands, replies),
         }
     }
 
     fn seen(&self) -> Seen<'_> {
-        of_each!(self, text => seen_of(text))
+        seen_of(&self.text)
     }
 
     fn is_text(&self, content: &str) -> bool {
-        of_each!(self, text => is_text(text, content))
+        is_text(&self.text, content)
     }
 }
 
@@ -148,61 +98,41 @@ fn give_by_calls<S: StringExt>(text: &mut S, commands: &[Command], replies: &mut
     }
 }
 
-/// A text that gets commands through a `dyn`. The borrow checker makes a `dyn` of a type without
-/// parameters alone.
-#[derive(Drop)]
-pub enum DynText {
-    Array0(ArrayText<0>),
-    Array30(ArrayText<30>),
-    Inlinable0(InlinableStringN<0>),
-    Inlinable30(InlinableString),
-    Boxable(BoxableString),
-    String(String),
-    Own(HeapText),
-}
+pub type Boxed = Box<dyn StringExt + Drop>;
 
-macro_rules! of_each_dyn {
-    ($text:expr, $held:ident => $value:expr) => {
-        match $text {
-            DynText::Array0($held) => $value,
-            DynText::Array30($held) => $value,
-            DynText::Inlinable0($held) => $value,
-            DynText::Inlinable30($held) => $value,
-            DynText::Boxable($held) => $value,
-            DynText::String($held) => $value,
-            DynText::Own($held) => $value,
-        }
+/// The empty text made so, in a box; `None` at limits other than 0, 8 and 30.
+pub fn boxed(alloc: Global, made: Made) -> Result<Option<Boxed>, AllocError> {
+    let room = made.room;
+    let text: Boxed = match (made.kind, made.limit) {
+        (Kind::Array, 0) => Box::new(alloc, ArrayText::<0>::empty(alloc, room)?)?,
+        (Kind::Array, 8) => Box::new(alloc, ArrayText::<8>::empty(alloc, room)?)?,
+        (Kind::Array, 30) => Box::new(alloc, ArrayText::<30>::empty(alloc, room)?)?,
+        (Kind::Inlinable, 0) => Box::new(alloc, InlinableStringN::<0>::empty(alloc, room)?)?,
+        (Kind::Inlinable, 8) => Box::new(alloc, InlinableStringN::<8>::empty(alloc, room)?)?,
+        (Kind::Inlinable, 30) => Box::new(alloc, InlinableString::empty(alloc, room)?)?,
+        (Kind::Array | Kind::Inlinable, _) => return Ok(None),
+        (Kind::Boxable, _) => Box::new(alloc, BoxableString(EmptyText::empty(alloc, room)?))?,
+        (Kind::String, _) => Box::new(alloc, <String as EmptyText>::empty(alloc, room)?)?,
+        (Kind::Own, _) => Box::new(alloc, HeapText::empty(alloc, room)?)?,
     };
+    Ok(Some(text))
 }
 
-impl DynText {
-    /// The empty text made so; `None` at limits other than 0 and 30.
-    pub fn empty(rt: &impl Abort, alloc: Global, made: Made) -> Option<Self> {
-        let room = made.room;
-        Some(match (made.kind, made.limit) {
-            (Kind::Array, 0) => DynText::Array0(empty(rt, alloc, room)),
-            (Kind::Array, 30) => DynText::Array30(empty(rt, alloc, room)),
-            (Kind::Inlinable, 0) => DynText::Inlinable0(empty(rt, alloc, room)),
-            (Kind::Inlinable, 30) => DynText::Inlinable30(empty(rt, alloc, room)),
-            (Kind::Array | Kind::Inlinable, _) => return None,
-            (Kind::Boxable, _) => DynText::Boxable(BoxableString(empty(rt, alloc, room))),
-            (Kind::String, _) => DynText::String(empty(rt, alloc, room)),
-            (Kind::Own | Kind::Unshrinkable, _) => DynText::Own(own(rt, alloc, made)),
-        })
-    }
-}
+/// A text that gets commands through a `dyn`.
+#[derive(Drop)]
+pub struct DynText(pub Boxed);
 
 impl Played for DynText {
     fn give(&mut self, _: Way, commands: &[Command], replies: &mut [Reply]) {
-        of_each_dyn!(self, text => run_dyn(text, commands, replies))
+        run_dyn(&mut *self.0, commands, replies)
     }
 
     fn seen(&self) -> Seen<'_> {
-        of_each_dyn!(self, text => seen_of_dyn(text))
+        seen_of_dyn(&*self.0)
     }
 
     fn is_text(&self, content: &str) -> bool {
-        of_each_dyn!(self, text => is_text_dyn(text, content))
+        is_text_dyn(&*self.0, content)
     }
 }
 

@@ -9,17 +9,6 @@ macro_rules! rows {
     };
 }
 
-/// The same call at four limits of a text.
-#[cfg(test)]
-macro_rules! at_each_limit {
-    ($call:ident($($given:expr),*)) => {
-        $call::<0>($($given),*);
-        $call::<4>($($given),*);
-        $call::<8>($($given),*);
-        $call::<30>($($given),*);
-    };
-}
-
 #[cfg(test)]
 mod beside;
 #[cfg(test)]
@@ -31,9 +20,9 @@ mod cuts;
 #[cfg(test)]
 mod each;
 #[cfg(test)]
-mod encodings;
+mod edits;
 #[cfg(test)]
-mod generated;
+mod encodings;
 #[cfg(test)]
 mod growths;
 #[cfg(test)]
@@ -61,13 +50,9 @@ mod player;
 #[cfg(test)]
 mod printed;
 #[cfg(test)]
-mod ranges;
-#[cfg(test)]
 mod replacements;
 #[cfg(test)]
 mod room;
-#[cfg(test)]
-mod splits;
 #[cfg(test)]
 mod steps;
 #[cfg(test)]

@@ -1,19 +1,17 @@
 //! Limits other than 30 and 30 itself: none at all, some of few bytes, and one past a byte's range.
 //! Characters just fit at each, or need one byte more: with memory, and while none can be had.
-use crate::kinds::Kind::{self, Boxable, Inlinable, String as OfString};
+use crate::kinds::Kind::{Boxable, Inlinable};
 use crate::player::{
     EACH_WAY, EVERYWHERE, Kinds, ONE_BY_ONE, Row, Tally, ample, assert_repeated, assert_right,
     held, play, play_each, play_each_alone, repeated, within,
 };
 use crate::steps::Where::{AsMade, OnHeap, Shrunk};
 use crate::steps::{List, one_step, where_at};
-use crate::texts::{text_of, whole_of};
-use crate::ways::HEAP_ROOM;
+use crate::texts::whole_of;
 use inlinable_string::run::Command::{
     Insert, InsertStr, Pop, Push, PushStr, ReplaceBytes, Reserve, ReserveExact, ShrinkToFit,
 };
 use inlinable_string::run::Reply::{Char, Done, NoMemory, WrongLength};
-use inlinable_string::{InlinableString, StringExt};
 use std::alloc::Global;
 use std::process::Abort;
 
@@ -161,38 +159,6 @@ fn a_character_takes_no_memory_where_its_bytes_just_fit(rt: HostRuntime) {
         let kinds: Kinds = (&[Inlinable], limit, &[None]);
         assert_edges(&rt, rt.alloc(), kinds, Edge::WithoutMemory);
     }
-}
-
-/// On the heap, at the capacity that a text made for 31 bytes has.
-fn assert_edges_on_heap(rt: &impl Abort, alloc: Global, kind: Kind, capacity: usize) {
-    let kinds: Kinds = match kind {
-        OfString => (&[OfString], 30, &[HEAP_ROOM]),
-        _ => (&[Inlinable], 30, &[HEAP_ROOM]),
-    };
-    for &ch in CHARACTERS {
-        let count = capacity.saturating_sub(ch.len_utf8());
-        let mut back = whole_of(rt, alloc, "a", count.saturating_add(1));
-        back.push(ch).expect(rt, "memory");
-        let (fuller, back) = (back.as_str(), back.get(1..).unwrap_or(""));
-        let letters = fuller.get(..count).unwrap_or("");
-        let full = fuller.get(..count.saturating_add(1)).unwrap_or("");
-        let granted = [(Push(ch), Done, back, OnHeap)];
-        let refused = [(Push(ch), NoMemory, full, OnHeap)];
-        assert_right(
-            rt,
-            play(rt, alloc, kinds, count, held(letters, &granted, &[])),
-        );
-        assert_right(rt, play(rt, alloc, kinds, count, held(full, &refused, &[])));
-    }
-}
-
-#[test]
-fn a_character_takes_no_memory_where_it_fills_the_room_on_the_heap(rt: HostRuntime) {
-    let alloc = rt.alloc();
-    let inlinable: InlinableString = text_of(&rt, alloc, HEAP_ROOM, "");
-    assert_edges_on_heap(&rt, alloc, Inlinable, inlinable.capacity());
-    let string: String = text_of(&rt, alloc, HEAP_ROOM, "");
-    assert_edges_on_heap(&rt, alloc, OfString, StringExt::capacity(&string));
 }
 
 /// Fills the empty text with letters up to its limit while no memory can be had.

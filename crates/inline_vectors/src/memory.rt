@@ -66,6 +66,9 @@ const EACH: &[Kind] = &[Inlinable, Boxable, OfString];
 
 const NEW_INLINE: Kinds = (INLINE, 30, &[None]);
 
+/// On the heap, with room for 31 bytes.
+const ON_THE_HEAP: Kinds = (EACH, 30, &[HEAP_ROOM]);
+
 /// What outgrows the capacity at hand. A place is tested before memory.
 macro_rules! all_refused {
     ($content:expr) => {
@@ -107,13 +110,7 @@ const BACK: &[Shortage] = rows! {
 fn what_outgrows_the_capacity_fails_and_changes_nothing(rt: HostRuntime) {
     let alloc = rt.alloc();
     assert_short(&rt, alloc, NEW_INLINE, Held, REFUSED);
-    assert_short(
-        &rt,
-        alloc,
-        (EACH, 30, &[HEAP_ROOM]),
-        Held,
-        REFUSED_ON_THE_HEAP,
-    );
+    assert_short(&rt, alloc, ON_THE_HEAP, Held, REFUSED_ON_THE_HEAP);
     assert_shortages(&rt, alloc, INLINE, BACK);
 }
 
@@ -177,10 +174,25 @@ const FILLED: &[Shortage] = rows! {
         &[]]),
 };
 
+const A29_E_ACUTE: &str = "aaaaaaaaaaaaaaaaaaaaaaaaaaaaaé";
+
+const A28_EURO: &str = "aaaaaaaaaaaaaaaaaaaaaaaaaaaa€";
+
+const A27_CLEF: &str = "aaaaaaaaaaaaaaaaaaaaaaaaaaa𝄞";
+
+/// Characters that fill the room on the heap.
+const FILLED_BY_CHARACTERS: &[List] = rows! {
+    (A30, &[(Push('a'), Done, A31, AsMade), (Push('a'), NoMemory, A31, AsMade)]),
+    (A29, &[(Push('é'), Done, A29_E_ACUTE, AsMade), (Push('a'), NoMemory, A29_E_ACUTE, AsMade)]),
+    (A28, &[(Push('€'), Done, A28_EURO, AsMade), (Push('a'), NoMemory, A28_EURO, AsMade)]),
+    (A27, &[(Push('𝄞'), Done, A27_CLEF, AsMade), (Push('a'), NoMemory, A27_CLEF, AsMade)]),
+};
+
 #[test]
 fn reserved_capacity_is_filled_without_memory(rt: HostRuntime) {
     let alloc = rt.alloc();
     assert_shortages(&rt, alloc, EACH, FILLED);
+    assert_short(&rt, alloc, ON_THE_HEAP, Held, FILLED_BY_CHARACTERS);
     assert_hundred(&rt, alloc, Reserve(100), Held);
     assert_hundred(&rt, alloc, ReserveExact(100), Held);
 }
