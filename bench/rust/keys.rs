@@ -13,13 +13,7 @@ type Build = BuildHasherDefault<Fold>;
 pub fn equal<T: Text>(task: &Task) -> u64 {
     let left: Vec<T> = texts_of(task);
     let right: Vec<T> = texts_of(task);
-    let mut sum = 0u64;
-    for _ in 0..task.rounds {
-        for (a, b) in left.iter().zip(right.iter()) {
-            sum = sum.wrapping_add(equality_of(a, b));
-        }
-    }
-    sum
+    summed!(left.iter().zip(right.iter()), task.rounds, |(a, b), _| equality_of(a, b))
 }
 
 #[inline(never)]
@@ -34,13 +28,7 @@ fn equality_of<T: Text>(a: &T, b: &T) -> u64 {
 #[inline(never)]
 pub fn ordered<T: Text>(task: &Task) -> u64 {
     let texts: Vec<T> = texts_of(task);
-    let mut sum = 0u64;
-    for _ in 0..task.rounds {
-        for (a, b) in texts.iter().zip(texts.iter().skip(1)) {
-            sum = sum.wrapping_add(order_of(a, b));
-        }
-    }
-    sum
+    summed!(texts.iter().zip(texts.iter().skip(1)), task.rounds, |(a, b), _| order_of(a, b))
 }
 
 #[inline(never)]
@@ -55,13 +43,7 @@ fn order_of<T: Text>(a: &T, b: &T) -> u64 {
 #[inline(never)]
 pub fn hashed<T: Text>(task: &Task) -> u64 {
     let texts: Vec<T> = texts_of(task);
-    let mut sum = 0u64;
-    for _ in 0..task.rounds {
-        for text in texts.iter() {
-            sum = sum.wrapping_add(hash_of(text));
-        }
-    }
-    sum
+    summed!(texts.iter(), task.rounds, |text, _| hash_of(text))
 }
 
 #[inline(never)]
@@ -123,7 +105,7 @@ pub fn looked_up<T: Text>(task: &Task) -> u64 {
         numbers.entry(text).or_insert(next);
     }
     let texts: Vec<T> = texts_of(task);
-    summed!(texts, task.rounds, |text, _round| number_of(&numbers, text))
+    summed!(texts.iter(), task.rounds, |text, _| number_of(&numbers, text))
 }
 
 #[inline(never)]

@@ -1,7 +1,7 @@
 //! Workloads on texts that are made, edited and read.
 use crate::pieces::{sink, summed, texts_of, words_of};
 use crate::text::Text;
-use crate::{joins, keys, lists, readers, Task};
+use crate::{keys, lists, readers, Task};
 
 /// The loop of the one workload that the program is built for. Nothing else calls the text, so no
 /// loop has calls out of line because another has them too.
@@ -39,11 +39,11 @@ pub fn sum_of<T: Text>(task: &Task) -> Option<u64> {
         "from_utf8_lossy" => readers::from_utf8_lossy::<T>,
         "from_utf16" => readers::from_utf16::<T>,
         "from_utf16_lossy" => readers::from_utf16_lossy::<T>,
-        "add" => joins::add::<T>,
-        "extend_chars" => joins::extend_chars::<T>,
-        "from_chars" => joins::from_chars::<T>,
-        "from_strs" => joins::from_strs::<T>,
-        "json" => joins::json::<T>,
+        "add" => add::<T>,
+        "extend_chars" => extend_chars::<T>,
+        "from_chars" => from_chars::<T>,
+        "from_strs" => from_strs::<T>,
+        "json" => readers::json::<T>,
         "run" => lists::run_on::<T>,
         "run_dyn" => lists::run_on::<T>,
         "grow" => lists::grow::<T>,
@@ -55,15 +55,73 @@ pub fn sum_of<T: Text>(task: &Task) -> Option<u64> {
 #[inline(never)]
 fn read<T: Text>(task: &Task) -> u64 {
     let texts: Vec<T> = texts_of(task);
-    summed!(texts, task.rounds, |text, round| sink(text, round))
+    summed!(texts.iter(), task.rounds, |text, round| sink(text, round))
+}
+
+/// Workloads on a text of each word: how it is made, and how it is then edited.
+macro_rules! edits {
+    ($($name:ident: |$word:ident| $made:expr, |$text:ident| $edit:expr;)*) => {$(
+        #[inline(never)]
+        fn $name<T: Text>(task: &Task) -> u64 {
+            let words = words_of(task);
+            summed!(words.iter(), task.rounds, |$word, round| {
+                #[allow(unused_mut)]
+                let mut $text = $made;
+                $edit;
+                sink(&$text, round)
+            })
+        }
+    )*};
+}
+
+edits! {
+    from: |word| T::made(word), |text| ();
+    push_str: |word| T::empty(), |text| text.push_str(word);
+    from_push_str: |word| T::made(word), |text| text.push_str(word);
+    push: |word| T::empty(), |text| for ch in word.chars() { text.push(ch) };
+    insert: |word| T::made(word), |text| text.insert(0, 'x');
+    extend_chars: |word| T::empty(), |text| text.extend(word.chars());
+    from_chars: |word| word.chars().collect::<T>(), |text| ();
+    from_strs: |word| [*word, "foobar", *word].iter().copied().collect::<T>(), |text| ();
 }
 
 #[inline(never)]
-fn from<T: Text>(task: &Task) -> u64 {
+fn add<T: Text>(task: &Task) -> u64 {
     let words = words_of(task);
-    summed!(words, task.rounds, |word, round| {
+    summed!(words.iter(), task.rounds, |word, round| {
         let text = T::made(word);
-        sink(&text, round)
+        let joined = text + word;
+        sink(&joined, round)
+    })
+}
+
+#[inline(never)]
+fn remove<T: Text>(task: &Task) -> u64 {
+    let words = words_of(task);
+    summed!(words.iter(), task.rounds, |word, round| {
+        let mut text = T::made(word);
+        let removed = if text.is_empty() {
+            0
+        } else {
+            u64::from(text.remove(0))
+        };
+        removed.wrapping_add(sink(&text, round))
+    })
+}
+
+#[inline(never)]
+fn pop<T: Text>(task: &Task) -> u64 {
+    let words = words_of(task);
+    summed!(words.iter(), task.rounds, |word, round| {
+        let mut text = T::made(word);
+        let mut popped = 0u64;
+        for _ in 0..word.len() {
+            let Some(last) = text.pop() else {
+                break;
+            };
+            popped = popped.wrapping_add(u64::from(last));
+        }
+        popped.wrapping_add(sink(&text, round))
     })
 }
 
@@ -78,26 +136,6 @@ fn from_literal<T: Text>(task: &Task) -> u64 {
 }
 
 #[inline(never)]
-fn push_str<T: Text>(task: &Task) -> u64 {
-    let words = words_of(task);
-    summed!(words, task.rounds, |word, round| {
-        let mut text = T::empty();
-        text.push_str(word);
-        sink(&text, round)
-    })
-}
-
-#[inline(never)]
-fn from_push_str<T: Text>(task: &Task) -> u64 {
-    let words = words_of(task);
-    summed!(words, task.rounds, |word, round| {
-        let mut text = T::made(word);
-        text.push_str(word);
-        sink(&text, round)
-    })
-}
-
-#[inline(never)]
 fn push_literal<T: Text>(task: &Task) -> u64 {
     let mut sum = 0u64;
     for round in 0..task.rounds {
@@ -109,61 +147,9 @@ fn push_literal<T: Text>(task: &Task) -> u64 {
 }
 
 #[inline(never)]
-fn push<T: Text>(task: &Task) -> u64 {
-    let words = words_of(task);
-    summed!(words, task.rounds, |word, round| {
-        let mut text = T::empty();
-        for ch in word.chars() {
-            text.push(ch);
-        }
-        sink(&text, round)
-    })
-}
-
-#[inline(never)]
-fn insert<T: Text>(task: &Task) -> u64 {
-    let words = words_of(task);
-    summed!(words, task.rounds, |word, round| {
-        let mut text = T::made(word);
-        text.insert(0, 'x');
-        sink(&text, round)
-    })
-}
-
-#[inline(never)]
-fn remove<T: Text>(task: &Task) -> u64 {
-    let words = words_of(task);
-    summed!(words, task.rounds, |word, round| {
-        let mut text = T::made(word);
-        let removed = if text.is_empty() {
-            0
-        } else {
-            u64::from(text.remove(0))
-        };
-        removed.wrapping_add(sink(&text, round))
-    })
-}
-
-#[inline(never)]
-fn pop<T: Text>(task: &Task) -> u64 {
-    let words = words_of(task);
-    summed!(words, task.rounds, |word, round| {
-        let mut text = T::made(word);
-        let mut popped = 0u64;
-        for _ in 0..word.len() {
-            let Some(last) = text.pop() else {
-                break;
-            };
-            popped = popped.wrapping_add(u64::from(last));
-        }
-        popped.wrapping_add(sink(&text, round))
-    })
-}
-
-#[inline(never)]
 fn cloned<T: Text>(task: &Task) -> u64 {
     let texts: Vec<T> = texts_of(task);
-    summed!(texts, task.rounds, |text, round| {
+    summed!(texts.iter(), task.rounds, |text, round| {
         let copy = text.clone();
         sink(&copy, round)
     })

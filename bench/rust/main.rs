@@ -3,7 +3,6 @@
 // Built with `--cfg workload="WORD"`; the loops of other workloads lie unused.
 #![allow(dead_code, unused_imports)]
 mod fold;
-mod joins;
 mod keys;
 mod lists;
 mod loops;
@@ -21,20 +20,6 @@ pub struct Task<'a> {
     pub rounds: usize,
 }
 
-#[cfg(not(original))]
-fn sum_on(text: &str, task: &Task) -> Option<u64> {
-    (text == "String")
-        .then(|| loops::sum_of::<String>(task))
-        .flatten()
-}
-
-#[cfg(original)]
-fn sum_on(text: &str, task: &Task) -> Option<u64> {
-    (text == "InlinableString")
-        .then(|| loops::sum_of::<inlinable_string::InlinableString>(task))
-        .flatten()
-}
-
 fn checksum() -> Option<u64> {
     let words: Vec<String> = std::env::args().skip(1).collect();
     let mut input = Vec::new();
@@ -45,7 +30,8 @@ fn checksum() -> Option<u64> {
         width: words.get(2)?.parse().ok()?,
         rounds: words.get(3)?.parse().ok()?,
     };
-    sum_on(words.first()?, &task)
+    let name = if cfg!(original) { "InlinableString" } else { "String" };
+    if words[0] == name { loops::sum_of::<text::Own>(&task) } else { None }
 }
 
 fn main() -> std::process::ExitCode {

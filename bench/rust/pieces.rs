@@ -4,10 +4,10 @@ use crate::Task;
 
 /// The sum of what the body gives of each piece, round after round.
 macro_rules! summed {
-    ($pieces:expr, $rounds:expr, |$piece:ident, $round:ident| $body:expr) => {{
+    ($pieces:expr, $rounds:expr, |$piece:pat_param, $round:pat_param| $body:expr) => {{
         let mut sum = 0u64;
         for $round in 0..$rounds {
-            for $piece in $pieces.iter() {
+            for $piece in $pieces {
                 sum = sum.wrapping_add($body);
             }
         }

@@ -1,26 +1,25 @@
 //! The calls of `InlineString`.
 use crate::Played;
 use crate::call::{Call, bytes, character, done, order};
-use crate::departures::{Departure, Departures};
+use crate::departures::Departure;
 use crate::{edits, printed};
 use original_30::{INLINE_STRING_CAPACITY, InlineString};
 use std::fmt::Write;
 use std::mem;
 
 impl Played for InlineString {
-    fn play(&mut self, call: &Call, departures: &mut Departures) -> Option<String> {
-        let (string, place) = (call.text()?, call.number);
-        if is_refused(self, call, &string, departures) {
+    fn play(&mut self, call: &Call) -> Option<String> {
+        let (string, place) = (call.string()?, call.number);
+        if is_refused(self, call, string) {
             return Some("bad_place".into());
         }
-        if let Some((answer, own)) = edits::of_string(self, call, &string, departures) {
+        if let Some((answer, own)) = edits::of_string(self, call) {
             if own.len() > INLINE_STRING_CAPACITY {
                 return Some("full".into());
             }
             *self = InlineString::from(&own[..]);
             return Some(answer);
         }
-        let added = || string.chars().next();
         Some(match call.word {
             "new" => done(*self = InlineString::new()),
             "default" => done(*self = InlineString::default()),
@@ -30,17 +29,17 @@ impl Played for InlineString {
             "extend_chars" => or(string.chars().try_for_each(|ch| self.push(ch)), "full"),
             "extend_strs" => or(string.split(',').try_for_each(|each| self.push_str(each)), "full"),
             "from" | "eq" | "cmp" | "partial_cmp" if string.len() > INLINE_STRING_CAPACITY => {
-                let make = || InlineString::from(&string[..]);
-                departures.meet_panic(Departure::LongerThanArray, make);
+                let make = || InlineString::from(string);
+                call.departures.meet_panic(Departure::LongerThanArray, make);
                 "too_long".into()
             }
-            "from" => done(*self = InlineString::from(&string[..])),
-            "push" => or(self.push(added()?), "full"),
-            "push_str" => or(self.push_str(&string), "full"),
-            "insert" => or(self.insert(place, added()?), "full"),
-            "insert_str" => or(self.insert_str(place, &string), "full"),
-            "write_char" => or(self.write_char(added()?), "write_fault"),
-            "write_str" => or(self.write_str(&string), "write_fault"),
+            "from" => done(*self = InlineString::from(string)),
+            "push" => or(self.push(call.first()?), "full"),
+            "push_str" => or(self.push_str(string), "full"),
+            "insert" => or(self.insert(place, call.first()?), "full"),
+            "insert_str" => or(self.insert_str(place, string), "full"),
+            "write_char" => or(self.write_char(call.first()?), "write_fault"),
+            "write_str" => or(self.write_str(string), "write_fault"),
             "pop" => character(self.pop()),
             "remove" => character(Some(self.remove(place))),
             "truncate" => done(self.truncate(place)),
@@ -50,14 +49,14 @@ impl Played for InlineString {
             "is_empty" => self.is_empty().to_string(),
             "as_bytes" => bytes("bytes", self.as_bytes()),
             "as_str" => bytes("bytes", self[..].as_bytes()),
-            "eq" => (*self == InlineString::from(&string[..])).to_string(),
-            "eq_str" => (*self == string[..]).to_string(),
+            "eq" => (*self == InlineString::from(string)).to_string(),
+            "eq_str" => (*self == *string).to_string(),
             // the original's arrays have no order: that of `str` is wanted
-            "cmp" => order(self[..].cmp(&string)),
-            "partial_cmp" => order(self[..].partial_cmp(&string)?),
+            "cmp" => order(self[..].cmp(string)),
+            "partial_cmp" => order(self[..].partial_cmp(string)?),
             "hash" => printed::hash(self),
-            "debug" => debugged(self, departures),
-            _ => return printed::display(self, self, true, call, departures),
+            "debug" => debugged(self, call),
+            _ => return printed::display(self, self, true, call),
         })
     }
 
@@ -85,7 +84,8 @@ fn or<E>(added: Result<(), E>, fault: &str) -> String {
 }
 
 /// Whether the call is at a place that is none.
-fn is_refused(text: &InlineString, call: &Call, string: &str, departures: &mut Departures) -> bool {
+fn is_refused(text: &InlineString, call: &Call, string: &str) -> bool {
+    let departures = call.departures;
     let (len, place, mut copy) = (text.len(), call.number, text.clone());
     let is_place = text.is_char_boundary(place);
     match call.word {
@@ -107,8 +107,8 @@ fn is_refused(text: &InlineString, call: &Call, string: &str, departures: &mut D
 }
 
 /// The original shows the array: wanted is what the string shows.
-fn debugged(text: &InlineString, departures: &mut Departures) -> String {
+fn debugged(text: &InlineString, call: &Call) -> String {
     assert!(format!("{text:?}").starts_with("InlineString {"));
-    departures.meet(Departure::DerivedDebug);
+    call.departures.meet(Departure::DerivedDebug);
     bytes("bytes", format!("{:?}", &text[..]).as_bytes())
 }

@@ -1,4 +1,5 @@
 //! One call and what it is given; and what it answers, as it is printed.
+use crate::departures::Departures;
 use std::cmp::Ordering;
 
 /// `insert@1:c3a9`: its word, the number behind `@`, and the bytes behind `:`.
@@ -6,21 +7,27 @@ pub struct Call<'a> {
     pub word: &'a str,
     pub number: usize,
     pub bytes: Vec<u8>,
+    /// Where it is noted that the original does otherwise.
+    pub departures: &'a Departures,
 }
 
 impl<'a> Call<'a> {
-    pub fn of(token: &'a str) -> Option<Call<'a>> {
+    pub fn of(token: &'a str, departures: &'a Departures) -> Option<Call<'a>> {
         let (head, digits) = token.split_once(':').unwrap_or((token, ""));
         let (word, number) = head.split_once('@').unwrap_or((head, "0"));
-        Some(Call { word, number: number.parse().ok()?, bytes: bytes_of(digits)? })
+        Some(Call { word, number: number.parse().ok()?, bytes: bytes_of(digits)?, departures })
     }
 
     pub fn units(&self) -> Vec<u16> {
         self.bytes.chunks(2).map(|pair| u16::from_be_bytes([pair[0], pair[1]])).collect()
     }
 
-    pub fn text(&self) -> Option<String> {
-        String::from_utf8(self.bytes.clone()).ok()
+    pub fn string(&self) -> Option<&str> {
+        str::from_utf8(&self.bytes).ok()
+    }
+
+    pub fn first(&self) -> Option<char> {
+        self.string()?.chars().next()
     }
 }
 

@@ -1,19 +1,15 @@
 //! The calls of std's `String` that the original lacks: `String` itself answers, and the original's text
 //! is then written anew by the original's own calls.
 use crate::call::{Call, bytes};
-use crate::departures::{Departure, Departures};
+use crate::departures::Departure;
 use std::ops::Range;
 
 /// The end of a range is the rest of its number by this, and its start is the quotient.
 const RANGE: usize = 65_536;
 
 /// What `String` answers, and its text afterwards; none where it is none of these calls.
-pub fn of_string(
-    text: &str,
-    call: &Call,
-    string: &str,
-    departures: &mut Departures,
-) -> Option<(String, String)> {
+pub fn of_string(text: &str, call: &Call) -> Option<(String, String)> {
+    let (string, departures) = (call.string()?, call.departures);
     let mut own = text.to_string();
     let mut answer = "done".to_string();
     match call.word {

@@ -32,8 +32,8 @@ impl Text for InlinableString {
 }
 
 impl Played for InlinableString {
-    fn play(&mut self, call: &Call, departures: &mut Departures) -> Option<String> {
-        played(self, call, departures)
+    fn play(&mut self, call: &Call) -> Option<String> {
+        played(self, call)
     }
 
     fn is_inline(&self) -> bool {
@@ -46,23 +46,23 @@ impl Played for InlinableString {
 }
 
 /// What a call answers.
-pub fn played<T: Text>(text: &mut T, call: &Call, departures: &mut Departures) -> Option<String> {
+pub fn played<T: Text>(text: &mut T, call: &Call) -> Option<String> {
     if let Some(answer) = read(text, call) {
         return Some(answer);
     }
-    let string = call.text()?;
-    if let Some(made) = made(text, call, &string, departures) {
+    let string = call.string()?;
+    if let Some(made) = made(text, call, string) {
         return Some(made.map_or("no_memory".into(), |made| done(*text = made)));
     }
-    if is_refused(text, call, &string, departures) {
+    if is_refused(text, call, string) {
         return Some("bad_place".into());
     }
-    if let Some((answer, own)) = edits::of_string(text, call, &string, departures) {
+    if let Some((answer, own)) = edits::of_string(text, call) {
         text.clear();
         text.push_str(&own);
         return Some(answer);
     }
-    edited(text, call, &string, departures).or_else(|| viewed(text, call, &string, departures))
+    edited(text, call, string).or_else(|| viewed(text, call, string))
 }
 
 /// The readers of bytes and of units.
@@ -73,7 +73,7 @@ fn read<T: Text>(text: &mut T, call: &Call) -> Option<String> {
             Err(error) => bytes("not_utf8", &error.into_bytes()),
         },
         "from_utf8_unchecked" => {
-            let given = call.text()?.into_bytes();
+            let given = call.string()?.as_bytes().to_vec();
             done(*text = unsafe { T::from_utf8_unchecked(given) })
         }
         "from_utf8_lossy" => match <T as StringExt>::from_utf8_lossy(&call.bytes) {
@@ -90,12 +90,7 @@ fn read<T: Text>(text: &mut T, call: &Call) -> Option<String> {
 }
 
 /// The other makers: the text, or none for want of memory.
-fn made<T: Text>(
-    text: &T,
-    call: &Call,
-    string: &str,
-    departures: &mut Departures,
-) -> Option<Option<T>> {
+fn made<T: Text>(text: &T, call: &Call, string: &str) -> Option<Option<T>> {
     Some(Some(match call.word {
         "new" => <T as StringExt>::new(),
         "default" => T::default(),
@@ -103,7 +98,7 @@ fn made<T: Text>(
         "with_capacity" => {
             let (capacity, make) = (call.number, || <T as StringExt>::with_capacity(call.number));
             let is_inline = T::default().lies_inline() && capacity <= INLINE_STRING_CAPACITY;
-            if !is_inline && !has_room(capacity, departures, || make()) {
+            if !is_inline && !has_room(capacity, call.departures, || make()) {
                 return Some(None);
             }
             make()
@@ -114,7 +109,7 @@ fn made<T: Text>(
         "from_chars" | "collect" => string.chars().collect(),
         "from_strs" => {
             let (mut text, strings) = (T::default(), string.split(','));
-            extend(&mut text, strings.collect(), departures);
+            extend(&mut text, strings.collect(), call.departures);
             text
         }
         _ => return None,
@@ -123,7 +118,7 @@ fn made<T: Text>(
 
 /// Whether memory for so many bytes can be had. Where it cannot, the original panics, or ends the
 /// process.
-fn has_room<T>(size: usize, departures: &mut Departures, call: impl FnOnce() -> T) -> bool {
+fn has_room<T>(size: usize, departures: &Departures, call: impl FnOnce() -> T) -> bool {
     if isize::try_from(size).is_err() {
         departures.meet_panic(Departure::TooMuch, call);
         return false;
@@ -136,13 +131,9 @@ fn has_room<T>(size: usize, departures: &mut Departures, call: impl FnOnce() -> 
 }
 
 /// Whether the call is at a place that is none.
-fn is_refused<T: Text>(
-    text: &T,
-    call: &Call,
-    string: &str,
-    departures: &mut Departures,
-) -> bool {
+fn is_refused<T: Text>(text: &T, call: &Call, string: &str) -> bool {
     let (len, place, mut copy) = (text.len(), call.number, text.clone());
+    let departures = call.departures;
     let is_place = text.is_char_boundary(place);
     match call.word {
         "insert" | "insert_str" if !is_place => {
@@ -170,19 +161,14 @@ fn is_refused<T: Text>(
 }
 
 /// The calls that change the text.
-fn edited<T: Text>(
-    text: &mut T,
-    call: &Call,
-    string: &str,
-    departures: &mut Departures,
-) -> Option<String> {
-    let (place, added) = (call.number, || string.chars().next());
+fn edited<T: Text>(text: &mut T, call: &Call, string: &str) -> Option<String> {
+    let (place, departures) = (call.number, call.departures);
     Some(match call.word {
-        "push" => done(text.push(added()?)),
+        "push" => done(text.push(call.first()?)),
         "push_str" => done(text.push_str(string)),
-        "insert" => done(text.insert(place, added()?)),
+        "insert" => done(text.insert(place, call.first()?)),
         "insert_str" => done(text.insert_str(place, string)),
-        "write_char" => done(text.write_char(added()?).ok()?),
+        "write_char" => done(text.write_char(call.first()?).ok()?),
         "write_str" => done(text.write_str(string).ok()?),
         "add" => done(*text = mem::take(text) + string),
         "extend" | "extend_chars" => done(text.extend(string.chars())),
@@ -191,8 +177,8 @@ fn edited<T: Text>(
         "truncate" => done(text.truncate(place)),
         "clear" => done(text.clear()),
         "shrink_to_fit" => done(text.shrink_to_fit()),
-        "reserve" => return Some(reserved(text, place, T::reserve, departures)),
-        "reserve_exact" => return Some(reserved(text, place, T::reserve_exact, departures)),
+        "reserve" => return Some(reserved(text, call, T::reserve)),
+        "reserve_exact" => return Some(reserved(text, call, T::reserve_exact)),
         "pop" => character(text.pop()),
         "remove" => character(Some(text.remove(place))),
         "into_bytes" | "into_string" => bytes("bytes", &mem::take(text).into_bytes()),
@@ -203,13 +189,8 @@ fn edited<T: Text>(
     })
 }
 
-fn reserved<T: Text>(
-    text: &mut T,
-    additional: usize,
-    reserve: fn(&mut T, usize),
-    departures: &mut Departures,
-) -> String {
-    let mut copy = text.clone();
+fn reserved<T: Text>(text: &mut T, call: &Call, reserve: fn(&mut T, usize)) -> String {
+    let (additional, departures, mut copy) = (call.number, call.departures, text.clone());
     let Some(size) = text.len().checked_add(additional) else {
         if text.lies_inline() {
             reserve(&mut copy, additional);
@@ -232,7 +213,7 @@ fn room<T: Text>(text: &T, size: usize) -> String {
 }
 
 /// Without a word on how many will come, where the original goes to the heap for their number alone.
-fn extend<T: Text>(text: &mut T, strings: Vec<&str>, departures: &mut Departures) {
+fn extend<T: Text>(text: &mut T, strings: Vec<&str>, departures: &Departures) {
     let mut copy = text.clone();
     copy.extend(strings.iter().copied());
     if text.lies_inline() && !copy.lies_inline() && copy.len() <= INLINE_STRING_CAPACITY {
@@ -244,12 +225,7 @@ fn extend<T: Text>(text: &mut T, strings: Vec<&str>, departures: &mut Departures
 }
 
 /// The calls that look at the text.
-fn viewed<T: Text>(
-    text: &T,
-    call: &Call,
-    string: &str,
-    departures: &mut Departures,
-) -> Option<String> {
+fn viewed<T: Text>(text: &T, call: &Call, string: &str) -> Option<String> {
     let other = || T::from(string);
     Some(match call.word {
         "len" => format!("number={}", text.len()),
@@ -264,6 +240,6 @@ fn viewed<T: Text>(
         "partial_cmp" => order(text.partial_cmp(&other())?),
         "hash" => printed::hash(text),
         "debug" => bytes("bytes", format!("{text:?}").as_bytes()),
-        _ => return printed::display(text, text, text.lies_inline(), call, departures),
+        _ => return printed::display(text, text, text.lies_inline(), call),
     })
 }

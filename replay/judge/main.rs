@@ -31,7 +31,7 @@ use departures::Departures;
 /// A text, on which the calls are played.
 pub trait Played {
     /// What a call answers, which may change the text; none where it is none of its calls.
-    fn play(&mut self, call: &Call, departures: &mut Departures) -> Option<String>;
+    fn play(&mut self, call: &Call) -> Option<String>;
 
     fn is_inline(&self) -> bool;
 
@@ -45,8 +45,8 @@ impl at_30::Text for String {
 }
 
 impl Played for String {
-    fn play(&mut self, call: &Call, departures: &mut Departures) -> Option<String> {
-        at_30::played(self, call, departures)
+    fn play(&mut self, call: &Call) -> Option<String> {
+        at_30::played(self, call)
     }
 
     fn is_inline(&self) -> bool {
@@ -61,11 +61,11 @@ impl Played for String {
 fn main() -> Result<(), Box<dyn Error>> {
     // that the original panics is told by the answers
     std::panic::set_hook(Box::new(|_| {}));
-    let (mut out, mut departures) = (String::new(), Departures::default());
+    let (mut out, departures) = (String::new(), Departures::default());
     for (before, line) in std::io::read_to_string(std::io::stdin())?.lines().enumerate() {
         let answer = match line.split(' ').collect::<Vec<&str>>()[..] {
-            ["calls", name, ref words @ ..] => calls(name, words, &mut departures),
-            ["script", word, digits] => script::answer(word, digits, &mut departures),
+            ["calls", name, ref words @ ..] => calls(name, words, &departures),
+            ["script", word, digits] => script::answer(word, digits, &departures),
             _ => None,
         };
         writeln!(out, "{}", answer.ok_or_else(|| format!("line {}: {line}", before + 1))?)?;
@@ -76,7 +76,7 @@ fn main() -> Result<(), Box<dyn Error>> {
 }
 
 /// What each call of a line answers, and where the text lies after it.
-fn calls(name: &str, words: &[&str], departures: &mut Departures) -> Option<String> {
+fn calls(name: &str, words: &[&str], departures: &Departures) -> Option<String> {
     let mut text: Box<dyn Played> = match name {
         "InlineString" => Box::new(original_30::InlineString::new()),
         "InlinableString" => Box::new(original_30::InlinableString::default()),
@@ -86,7 +86,7 @@ fn calls(name: &str, words: &[&str], departures: &mut Departures) -> Option<Stri
     };
     let mut line = name.to_string();
     for word in words {
-        let answer = text.play(&Call::of(word)?, departures)?;
+        let answer = text.play(&Call::of(word, departures)?)?;
         let storage = if text.is_inline() { 'i' } else { 'h' };
         write!(line, " {storage}:{answer}").ok()?;
     }

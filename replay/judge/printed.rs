@@ -1,6 +1,6 @@
 //! How a text hashes and prints.
 use crate::call::{Call, bytes};
-use crate::departures::{Departure, Departures};
+use crate::departures::Departure;
 use std::fmt::Display;
 use std::hash::{DefaultHasher, Hash, Hasher};
 
@@ -12,21 +12,12 @@ pub fn hash(text: &impl Hash) -> String {
 
 /// What `Display` of a text of the original prints, but for an inline one what that of its string
 /// does: there the original takes no notice of the format.
-pub fn display(
-    text: &impl Display,
-    string: &str,
-    is_inline: bool,
-    call: &Call,
-    departures: &mut Departures,
-) -> Option<String> {
+pub fn display(text: &impl Display, string: &str, is_inline: bool, call: &Call) -> Option<String> {
     let mut printed = displayed(text, call)?;
     let wanted = displayed(string, call)?;
     if is_inline && printed != wanted {
-        assert!(
-            printed.iter().all(|each| each == string),
-            "an inline text is not printed as it is"
-        );
-        departures.meet(Departure::Padding);
+        assert!(printed.iter().all(|each| each == string), "an inline text is not printed as it is");
+        call.departures.meet(Departure::Padding);
         printed = wanted;
     }
     Some(bytes("bytes", printed.join("|").as_bytes()))
