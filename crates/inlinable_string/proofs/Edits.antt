@@ -219,3 +219,7 @@ pub insert_str_grows : (t : List ℕ) (p : ℕ) (u : Bor (List ℕ))
     → reply_of (edit t (InsertStr p u)) ≡ Done
     → size (text_left t (edit t (InsertStr p u))) ≡ size t + size (chars u.now)
 insert_str_grows t p u done = insertion_grows t (chars u.now) p (cut t p) refl done
+
+pub ruleset edits = (cut_at_place, cut_elsewhere, pop_takes_last, pop_finds_none)
+
+pub ruleset growths = (push_grows, push_str_grows, insert_grows, insert_str_grows)

@@ -163,3 +163,5 @@ pub replaced-chars : (old new : List ℕ) → IsUtf8 old → IsUtf8 new
     → old ≡ new ++ 0xEF ∷ 0xBF ∷ 0xBD ∷ [] → chars old ≡ chars new ++ 0xFFFD ∷ []
 unfolding lib.Utf8.encode
 replaced-chars old new u v is = popped-chars old new 0xFFFD u v is
+
+pub ruleset lossy_parts = (lossy_all, lossy_char, lossy_fault)
