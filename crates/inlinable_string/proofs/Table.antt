@@ -28,7 +28,7 @@ row_three a l h = grind (arith, nat_tests)
 pub row_four : (a : ℕ) → 240 ≤ a → a < 245 → IsRow a 2
 row_four a l h = grind (arith, nat_tests)
 
-scalar_below : (c : ℕ) → IsScalar c → c < 0x11_0000
+pub scalar_below : (c : ℕ) → IsScalar c → c < 0x11_0000
 scalar_below c s = ⊎_elim (λ h. omega (arith, h)) (λ h. h.1) (scalar_cases c s)
 
 -- bytes that are in a row in full

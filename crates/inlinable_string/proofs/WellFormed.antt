@@ -100,8 +100,7 @@ no_front b s above none u =
     omega (arith, len, no.0, length-encode f.0, len_utf8_bounds f.0)
 
 positive : (n : ℕ) → nat_eq n 0 ≡ false → 0 < n
-positive zero is = grind (arith, nat_tests, is)
-positive (suc n) is = omega arith
+positive n is = grind (arith, nat_tests, is)
 
 -- what begins a text, and what has to follow it
 pub begins : (b : ℕ) (s : List ℕ) → IsUtf8 (b ∷ s) ↔ Follows (next [] b) s
