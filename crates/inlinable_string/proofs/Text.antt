@@ -205,4 +205,8 @@ pub ruleset one_step = (popped-chars, stepped-chars)
 
 pub ruleset parts = (encodes-append, encodes-chars, chars_from_encodes)
 
-pub ruleset sizes = (size-append, char_size, size-chars)
+pub ruleset sizes = (size-append, char_size, size-chars, size-string)
+
+pub ruleset no_bytes = (chars-nil, nil_from_size, empty_at_size)
+
+pub ruleset overwritten = (replaced, size-string)
