@@ -1,5 +1,5 @@
 -- The length of the text of UTF-16, and whether a unit is unpaired, counted unit by unit.
-use Rattle.inlinable_string.proofs.Common.{common_steps, ◌≡◌, ℕ, zero, suc, ◌+◌, ◌-◌, ◌*◌, ◌<◌, ◌≤◌, Bool, true, false, not, ◌&&◌, ◌||◌, ◌↔◌, IsTrue, List, [], ◌∷◌, length, refl, ap, sym, ◌∙◌, arith, add-one, ⊎_elim, cases_Bool, cases_lt, subst, cond-true, cond-false, if◌then◌else◌, slice_index, get_or_past, len_utf8, length-encode, append-nil, encode_utf8, size, is_high_at, is_low_at, is_high_before, is_unpaired, HasUnpaired, lossy_unit, lossy_utf16_before, lossy_utf16}
+use Rattle.inlinable_string.proofs.Common.{common_steps, ◌≡◌, ℕ, zero, suc, ◌+◌, ◌-◌, ◌<◌, ◌≤◌, Bool, true, false, not, ◌&&◌, ◌||◌, ◌↔◌, List, [], ◌∷◌, length, refl, ap, sym, ◌∙◌, arith, add-one, ⊎_elim, cases_Bool, cases_lt, subst, if◌then◌else◌, slice_index, get_or_past, len_utf8, length-encode, size, is_high_at, is_low_at, is_high_before, HasUnpaired, lossy_unit, lossy_utf16_before, lossy_utf16}
 use Rattle.std.specs.Char.Utf16.{is_high_surrogate, is_low_surrogate, surrogate_pair_char}
 use mir.Val.{bool_byte}
 use Rattle.inlinable_string.specs.Utf16Count.{unit_len, mismatch, len_before, mismatches_before}
@@ -184,16 +184,7 @@ module _ (v : List ℕ) (n m : ℕ) (e : n ≡ length v)
       (cases_Bool (is_high_before v n))
 
   counted_one : HasUnpaired v → 0 < m
-  counted_one some =
-      ⊎_elim
-      (λ (h : is_high_before v n ≡ true).
-      let one = rw h at all in omega (arith, one))
-      (λ (h : is_high_before v n ≡ false).
-      let none = rw h at all in
-      ⊎_elim (λ (k : 0 < m). k)
-      (λ (k : m ≤ 0). absurd (matched_paired v n e (omega (arith, none)) h some))
-      (cases_lt 0 m))
-      (cases_Bool (is_high_before v n))
+  counted_one some = grind (arith, common_steps, matched_paired v n e)
 
   pub some_unpaired : (0 < m) ↔ HasUnpaired v
   some_unpaired = (found, counted_one)

@@ -1,5 +1,5 @@
 -- What `edit` answers, against the relations of texts.
-use Rattle.inlinable_string.proofs.Common.{cases_Bool, common_steps, ◌≡◌, ◌≢◌, ◌↔◌, ℕ, ◌+◌, true, false, Bool, inl, inr, ◌⊎◌, List, [], ◌∷◌, ◌++◌, length, refl, sym, ap, ◌∙◌, arith, Bor, Option, Some, None, nat_eq, rules, nat_tests, encodes-chars, chars_from_encodes, is_utf8-from_IsUtf8, IsUtf8-from_is_utf8, chars, IsUtf8, is_utf8, bytes_of, size, cut, IsCut, IsPlace, IsSplice, IsRemoval, Outcome, becomes, yields, is_not_utf8, has_wrong_length, reply_of, text_left, edit, insertion, split_last, with_char_in_front, pop_result, removal_behind, removal, replacement, text_after_step, Command, Push, PushStr, Insert, InsertStr, Pop, Remove, ReplaceBytes, Reply, Done, NoChar, NotUtf8, WrongLength, NoMemory}
+use Rattle.inlinable_string.proofs.Common.{cases_Bool, common_steps, ◌≡◌, ◌≢◌, ◌↔◌, ℕ, ◌+◌, inl, inr, ◌⊎◌, List, [], ◌∷◌, ◌++◌, length, refl, sym, ap, ◌∙◌, arith, Bor, Option, Some, None, nat_eq, rules, nat_tests, encodes-chars, chars_from_encodes, is_utf8-from_IsUtf8, IsUtf8-from_is_utf8, chars, IsUtf8, is_utf8, bytes_of, size, cut, IsCut, IsPlace, IsSplice, IsRemoval, Outcome, becomes, yields, is_not_utf8, has_wrong_length, reply_of, text_left, edit, insertion, split_last, with_char_in_front, pop_result, removal_behind, removal, replacement, text_after_step, Command, Push, PushStr, Insert, InsertStr, Pop, Remove, ReplaceBytes, Reply, Done, NoChar, NotUtf8, WrongLength, NoMemory}
 use Rattle.inlinable_string.proofs.Text.{size-append}
 use Rattle.inlinable_string.proofs.Cut.{cut_is, is_cut, no_cut, split_last-append}
 
@@ -187,15 +187,7 @@ insertion_grows : (t u : List ℕ) (p : ℕ) (o : Option (List ℕ × List ℕ))
     → reply_of (insertion u o) ≡ Done → size (text_left t (insertion u o)) ≡ size t + size u
 insertion_grows t u p None e h = cc
 insertion_grows t u p (Some parts) e h =
-    let a = parts.0 in
-    let b = parts.1 in
-    let at : IsCut t p a b = is_cut t p a b e in omega (
-      arith,
-      ap size at.joined,
-      size-append a b,
-      size-append (a ++ u) b,
-      size-append a u,
-    )
+    grind (arith, common_steps, is_cut t p parts.0 parts.1 e, size-append)
 
 -- the clauses on growth
 pub push_grows : (t : List ℕ) (c : ℕ)

@@ -1,5 +1,5 @@
 -- UTF-16: units with their neighbours, and the text that they give.
-use Rattle.inlinable_string.proofs.Common.{common_steps, ◌≡◌, ℕ, zero, suc, ◌+◌, ◌-◌, ◌/◌, ◌%◌, ◌<◌, ◌≤◌, true, false, not, Bool, ◌&&◌, ◌||◌, List, [], ◌∷◌, ◌++◌, length, take, refl, ap, sym, ◌∙◌, subst, arith, add-one, ⊎_elim, append-nil, append_assoc, rules, slice_index, if◌then◌else◌, IsScalar, all_scalars, IsAscii, scalar_cases, cases_lt, cases_Bool, and_parts, leb-true, ltb-true, cond-true, cond-false, lt-ltb, lt-leb, le-ltb, and_left, and_right, get_or_past, take_more, take_all, encodes-append, chars, chars_from_encodes, IsUtf8, bytes_of, size, units_of, is_high_at, is_low_at, is_high_before, is_unpaired, HasUnpaired, lossy_unit, lossy_utf16_before, lossy_utf16}
+use Rattle.inlinable_string.proofs.Common.{common_steps, ◌≡◌, ℕ, zero, suc, ◌+◌, ◌-◌, ◌/◌, ◌%◌, ◌<◌, ◌≤◌, true, false, not, Bool, ◌&&◌, ◌||◌, List, [], ◌∷◌, ◌++◌, length, take, refl, ap, sym, ◌∙◌, subst, arith, add-one, ⊎_elim, append-nil, append_assoc, rules, slice_index, if◌then◌else◌, IsScalar, all_scalars, IsAscii, cases_lt, cases_Bool, and_parts, leb-true, ltb-true, cond-true, cond-false, lt-ltb, lt-leb, le-ltb, and_left, and_right, get_or_past, take_more, take_all, encodes-append, chars, chars_from_encodes, IsUtf8, bytes_of, size, units_of, is_high_at, is_low_at, is_high_before, is_unpaired, HasUnpaired, lossy_unit, lossy_utf16_before, lossy_utf16}
 use Rattle.std.proofs.Math.Seq.{take-append_seam}
 use Rattle.std.proofs.lemmas.List.Elements.{All-get_or}
 use Rattle.std.specs.Char.Escape.{encode_utf16}
