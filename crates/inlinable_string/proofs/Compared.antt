@@ -1,5 +1,5 @@
 -- Equality and order, which go by the bytes.
-use Rattle.inlinable_string.proofs.Common.{◌≡◌, ◌↔◌, ℕ, List, true, IsTrue, refl, sym, ap, ◌∙◌, nat_eq, all_scalars, pointwise, slice_cmp, texts_ties, bytes_decides, bytes_of}
+use Rattle.inlinable_string.proofs.Common.{on_total, nat_list_cmp_total, ◌≡◌, ◌↔◌, ℕ, List, true, IsTrue, refl, sym, ap, ◌∙◌, nat_eq, all_scalars, pointwise, slice_cmp, texts_ties, bytes_decides, bytes_of}
 use Rattle.std.specs.Ordering.{is_eq, nat_cmp}
 use Rattle.std.specs.declared.cmp.Ordering.{Ordering}
 use Rattle.std.specs.declared.cmp.Ordering.TheVariants.{Less, Equal, Greater}
@@ -24,3 +24,5 @@ ties_are_equal xs ys = (
   λ tie. (bytes_decides xs ys).0 (texts_ties xs ys ∙ ap is_eq tie),
   λ same. equal_from_test _ (sym (texts_ties xs ys) ∙ (bytes_decides xs ys).1 same),
 )
+
+pub ruleset ordered = (ties_are_equal, on_total, nat_list_cmp_total)

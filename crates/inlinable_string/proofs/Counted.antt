@@ -1,10 +1,10 @@
 -- The length of the text of UTF-16, and whether a unit is unpaired, counted unit by unit.
-use Rattle.inlinable_string.proofs.Common.{common_steps, ◌≡◌, ℕ, zero, suc, ◌+◌, ◌-◌, ◌*◌, ◌<◌, ◌≤◌, Bool, true, false, not, ◌&&◌, ◌||◌, ◌↔◌, IsTrue, List, [], ◌∷◌, length, refl, ap, sym, ◌∙◌, arith, add-one, ⊎_elim, cases_Bool, cases_lt, subst, cond-true, cond-false, if◌then◌else◌, slice_index, get_or_past, len_utf8, length-encode, append-nil, encode_utf8, size, is_high_at, is_low_at, is_high_before, is_unpaired, HasUnpaired, lossy_unit, lossy_utf16_before, lossy_utf16}
+use Rattle.inlinable_string.proofs.Common.{common_steps, ◌≡◌, ℕ, zero, suc, ◌+◌, ◌-◌, ◌<◌, ◌≤◌, Bool, true, false, not, ◌&&◌, ◌||◌, ◌↔◌, List, [], ◌∷◌, length, refl, ap, sym, ◌∙◌, arith, add-one, ⊎_elim, cases_Bool, cases_lt, subst, if◌then◌else◌, slice_index, get_or_past, len_utf8, length-encode, size, is_high_at, is_low_at, is_high_before, HasUnpaired, lossy_unit, lossy_utf16_before, lossy_utf16}
 use Rattle.std.specs.Char.Utf16.{is_high_surrogate, is_low_surrogate, surrogate_pair_char}
 use mir.Val.{bool_byte}
 use Rattle.inlinable_string.specs.Utf16Count.{unit_len, mismatch, len_before, mismatches_before}
 use Rattle.inlinable_string.proofs.Text.{size-append}
-use Rattle.inlinable_string.proofs.Units.{clash, high_range, low_range, high_is_not_low, low_is_not_high, none_unpaired}
+use Rattle.inlinable_string.proofs.Units.{clash, given, high_range, low_range, high_is_not_low, low_is_not_high, none_unpaired}
 use Rattle.inlinable_string.proofs.Window.{size_one}
 
 size_char : (c : ℕ) → size (c ∷ []) ≡ len_utf8 c
@@ -23,10 +23,7 @@ pub unit_len_bound : (u : ℕ) → unit_len u ≤ 3
 unit_len_bound u = grind (arith, common_steps)
 
 pub mismatch_bound : (a b : Bool) → mismatch a b ≤ 1
-mismatch_bound true true = omega arith
-mismatch_bound true false = omega arith
-mismatch_bound false true = omega arith
-mismatch_bound false false = omega arith
+mismatch_bound a b = grind (arith, common_steps)
 
 pub before_next : (v : List ℕ) (i : ℕ) → is_high_before v (i + 1) ≡ is_high_at v i
 before_next v i = ap (is_high_before v) (add-one i)
@@ -35,12 +32,6 @@ before_next v i = ap (is_high_before v) (add-one i)
 abbrev owed : Bool → Bool → ℕ
 owed begun ended = if begun then (if ended then 2 else 1) else 0
 
-abbrev given : Bool → Bool → Bool → ℕ → ℕ → List ℕ
-given unpaired high low u next =
-    if unpaired then 0xFFFD ∷ []
-    else (if high then surrogate_pair_char u next ∷ []
-    else (if low then [] else u ∷ []))
-
 abbrev Counts : Bool → Bool → Bool → Bool → ℕ → ℕ → Type 0
 Counts begun high low ended u next =
     owed begun low + size (given ((high && not ended) || (low && not begun)) high low u next)
@@ -48,8 +39,7 @@ Counts begun high low ended u next =
 
 plain_counts : (begun ended : Bool) (u next : ℕ) → u < 0x1_0000 → is_high_surrogate u ≡ false
     → is_low_surrogate u ≡ false → Counts begun false false ended u next
-plain_counts true ended u next f h l = grind (arith, common_steps, size_char u)
-plain_counts false ended u next f h l = grind (arith, common_steps, size_char u)
+plain_counts begun ended u next f h l = grind (arith, common_steps, size_char u)
 
 high_len : (u : ℕ) → is_high_surrogate u ≡ true → unit_len u ≡ 2
 high_len u h = let r = high_range u h in grind (arith, common_steps)
@@ -65,15 +55,12 @@ replaced_size = size_char 0xFFFD
 
 high_counts : (begun ended : Bool) (u next : ℕ) → is_high_surrogate u ≡ true
     → Counts begun true false ended u next
-high_counts true true u next h = omega (arith, high_len u h, pair_size u next)
-high_counts true false u next h = omega (arith, high_len u h, replaced_size)
-high_counts false true u next h = omega (arith, high_len u h, pair_size u next)
-high_counts false false u next h = omega (arith, high_len u h, replaced_size)
+high_counts begun ended u next h =
+    grind (arith, common_steps, high_len u h, pair_size u next, replaced_size)
 
 low_counts : (begun ended : Bool) (u next : ℕ) → is_low_surrogate u ≡ true
     → Counts begun false true ended u next
-low_counts true ended u next l = omega (arith, low_len u l)
-low_counts false ended u next l = omega (arith, low_len u l, replaced_size)
+low_counts begun ended u next l = grind (arith, common_steps, low_len u l, replaced_size)
 
 counts_by : (begun high low ended : Bool) (u next : ℕ) → u < 0x1_0000
     → is_high_surrogate u ≡ high → is_low_surrogate u ≡ low → Counts begun high low ended u next
@@ -125,10 +112,7 @@ ended_alone v n h l = (n, rw (l, h, low_is_not_high _ l) refl)
 
 alone : (v : List ℕ) (n : ℕ) (begun low : Bool) → is_high_before v n ≡ begun
     → is_low_at v n ≡ low → 0 < mismatch begun low → HasUnpaired v
-alone v n true true h l some = absurd (omega arith)
-alone v n true false h l some = begun_alone v n h l
-alone v n false true h l some = ended_alone v n h l
-alone v n false false h l some = absurd (omega arith)
+alone v n begun low h l some = grind (arith, common_steps, begun_alone, ended_alone)
 
 pub mismatch_unpaired : (v : List ℕ) (n : ℕ) → 0 < mismatches_before v n → HasUnpaired v
 mismatch_unpaired v zero some = absurd (omega arith)
@@ -146,10 +130,7 @@ last_unpaired v n e h =
 
 -- where all match, none is unpaired
 same_bools : (a b : Bool) → mismatch a b ≡ 0 → a ≡ b
-same_bools true true e = refl
-same_bools true false e = absurd (omega arith)
-same_bools false true e = absurd (omega arith)
-same_bools false false e = refl
+same_bools a b e = grind (arith, common_steps)
 
 all_match : (v : List ℕ) (n : ℕ) → mismatches_before v n ≡ 0
     → (i : ℕ) → i < n → is_high_before v i ≡ is_low_at v i
@@ -164,16 +145,7 @@ all_match v (suc n) e i h =
 
 paired_bools : (high next low begun : Bool) → high ≡ next → begun ≡ low
     → ((high && not next) || (low && not begun)) ≡ false
-paired_bools true true true true e f = refl
-paired_bools true true true false e f = absurd (clash f refl)
-paired_bools true true false true e f = absurd (clash refl f)
-paired_bools true true false false e f = refl
-paired_bools true false low begun e f = absurd (clash refl e)
-paired_bools false true low begun e f = absurd (clash e refl)
-paired_bools false false true true e f = refl
-paired_bools false false true false e f = absurd (clash f refl)
-paired_bools false false false true e f = absurd (clash refl f)
-paired_bools false false false false e f = refl
+paired_bools high next low begun e f = grind (arith, common_steps)
 
 pub matched_paired : (v : List ℕ) (n : ℕ) → n ≡ length v → mismatches_before v n ≡ 0
     → is_high_before v n ≡ false → HasUnpaired v → ⊥
@@ -212,16 +184,7 @@ module _ (v : List ℕ) (n m : ℕ) (e : n ≡ length v)
       (cases_Bool (is_high_before v n))
 
   counted_one : HasUnpaired v → 0 < m
-  counted_one some =
-      ⊎_elim
-      (λ (h : is_high_before v n ≡ true).
-      let one = rw h at all in omega (arith, one))
-      (λ (h : is_high_before v n ≡ false).
-      let none = rw h at all in
-      ⊎_elim (λ (k : 0 < m). k)
-      (λ (k : m ≤ 0). absurd (matched_paired v n e (omega (arith, none)) h some))
-      (cases_lt 0 m))
-      (cases_Bool (is_high_before v n))
+  counted_one some = grind (arith, common_steps, matched_paired v n e)
 
   pub some_unpaired : (0 < m) ↔ HasUnpaired v
   some_unpaired = (found, counted_one)

@@ -1,6 +1,6 @@
 -- The cut of a text, and its last character.
 use Rattle.inlinable_string.proofs.Common.{common_steps, ◌≡◌, ℕ, ◌-◌, ◌≤◌, true, false, nat_eq, nat_lt, List, [], ◌∷◌, ◌++◌, length, refl, sym, ap, ◌∙◌, arith, length-append, take, drop, take_at, take-append-drop, Option, Some, None, IsSome, Bool, IsTrue, ◌↔◌, cond_both, nat_tests, append_assoc, append-nil, encode_utf8, chars, IsUtf8, IsCharBoundary, IsCharBoundary-from_take, length-encode, len_utf8_bounds, bytes_of, size, IsCut, IsPlace, cut, with_first, split_last}
-use Rattle.inlinable_string.proofs.Text.{holds, boundary, cut_at}
+use Rattle.inlinable_string.proofs.Text.{holds, boundary, cut_at, place_within}
 
 pub cut_joined : (a b : List ℕ) → cut (a ++ b) (size a) ≡ Some (a, b)
 cut_joined [] [] = refl
@@ -98,3 +98,5 @@ module _ (t bs : List ℕ) (u : IsUtf8 bs) (e : bs ≡ bytes_of t) where
 
   pub place_of_taken : (xs : List ℕ) (n : ℕ) → IsUtf8 xs → xs ≡ take n bs → IsPlace t (length xs)
   place_of_taken xs n v h = place_of_split xs [] n v (sym h ∙ sym (append-nil xs))
+
+pub ruleset places_of_bytes = (place_within, places_are)

@@ -1,5 +1,5 @@
 -- What `edit` answers, against the relations of texts.
-use Rattle.inlinable_string.proofs.Common.{common_steps, ◌≡◌, ◌≢◌, ◌↔◌, ℕ, ◌+◌, true, false, Bool, inl, inr, ◌⊎◌, List, [], ◌∷◌, ◌++◌, length, refl, sym, ap, ◌∙◌, arith, Bor, Option, Some, None, nat_eq, rules, nat_tests, encodes-chars, chars_from_encodes, is_utf8-from_IsUtf8, IsUtf8-from_is_utf8, chars, IsUtf8, is_utf8, bytes_of, size, cut, IsCut, IsPlace, IsSplice, IsRemoval, Outcome, becomes, yields, is_not_utf8, has_wrong_length, reply_of, text_left, edit, insertion, split_last, with_char_in_front, pop_result, removal_behind, removal, replacement, text_after_step, Command, Push, PushStr, Insert, InsertStr, Pop, Remove, ReplaceBytes, Reply, Done, NoChar, NotUtf8, WrongLength, NoMemory}
+use Rattle.inlinable_string.proofs.Common.{cases_Bool, common_steps, ◌≡◌, ◌≢◌, ◌↔◌, ℕ, ◌+◌, inl, inr, ◌⊎◌, List, [], ◌∷◌, ◌++◌, length, refl, sym, ap, ◌∙◌, arith, Bor, Option, Some, None, nat_eq, rules, nat_tests, encodes-chars, chars_from_encodes, is_utf8-from_IsUtf8, IsUtf8-from_is_utf8, chars, IsUtf8, is_utf8, bytes_of, size, cut, IsCut, IsPlace, IsSplice, IsRemoval, Outcome, becomes, yields, is_not_utf8, has_wrong_length, reply_of, text_left, edit, insertion, split_last, with_char_in_front, pop_result, removal_behind, removal, replacement, text_after_step, Command, Push, PushStr, Insert, InsertStr, Pop, Remove, ReplaceBytes, Reply, Done, NoChar, NotUtf8, WrongLength, NoMemory}
 use Rattle.inlinable_string.proofs.Text.{size-append}
 use Rattle.inlinable_string.proofs.Cut.{cut_is, is_cut, no_cut, split_last-append}
 
@@ -123,15 +123,10 @@ put_in_and_out t p c at = grind (arith, common_steps, cut_is, removal_is)
 wrong_length : (t bs : List ℕ) → length bs ≢ size t → replacement t bs ≡ has_wrong_length
 wrong_length t bs other = grind (arith, common_steps)
 
--- a test passed or failed
-decided : (b : Bool) → (b ≡ true) ⊎ (b ≡ false)
-decided true = inl refl
-decided false = inr refl
-
 -- then whether they are a text's
 pub not_utf8 : (t bs : List ℕ) → length bs ≡ size t → ¬ (IsUtf8 bs)
     → replacement t bs ≡ is_not_utf8
-not_utf8 t bs same ill = search (rules, nat_tests, decided, IsUtf8-from_is_utf8)
+not_utf8 t bs same ill = search (rules, nat_tests, cases_Bool, IsUtf8-from_is_utf8)
 
 -- the text of the bytes takes the place of the other
 pub replacement_is : (t bs : List ℕ) → length bs ≡ size t → IsUtf8 bs
@@ -141,10 +136,10 @@ replacement_is t bs same well = search (rules, nat_tests, is_utf8-from_IsUtf8)
 -- the three ways of a replacement
 ways : (t bs : List ℕ) → (length bs ≢ size t) ⊎ ((length bs ≡ size t) × ¬ (IsUtf8 bs))
     ⊎ ((length bs ≡ size t) × IsUtf8 bs)
-ways t bs = elim (decided (nat_eq (length bs) (size t))) [
+ways t bs = elim (cases_Bool (nat_eq (length bs) (size t))) [
   | inl long ↦
       let same : length bs ≡ size t = grind (arith, nat_tests) in
-      elim (decided (is_utf8 bs)) [
+      elim (cases_Bool (is_utf8 bs)) [
         | inl well ↦ inr (inr (same, IsUtf8-from_is_utf8 bs well))
         | inr ill ↦ inr (inl (same, λ well. let test = is_utf8-from_IsUtf8 bs well in cc))
       ]
@@ -192,15 +187,7 @@ insertion_grows : (t u : List ℕ) (p : ℕ) (o : Option (List ℕ × List ℕ))
     → reply_of (insertion u o) ≡ Done → size (text_left t (insertion u o)) ≡ size t + size u
 insertion_grows t u p None e h = cc
 insertion_grows t u p (Some parts) e h =
-    let a = parts.0 in
-    let b = parts.1 in
-    let at : IsCut t p a b = is_cut t p a b e in omega (
-      arith,
-      ap size at.joined,
-      size-append a b,
-      size-append (a ++ u) b,
-      size-append a u,
-    )
+    grind (arith, common_steps, is_cut t p parts.0 parts.1 e, size-append)
 
 -- the clauses on growth
 pub push_grows : (t : List ℕ) (c : ℕ)
@@ -219,3 +206,7 @@ pub insert_str_grows : (t : List ℕ) (p : ℕ) (u : Bor (List ℕ))
     → reply_of (edit t (InsertStr p u)) ≡ Done
     → size (text_left t (edit t (InsertStr p u))) ≡ size t + size (chars u.now)
 insert_str_grows t p u done = insertion_grows t (chars u.now) p (cut t p) refl done
+
+pub ruleset edits = (cut_at_place, cut_elsewhere, pop_takes_last, pop_finds_none)
+
+pub ruleset growths = (push_grows, push_str_grows, insert_grows, insert_str_grows)

@@ -1,5 +1,5 @@
 -- The lossy reading of UTF-8 written as bytes: how far it is written, and the room that it takes.
-use Rattle.inlinable_string.proofs.Common.{◌≡◌, ℕ, zero, suc, ◌+◌, ◌-◌, ◌<◌, ◌≤◌, nat_eq, nat_lt, List, [], ◌∷◌, ◌++◌, true, false, length, take, drop, refl, ap, sym, ◌∙◌, arith, subst, ⊎_elim, append_assoc, append-nil, length-take-le, take-append-drop, if◌then◌else◌, cases_Bool, cases_lt, cond-true, cond-false, nat_tests, eqb-true, encode_utf8, chars, chars-nil, chars-append, IsUtf8, IsUtf8-append, size, char_len, subpart_len, lossy_utf8_past, lossy_utf8}
+use Rattle.inlinable_string.proofs.Common.{common_steps, ◌≡◌, ℕ, zero, suc, ◌+◌, ◌-◌, ◌<◌, ◌≤◌, nat_eq, nat_lt, List, [], ◌∷◌, ◌++◌, true, false, length, take, drop, refl, ap, sym, ◌∙◌, arith, subst, ⊎_elim, append_assoc, append-nil, length-take-le, take-append-drop, if◌then◌else◌, cases_Bool, cases_lt, cond-true, cond-false, nat_tests, eqb-true, chars, chars-nil, chars-append, IsUtf8, IsUtf8-append, size, char_len, subpart_len, lossy_utf8_past, lossy_utf8}
 use Rattle.std.proofs.lemmas.Str.{IsUtf8-nil}
 use Rattle.inlinable_string.proofs.Text.{size-append, size-chars}
 use Rattle.inlinable_string.proofs.Subparts.{one_more, lossy_valid, no_char, replaced-chars}
@@ -49,13 +49,7 @@ at_end bs (x ∷ rest) made end so none = absurd (omega (arith, none))
 size_left : (bs rest made : List ℕ) (end : ℕ) → Written bs rest made end
     → end + size (lossy_utf8 rest) ≡ size (lossy_utf8 bs)
 size_left bs rest made end so =
-    omega (
-      arith,
-      ap size so.text,
-      size-append (chars (take end made)) (lossy_utf8 rest),
-      size-chars (take end made) so.utf8,
-      length-take-le end made so.within,
-    )
+    grind (arith, common_steps, size-append, size-chars (take end made) so.utf8)
 
 -- there is room for the text that comes
 pub run_room : (bs rest made : List ℕ) (end k : ℕ) → Written bs rest made end

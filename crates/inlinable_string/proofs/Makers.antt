@@ -22,3 +22,5 @@ well_formed (Err e) v made ok = λ u. let h = ok u in cc
 pub text_made : {Z : Type 0} (t : List ℕ) (s : String Z) (v : Vec ℕ Z) → v ≡ string_vec s
     → bytes_of t ≡ v.items → t ≡ chars (string_bytes s)
 text_made t s v e h = search (rules, chars_from_encodes, IsUtf8-string_bytes)
+
+pub ruleset made = (bytes-string, bytes_made)

@@ -48,3 +48,10 @@ misplaced_insertion t u p = bad_elsewhere t p (λ o. reply_of (insertion u o)) r
 pub misplaced_truncation : (t : List ℕ) (p : ℕ)
     → (reply_of (truncation (cut t p)) ≡ BadPlace) ↔ (¬ (IsPlace t p))
 misplaced_truncation t p = bad_elsewhere t p (λ o. reply_of (truncation o)) refl (λ parts. refl)
+
+pub ruleset at_places = (
+  placed_insertion,
+  placed_truncation,
+  misplaced_insertion,
+  misplaced_truncation,
+)

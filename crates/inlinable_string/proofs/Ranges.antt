@@ -1,5 +1,5 @@
 -- A text with one of its ranges replaced.
-use Rattle.inlinable_string.proofs.Common.{Result, Ok, Err, IsOk, OnErr, ◌≡◌, ℕ, ◌+◌, ◌-◌, ◌≤◌, ◌<◌, true, List, [], ◌∷◌, ◌++◌, length, take, drop, refl, sym, ap, ◌∙◌, arith, subst, append-nil, length-append, length-take-le, take_at, drop_at, encode_utf8, encodes-append, encodes-chars, chars, chars-append, IsUtf8, IsUtf8-take, IsUtf8-append, insert_slice, remove_range, bytes_of, size, IsCut, IsPlace, IsSplice}
+use Rattle.inlinable_string.proofs.Common.{common_steps, rules, Result, Ok, Err, IsOk, OnErr, ◌≡◌, ℕ, ◌+◌, ◌-◌, ◌≤◌, ◌<◌, true, List, [], ◌∷◌, ◌++◌, length, take, drop, refl, sym, ap, ◌∙◌, arith, subst, length-append, length-take-le, take_at, drop_at, encode_utf8, encodes-append, encodes-chars, chars, chars-append, IsUtf8, IsUtf8-take, IsUtf8-append, insert_slice, remove_range, bytes_of, size, IsCut, IsPlace, IsSplice}
 use Rattle.std.proofs.lemmas.Str.{IsUtf8-drop}
 use Rattle.std.specs.Char.{is_ascii}
 use Rattle.std.specs.List.{list_all, replace_range}
@@ -101,27 +101,12 @@ pub range_from_splice : {t u v : List ℕ} {p : ℕ} → IsSplice t p u v → Is
 range_from_splice s = replaced_between s.cut s.cut (omega arith) s.joined
 
 pub whole-replaced : {t u v : List ℕ} → IsRangeReplaced t 0 (size t) u v → v ≡ u
-whole-replaced {u = u} r =
-    let start : r.front ≡ [] = nil_from_size r.front r.before.before in
-    let sum = ap size r.after.joined ∙ size-append (r.front ++ r.middle) r.back in
-    let end : r.back ≡ [] = nil_from_size r.back (omega (arith, sum, r.after.before)) in
-    r.joined ∙ rw (start, end) (append-nil u)
+whole-replaced {u = u} r = search (rules, size-append, nil_from_size)
 
 -- the clauses on a range that was replaced
 pub size-replaced_range : {t u v : List ℕ} {p q : ℕ} → IsRangeReplaced t p q u v
     → size v + (q - p) ≡ size t + size u
-size-replaced_range {u = u} r =
-    omega (
-      arith,
-      ap size r.joined,
-      size-append (r.front ++ u) r.back,
-      size-append r.front u,
-      ap size r.after.joined,
-      size-append (r.front ++ r.middle) r.back,
-      size-append r.front r.middle,
-      r.before.before,
-      r.after.before,
-    )
+size-replaced_range {u = u} r = grind (arith, common_steps, size-append)
 
 pub place_past_range : {t u v : List ℕ} {p q : ℕ} → IsRangeReplaced t p q u v
     → IsPlace v (p + size u)

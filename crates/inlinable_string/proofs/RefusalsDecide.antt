@@ -47,3 +47,5 @@ pub storage_kept : (s : TextState) (command : Command) (reply : Reply) → reply
     → (state_after_step s command reply).storage ≡ s.storage
 storage_kept s command Done other = absurd (other refl)
 storage_kept s command reply other = refl
+
+pub ruleset decided = (same_replies, same_storage)

@@ -55,3 +55,5 @@ module _ (k : ℕ) (reserve : Command)
       let now =
       legal_parted (state_after_step at reserve Done) added behind replies last b later.1 in
       pushes_behind at added replies within (later.0, now.0)
+
+pub ruleset pushes = (pushes_from_start, pushes_between)

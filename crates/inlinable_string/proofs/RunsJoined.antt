@@ -54,3 +54,5 @@ legal_parted s (c ∷ first) second (r ∷ replies) others h k =
     legal_parted (state_after_step s c r) first second replies others (omega (arith, h)) k.1 in
     ((k.0, rest.0), rest.1)
 legal_parted s first second replies others h k = absurd (omega (arith, h))
+
+pub ruleset joined = (text_joined, storage_joined, credit_joined, legal_joined, legal_parted)

@@ -87,3 +87,5 @@ pub short_run_stays_inline : (s : TextState) (commands : List Command) (replies 
     → StaysWithin s.policy.limit s.text commands → LegalReplies s commands replies
     → storage_after s commands replies ≡ Inline
 short_run_stays_inline s commands replies laws inline within legal = search (rules, short_run)
+
+pub ruleset short_runs = (short_run_never_asks, short_run_stays_inline)

@@ -39,12 +39,7 @@ first_passed p = cond (p 1) 1 (cond (p 2) 2 (cond (p 3) 3 (cond (p 4) 4 0)))
 
 passed : (p : ℕ → Bool) (n : ℕ) → 0 < n → n ≤ 4 → p n ≡ true
     → ((k : ℕ) → 0 < k → k < n → p k ≡ false) → first_passed p ≡ n
-passed p zero a b t f = absurd (omega arith)
-passed p (suc zero) a b t f = cond-true _ _ _ t
-passed p (suc (suc zero)) a b t f = grind (arith, common_steps)
-passed p (suc (suc (suc zero))) a b t f = grind (arith, common_steps)
-passed p (suc (suc (suc (suc zero)))) a b t f = grind (arith, common_steps)
-passed p (suc (suc (suc (suc (suc n))))) a b t f = absurd (omega arith)
+passed p n a b t f = grind (arith, common_steps)
 
 none_passed : (p : ℕ → Bool) → ((k : ℕ) → 0 < k → p k ≡ false) → first_passed p ≡ 0
 none_passed p f = grind (arith, common_steps)
@@ -163,3 +158,5 @@ pub replaced-chars : (old new : List ℕ) → IsUtf8 old → IsUtf8 new
     → old ≡ new ++ 0xEF ∷ 0xBF ∷ 0xBD ∷ [] → chars old ≡ chars new ++ 0xFFFD ∷ []
 unfolding lib.Utf8.encode
 replaced-chars old new u v is = popped-chars old new 0xFFFD u v is
+
+pub ruleset lossy_parts = (lossy_all, lossy_char, lossy_fault)

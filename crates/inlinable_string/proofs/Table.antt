@@ -1,5 +1,5 @@
 -- The table of well-formed UTF-8 against the codes of the characters.
-use Rattle.inlinable_string.proofs.Common.{common_steps, ◌≡◌, ◌⊎◌, inl, inr, ℕ, zero, suc, ◌+◌, ◌-◌, ◌*◌, ◌/◌, ◌%◌, ◌<◌, ◌≤◌, List, [], ◌∷◌, ◌++◌, length, take, drop, refl, ap, sym, ◌∙◌, arith, subst, ⊎_elim, append-nil, append_assoc, length-append, length-take-le, rules, slice_index, ◌==◌, if◌then◌else◌, take_at, encode_utf8, IsScalar, scalar_cases, cases_lt, cases_Bool, cond-true, cond-false, and_parts, leb-true, nat_tests, length-encode, len_utf8, following, count_in, subpart_len}
+use Rattle.inlinable_string.proofs.Common.{common_steps, ◌≡◌, ◌⊎◌, inl, inr, ℕ, zero, suc, ◌+◌, ◌-◌, ◌*◌, ◌/◌, ◌%◌, ◌<◌, ◌≤◌, List, [], ◌∷◌, ◌++◌, length, take, refl, ap, sym, ◌∙◌, arith, subst, ⊎_elim, append-nil, append_assoc, length-append, length-take-le, rules, ◌==◌, if◌then◌else◌, take_at, encode_utf8, IsScalar, scalar_cases, cases_lt, cases_Bool, cond-true, cond-false, and_parts, leb-true, nat_tests, length-encode, len_utf8, following, count_in, subpart_len}
 use Rattle.std.specs.Int.{is_in_range}
 use Rattle.std.proofs.str.Laws.{Shape, of1, of2, of3, of4, shape, Follows, two, three, four}
 
@@ -28,7 +28,7 @@ row_three a l h = grind (arith, nat_tests)
 pub row_four : (a : ℕ) → 240 ≤ a → a < 245 → IsRow a 2
 row_four a l h = grind (arith, nat_tests)
 
-scalar_below : (c : ℕ) → IsScalar c → c < 0x11_0000
+pub scalar_below : (c : ℕ) → IsScalar c → c < 0x11_0000
 scalar_below c s = ⊎_elim (λ h. omega (arith, h)) (λ h. h.1) (scalar_cases c s)
 
 -- bytes that are in a row in full
@@ -86,19 +86,7 @@ in_front (suc n) [] xs ys same h = absurd (omega (arith, h))
 in_front (suc n) (r ∷ ranges) xs [] same h = absurd (omega (arith, h))
 in_front (suc n) (r ∷ ranges) [] (y ∷ ys) same h = grind (arith, common_steps)
 in_front (suc n) (r ∷ ranges) (x ∷ xs) (y ∷ ys) same h =
-    let head : x ≡ y = ap (λ l. slice_index l 0) same in
-    let tail : take n xs ≡ take n ys = ap (λ l. drop 1 l) same in
-    ⊎_elim
-    (λ inside.
-    let there : count_in (r ∷ ranges) (y ∷ ys) ≡ 1 + count_in ranges ys = cond-true _ _ _ inside in
-    let here : count_in (r ∷ ranges) (x ∷ xs) ≡ 1 + count_in ranges xs =
-    cond-true _ _ _ (ap (is_in_range r.0 r.1) head ∙ inside) in
-    let rest : n ≤ count_in ranges xs = in_front n ranges xs ys tail (omega (arith, h, there)) in
-    omega (arith, here, rest))
-    (λ outside.
-    let none : count_in (r ∷ ranges) (y ∷ ys) ≡ 0 = cond-false _ _ _ outside in
-    absurd (omega (arith, h, none)))
-    (cases_Bool (is_in_range r.0 r.1 y))
+    grind (arith, common_steps, in_front n ranges xs ys)
 
 -- a front of bytes that begins the code of a character is no longer than the maximal subpart
 pub table_longest : (bs : List ℕ) (k c : ℕ) (rest : List ℕ) → k ≤ length bs → IsScalar c
@@ -267,3 +255,5 @@ pub table_begins : (bs : List ℕ) → 1 < subpart_len bs → BeginsCode (take (
 table_begins [] h = absurd (omega (arith, h))
 table_begins (a ∷ []) h = grind (arith, common_steps)
 table_begins (a ∷ b ∷ bs) h = by_row a b bs h
+
+pub ruleset maximal = (table_begins, table_fits, table_longest)

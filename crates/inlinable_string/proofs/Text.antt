@@ -200,3 +200,13 @@ size_bound (Some c) old new h = omega (arith, size-popped (Some c) old new h)
 -- a character has at most four bytes
 pub char_size : (c : ℕ) → size (c ∷ []) ≤ 4
 char_size c = search (rules, length-encode, len_utf8_bounds)
+
+pub ruleset one_step = (popped-chars, stepped-chars)
+
+pub ruleset parts = (encodes-append, encodes-chars, chars_from_encodes)
+
+pub ruleset sizes = (size-append, char_size, size-chars, size-string)
+
+pub ruleset no_bytes = (chars-nil, nil_from_size, empty_at_size)
+
+pub ruleset overwritten = (replaced, size-string)

@@ -1,9 +1,11 @@
 -- UTF-16: units with their neighbours, and the text that they give.
-use Rattle.inlinable_string.proofs.Common.{common_steps, ◌≡◌, ℕ, zero, suc, ◌+◌, ◌-◌, ◌/◌, ◌%◌, ◌<◌, ◌≤◌, true, false, not, Bool, ◌&&◌, ◌||◌, List, [], ◌∷◌, ◌++◌, length, take, refl, ap, sym, ◌∙◌, subst, arith, add-one, ⊎_elim, append-nil, append_assoc, rules, slice_index, if◌then◌else◌, IsScalar, all_scalars, IsAscii, scalar_cases, cases_lt, cases_Bool, and_parts, leb-true, ltb-true, cond-true, cond-false, lt-ltb, lt-leb, le-ltb, and_left, and_right, get_or_past, take_more, take_all, encodes-append, chars, chars_from_encodes, IsUtf8, bytes_of, size, units_of, is_high_at, is_low_at, is_high_before, is_unpaired, HasUnpaired, lossy_unit, lossy_utf16_before, lossy_utf16}
+use Rattle.inlinable_string.proofs.Common.{common_steps, ◌≡◌, ℕ, zero, suc, ◌+◌, ◌-◌, ◌/◌, ◌%◌, ◌<◌, ◌≤◌, true, false, not, Bool, ◌&&◌, ◌||◌, List, [], ◌∷◌, ◌++◌, length, take, refl, ap, sym, ◌∙◌, subst, arith, add-one, ⊎_elim, append-nil, append_assoc, rules, slice_index, if◌then◌else◌, IsScalar, all_scalars, IsAscii, cases_lt, cases_Bool, and_parts, leb-true, ltb-true, cond-true, cond-false, lt-ltb, lt-leb, le-ltb, and_left, and_right, get_or_past, take_more, take_all, encodes-append, chars, chars_from_encodes, IsUtf8, bytes_of, size, units_of, is_high_at, is_low_at, is_high_before, is_unpaired, HasUnpaired, lossy_unit, lossy_utf16_before, lossy_utf16}
 use Rattle.std.proofs.Math.Seq.{take-append_seam}
+use Rattle.std.proofs.lemmas.List.Elements.{All-get_or}
 use Rattle.std.specs.Char.Escape.{encode_utf16}
 use Rattle.std.specs.Char.Utf16.{is_high_surrogate, is_low_surrogate, surrogate_pair_char}
 use Rattle.inlinable_string.proofs.Text.{size-append}
+use Rattle.inlinable_string.proofs.Table.{scalar_below}
 
 pub clash : {b : Bool} → b ≡ true → b ≡ false → ⊥
 clash t f = cc
@@ -70,10 +72,7 @@ high_is_not_low u h = and_left _ _ (lt-leb 0xDC00 u (high_range u h).1)
 
 -- a low unit that is paired has a high one before it
 paired_low : (x y l b : Bool) → x ≡ false → l ≡ true → ((x && y) || (l && not b)) ≡ false → b ≡ true
-paired_low false y true true e g f = refl
-paired_low false y true false e g f = absurd (clash refl f)
-paired_low false y false b e g f = absurd (clash g refl)
-paired_low true y l b e g f = absurd (clash refl e)
+paired_low x y l b e g f = grind (arith, common_steps)
 
 -- what a unit that is paired gives
 gives_pair : (v : List ℕ) (i : ℕ) → is_unpaired v i ≡ false → is_high_at v i ≡ true
@@ -198,9 +197,6 @@ scalar_is_no_surrogate : (c : ℕ) → IsScalar c
     → (is_high_surrogate c ≡ false) × (is_low_surrogate c ≡ false)
 scalar_is_no_surrogate c s = grind (arith, common_steps)
 
-scalar_below : (c : ℕ) → IsScalar c → c < 0x11_0000
-scalar_below c s = ⊎_elim (λ h. omega (arith, h)) (λ h. h.1) (scalar_cases c s)
-
 -- the two units of a character above U+FFFF
 first_is_high : (c : ℕ) → 0x1_0000 ≤ c → c < 0x11_0000
     → is_high_surrogate (0xD800 + (c - 0x1_0000) / 0x400) ≡ true
@@ -241,7 +237,7 @@ text_is_paired (c ∷ t) s i =
     (cases_lt c 0x1_0000)
 
 -- a text's units are read as the text
-abbrev given : Bool → Bool → Bool → ℕ → ℕ → List ℕ
+abbrev pub given : Bool → Bool → Bool → ℕ → ℕ → List ℕ
 given unpaired high low u next =
     if unpaired then 0xFFFD ∷ []
     else (if high then surrogate_pair_char u next ∷ []
@@ -341,3 +337,12 @@ module _ (v : List ℕ) (fits : (i : ℕ) → slice_index v i < 0x1_0000) where
 
   pub lossy_read : chars (bytes_of (lossy_utf16 v)) ≡ lossy_utf16 v
   lossy_read = sym (chars_from_encodes (lossy_utf16 v) _ lossy_utf8 refl)
+
+pub ruleset paired_units = (
+  all_paired,
+  none_unpaired,
+  text_is_paired,
+  units-lossy,
+  get_or_past,
+  All-get_or,
+)

@@ -105,3 +105,5 @@ stays_if n t (c ∷ commands) each = (
   each 0 c refl,
   stays_if n (text_left t (edit t c)) commands (λ i command is. each (suc i) command is),
 )
+
+pub ruleset unrefused = (unrefused_replies, unrefused_text, short_replies, short_text)

@@ -1,5 +1,5 @@
 -- The states of the test for UTF-8, and the ranges of bytes that each has before it.
-use Rattle.inlinable_string.proofs.Common.{common_steps, ◌≡◌, ◌↔◌, inl, ℕ, zero, suc, ◌+◌, ◌*◌, ◌/◌, ◌%◌, ◌<◌, ◌≤◌, Bool, true, false, List, [], ◌∷◌, ◌++◌, length, take, drop, refl, ap, sym, ◌∙◌, arith, subst, ⊎_elim, IsAscii, IsUtf8, IsUtf8-append, IsUtf8-encode, encode_utf8, encode_utf8_all, append-nil, length-append, take_all, take_more, length-encode, len_utf8_bounds, nil_from_length, eqb-true, take-append-drop, drop_at, append_assoc, if◌then◌else◌, nat_lt, nat_eq, cases_lt, cases_Bool, cond-true, cond-false, and_parts, nat_tests, ltb-true, lt-ltb, le-ltb, slice_index, following, count_in, char_len}
+use Rattle.inlinable_string.proofs.Common.{common_steps, ◌≡◌, ◌↔◌, inl, ℕ, zero, suc, ◌+◌, ◌*◌, ◌/◌, ◌<◌, ◌≤◌, Bool, true, false, List, [], ◌∷◌, ◌++◌, length, take, drop, refl, ap, sym, ◌∙◌, arith, subst, ⊎_elim, IsAscii, IsUtf8, IsUtf8-append, IsUtf8-encode, encode_utf8, encode_utf8_all, append-nil, length-append, take_all, take_more, length-encode, len_utf8_bounds, nil_from_length, eqb-true, take-append-drop, drop_at, append_assoc, if◌then◌else◌, nat_lt, nat_eq, cases_lt, cases_Bool, cond-true, cond-false, and_parts, nat_tests, lt-ltb, le-ltb, slice_index, following, count_in, char_len}
 use Rattle.std.specs.Int.{is_in_range}
 use Rattle.std.specs.Prelude.{◌&&◌, ◌^◌, ◌-◌}
 use Rattle.inlinable_string.specs.WellFormed.{Follows, nothing, ranges_of, is_state, state_of, Leads}
@@ -37,15 +37,7 @@ follows : (ranges : List (ℕ × ℕ)) (s : List ℕ) → count_in ranges s ≡ 
     → IsUtf8 (drop (length ranges) s) → Follows ranges s
 follows [] s all u = u
 follows (r ∷ ranges) [] all u = absurd (omega (arith, all))
-follows (r ∷ ranges) (b ∷ s) all u =
-    ⊎_elim
-    (λ inside.
-    let here : count_in (r ∷ ranges) (b ∷ s) ≡ 1 + count_in ranges s = cond-true _ _ _ inside in
-    (inside, follows ranges s (omega (arith, all, here)) u))
-    (λ outside.
-    let none : count_in (r ∷ ranges) (b ∷ s) ≡ 0 = cond-false _ _ _ outside in
-    absurd (omega (arith, all, none)))
-    (cases_Bool (is_in_range r.0 r.1 b))
+follows (r ∷ ranges) (b ∷ s) all u = grind (arith, common_steps, follows ranges s)
 
 -- text that is not empty is a character with text after it
 first : (b : ℕ) (s : List ℕ) → IsUtf8 (b ∷ s)
@@ -100,8 +92,7 @@ no_front b s above none u =
     omega (arith, len, no.0, length-encode f.0, len_utf8_bounds f.0)
 
 positive : (n : ℕ) → nat_eq n 0 ≡ false → 0 < n
-positive zero is = grind (arith, nat_tests, is)
-positive (suc n) is = omega arith
+positive n is = grind (arith, nat_tests, is)
 
 -- what begins a text, and what has to follow it
 pub begins : (b : ℕ) (s : List ℕ) → IsUtf8 (b ∷ s) ↔ Follows (next [] b) s
@@ -134,19 +125,7 @@ begins b s =
 pub step : (ranges : List (ℕ × ℕ)) (b : ℕ) (s : List ℕ)
     → Follows ranges (b ∷ s) ↔ Follows (next ranges b) s
 step [] b s = begins b s
-step (r ∷ ranges) b s =
-    ⊎_elim
-    (λ inside.
-    let is : next (r ∷ ranges) b ≡ ranges = cond-true _ _ _ inside in (
-      (λ f. subst (λ n. Follows n s) (sym is) f.1),
-      (λ f. (inside, subst (λ n. Follows n s) is f)),
-    ))
-    (λ outside.
-    let is : next (r ∷ ranges) b ≡ nothing = cond-false _ _ _ outside in (
-      (λ f. absurd (grind (arith, f.0, outside))),
-      (λ f. absurd (none_follows s (subst (λ n. Follows n s) is f))),
-    ))
-    (cases_Bool (is_in_range r.0 r.1 b))
+step (r ∷ ranges) b s = grind (arith, common_steps, none_follows)
 
 -- whether p holds of each number below n
 abbrev every_below : (ℕ → Bool) → ℕ → Bool
@@ -190,11 +169,7 @@ rows_lead : every_below (λ b. every_below (row_is_right ROWS.now b) 9) 256 ≡ 
 rows_lead = refl
 
 is_sixth : (n : ℕ) → is_state n ≡ true → (6 * (n / 6) ≡ n) × (n / 6 < 9)
-is_sixth n is =
-    let parts = and_parts (nat_lt n 54) (nat_eq (n % 6) 0) is in
-    let top = ltb-true n 54 parts.0 in
-    let even = eqb-true (n % 6) 0 parts.1 in
-    (omega (arith, even), omega (arith, top))
+is_sixth n is = grind (arith, common_steps)
 
 -- one row
 row_leads : (b n : ℕ) → b < 256 → is_state n ≡ true

@@ -9,7 +9,7 @@ use Rattle.std.proofs.lemmas.List.{drop-append-le, drop-take, take_all, drop_all
 use Rattle.std.proofs.lemmas.Str.{IsUtf8-had, IsUtf8-append, IsUtf8-take, IsUtf8-drop, chars-append, encodes-chars, IsUtf8-past_char, chars_past_char, encode_ascii, IsUtf8-encode}
 use Rattle.inlinable_string.specs.Text.{bytes_of, size, IsCut, IsPlace, IsSplice, IsRemoval}
 use Rattle.inlinable_string.specs.declared.inline_string.InlineStringN.TheInside.{Inside}
-use Rattle.inlinable_string.proofs.Text.{Holds, holds, bytes_are, size_of, boundary, cut_at, popped-chars, place_within}
+use Rattle.inlinable_string.proofs.Text.{Holds, holds, bytes_are, size_of, boundary, cut_at, popped-chars, place_within, size-pushed, char_size}
 
 -- one character
 pub size_one : (c : ℕ) → length (encode_utf8 c) ≡ size (c ∷ [])
@@ -154,3 +154,5 @@ module _ {N : ℕ} {t : List ℕ} (s : Inside N) (view : chars (take s.len (drop
       ap (λ k. take k (drop s.start new)) sizes
       ∙ extended s.bytes new u s.start 0 s.start (omega arith) (omega arith) e ∙ is in
       ((inv.0, ∣ rw same utf8 ∣₁), rw same (encodes-chars bytes utf8))
+
+pub ruleset one_char = (chars_one, size_one, size-pushed, char_size)

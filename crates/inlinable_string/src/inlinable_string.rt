@@ -97,6 +97,7 @@ impl<const N: usize> StringExt for InlinableStringN<N> {
     }
 
     #[inline]
+    #[tactic(auto, using(crate::proofs::Text::kept))]
     fn reserve(&mut self, additional: usize) -> Result<(), AllocError> {
         match self {
             InlinableStringN::Heap(text, _) => StringExt::reserve(text, additional),
@@ -111,6 +112,7 @@ impl<const N: usize> StringExt for InlinableStringN<N> {
     }
 
     #[inline]
+    #[tactic(auto, using(crate::proofs::Text::kept))]
     fn reserve_exact(&mut self, additional: usize) -> Result<(), AllocError> {
         match self {
             InlinableStringN::Heap(text, _) => StringExt::reserve_exact(text, additional),
@@ -125,6 +127,7 @@ impl<const N: usize> StringExt for InlinableStringN<N> {
     }
 
     #[inline]
+    #[tactic(auto, using(crate::proofs::Text::sizes))]
     fn shrink_to_fit(&mut self) -> Result<(), AllocError> {
         match self {
             InlinableStringN::Heap(text, alloc) => {
@@ -223,6 +226,7 @@ impl<const N: usize> InlinableStringN<N> {
     /// character after an inline text small.
     #[cold]
     #[inline(never)]
+    #[tactic(auto, using(crate::proofs::Window::one_char))]
     fn push_general(&mut self, ch: char) -> Result<(), AllocError>
         ensures text { OnOk result ((inlinable_state N self.new).text
             ≡ (inlinable_state N self.old).text ++ ch ∷ []) }

@@ -100,6 +100,7 @@ impl<const N: usize> Model for InlineStringN<N> {
 impl<const N: usize> InlineStringN<N> {
     /// Returns the empty text.
     #[inline]
+    #[tactic(auto, using(crate::proofs::Text::no_bytes))]
     pub fn new() -> Self
         ensures { result ≡ [] }
     {
@@ -168,6 +169,7 @@ impl<const N: usize> InlineStringN<N> {
     /// push of an ASCII character after the text small.
     #[cold]
     #[inline(never)]
+    #[tactic(auto, using(crate::proofs::Window::one_char))]
     fn push_general(&mut self, ch: char) -> Result<(), NotEnoughSpaceError>
         ensures fits { MatchResult result
             (λ _. size self.old + size (ch ∷ []) ≤ N)
@@ -327,6 +329,7 @@ impl<const N: usize> InlineStringN<N> {
 
     /// Empties the text.
     #[inline]
+    #[tactic(auto, using(crate::proofs::Text::no_bytes))]
     pub fn clear(&mut self)
         ensures { self.new ≡ [] }
     {
@@ -369,6 +372,7 @@ impl<const N: usize> InlineStringN<N> {
 
     /// Returns whether the text is empty.
     #[inline]
+    #[tactic(auto, using(crate::proofs::Text::no_bytes))]
     pub fn is_empty(&self) -> bool
         ensures text { IsTrue result ↔ (self.now ≡ []) }
         ensures len { IsTrue result ↔ (size self.now ≡ 0) }

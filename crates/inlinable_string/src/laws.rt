@@ -51,6 +51,7 @@ pub use runs::{
 };
 
 /// A place is at most the length, and a boundary of the bytes.
+#[tactic(auto, using(crate::proofs::Cut::places_of_bytes))]
 pub fn places_are_boundaries()
     ensures within { (t : List ℕ) (p : ℕ) → IsPlace t p → p ≤ size t }
     ensures boundaries { (t bs : List ℕ) (p : ℕ) → IsPlace t p → IsUtf8 bs → bs ≡ bytes_of t
@@ -105,6 +106,7 @@ pub fn cuts_are_cuts_of_bytes()
 {}
 
 /// A text in two parts is cut between them: so it has one front of each size.
+#[tactic(auto, using(crate::proofs::Cut::cut_joined))]
 pub fn parts_are_told_by_their_size()
     ensures { (a b : List ℕ) → cut (a ++ b) (size a) ≡ Some (a, b) }
 {}
@@ -117,6 +119,7 @@ pub fn cuts_are_at_places()
 {}
 
 /// The character that an iterator over a `&str` steps over is the first of its text, or the last.
+#[tactic(auto, using(crate::proofs::Text::one_step))]
 pub fn steps_are_over_characters()
     ensures front { (bs rest : List ℕ) (c : ℕ) → IsUtf8 bs → IsUtf8 rest
         → bs ≡ encode_utf8 c ++ rest → chars bs ≡ c ∷ chars rest }
@@ -126,17 +129,20 @@ pub fn steps_are_over_characters()
 
 /// The bytes of a text in two parts are those of the first and then those of the second, and the
 /// bytes of the text of a `&str` are its own.
+#[tactic(auto, using(crate::proofs::Text::parts))]
 pub fn bytes_of_parts()
     ensures joined { (a b : List ℕ) → bytes_of (a ++ b) ≡ bytes_of a ++ bytes_of b }
     ensures string { (bs : List ℕ) → IsUtf8 bs → bytes_of (chars bs) ≡ bs }
 {}
 
 /// The items of `chars` are the characters of its `&str`: no other text has the same bytes.
+#[tactic(auto, using(crate::proofs::Text::parts))]
 pub fn items_are_the_characters()
     ensures { (bs cs : List ℕ) → IsUtf8 bs → bytes_of cs ≡ bs → cs ≡ chars bs }
 {}
 
 /// How many bytes a text in two parts has, a character at most, and the text of a `&str`.
+#[tactic(auto, using(crate::proofs::Text::sizes))]
 pub fn sizes_of_parts()
     ensures joined { (a b : List ℕ) → size (a ++ b) ≡ size a + size b }
     ensures character { (c : ℕ) → size (c ∷ []) ≤ 4 }

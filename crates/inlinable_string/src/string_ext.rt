@@ -192,6 +192,7 @@ pub trait StringExt {
         ensures at { IsPlace (state self.new).text idx };
 
     /// Empties the text. It stays inline or on the heap.
+    #[tactic(auto, using(crate::proofs::Text::no_bytes))]
     fn clear(&mut self)
         ensures text { (state self.new).text ≡ [] }
         ensures storage { (state self.new).storage ≡ (state self.old).storage }
@@ -232,6 +233,7 @@ pub trait StringExt {
         ensures laws { IsLawful (state self.now) };
 
     /// Returns whether the text is empty.
+    #[tactic(auto, using(crate::proofs::Text::no_bytes))]
     fn is_empty(&self) -> bool
         ensures text { IsTrue result ↔ ((state self.now).text ≡ []) }
         ensures len { IsTrue result ↔ (size (state self.now).text ≡ 0) }

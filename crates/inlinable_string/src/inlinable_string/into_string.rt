@@ -13,6 +13,7 @@ impl<const N: usize> InlinableStringN<N> {
     ///
     /// A heap text is that `String`, with its capacity: this does not allocate, and cannot fail. An
     /// inline text allocates once and exactly. If that fails, the text is returned unchanged.
+    #[tactic(auto, using(crate::proofs::Makers::made))]
     pub fn into_string(self) -> Result<String, Self>
         ensures text { IfOk result
             (λ string. (string_state string).text ≡ (inlinable_state N self.entry).text) }

@@ -13,6 +13,7 @@ impl<const N: usize> InlinableStringN<N> {
     ///
     /// Only an inline text of more than `M` bytes allocates, once and exactly. A heap text of more
     /// than `M` bytes keeps its allocation and its capacity.
+    #[tactic(auto, using(crate::proofs::Text::sizes))]
     pub fn with_limit<const M: usize>(self) -> Result<InlinableStringN<M>, InlinableStringN<N>>
         ensures text { IfOk result (λ moved.
             (inlinable_state M moved).text ≡ (inlinable_state N self.entry).text) }

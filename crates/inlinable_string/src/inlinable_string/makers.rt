@@ -92,6 +92,7 @@ impl<const N: usize> StringMake for InlinableStringN<N> {
     }
 
     #[inline]
+    #[tactic(auto, using(crate::proofs::Text::no_bytes))]
     fn with_capacity(alloc: Global, capacity: usize) -> Result<Self, AllocError> {
         if capacity <= N {
             return Ok(Self::new(alloc));
@@ -105,11 +106,13 @@ impl<const N: usize> StringMake for InlinableStringN<N> {
         Ok(InlinableStringN::Heap(heap, alloc))
     }
 
+    #[tactic(auto, using(crate::proofs::Makers::made))]
     unsafe fn from_utf8_unchecked(alloc: Global, bytes: Vec<u8>) -> Self {
         let heap = unsafe { String::from_utf8_unchecked(bytes) };
         InlinableStringN::Heap(heap, alloc)
     }
 
+    #[tactic(auto, using(crate::proofs::Makers::made))]
     fn into_bytes(self) -> Result<Vec<u8>, Self> {
         match self {
             InlinableStringN::Heap(text, _) => Ok(text.into_bytes()),

@@ -18,6 +18,7 @@ use std::hash::Hash;
 
 /// Two texts are equal exactly if they have the same bytes, and so the same characters, whatever
 /// their storage. `len` states that these are scalar values.
+#[tactic(auto, using(crate::proofs::Compared::same_characters))]
 pub fn equality_is_that_of_texts<const N: usize>()
     ensures inline_bytes { (s t : List ℕ) → IsTrue (⟦<InlineStringN<N> as PartialEq>⟧.eq s t)
         ↔ (bytes_of s ≡ bytes_of t) }
@@ -33,6 +34,7 @@ pub fn equality_is_that_of_texts<const N: usize>()
 
 /// Texts are ordered by their bytes, a prefix before the whole, whatever their storage. The order
 /// is total, and `Equal` exactly for the same bytes.
+#[tactic(auto, using(crate::proofs::Compared::ordered))]
 pub fn order_is_that_of_the_bytes<const N: usize>()
     ensures inline_value { (s t : List ℕ) → ⟦<InlineStringN<N> as Ord>⟧.cmp s t
         ≡ slice_cmp nat_cmp (bytes_of s) (bytes_of t) }

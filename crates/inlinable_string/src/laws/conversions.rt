@@ -19,6 +19,7 @@ use std::str::FromStr;
 
 /// `parse`, and `try_from` of a `&str`, a character or a text of any storage, make a text in an
 /// array exactly if the bytes fit. The last returns its text if they do not.
+#[tactic(auto, using(crate::proofs::Text::ascii_chars))]
 pub fn conversions_succeed_where_it_fits<'a, const N: usize>()
     ensures parsed { (bytes t : List ℕ)
         → ⟦<InlineStringN<N> as FromStr>⟧.from_str_gives bytes (Ok t)

@@ -8,6 +8,7 @@ ghost use Rattle.inlinable_string.specs.Text.{bytes_of};
 
 /// Units of which none is unpaired are those of the text that they are read as; units of which one
 /// is unpaired are those of no text.
+#[tactic(auto, using(crate::proofs::Units::paired_units))]
 pub fn paired_units_are_texts()
     ensures text { (v : List ℕ) → All (λ unit. unit < 2 ^ 16) v → ¬ (HasUnpaired v)
         → units_of (lossy_utf16 v) ≡ v }
@@ -16,6 +17,7 @@ pub fn paired_units_are_texts()
 
 /// Lossy reading goes on by itself after a character, which is read, and after the maximal subpart,
 /// for which U+FFFD is read, where no character begins. UTF-8 is read as the text that it is.
+#[tactic(auto, using(crate::proofs::Subparts::lossy_parts))]
 pub fn lossy_reading_is_by_parts()
     ensures character { (c : ℕ) (rest : List ℕ) → IsScalar c
         → lossy_utf8 (encode_utf8 c ++ rest) ≡ c ∷ lossy_utf8 rest }
@@ -26,6 +28,7 @@ pub fn lossy_reading_is_by_parts()
 
 /// The table of the bytes that follow has the code of each character, and ends with it. A maximal
 /// subpart of more than one byte begins the code of some character, and no longer prefix does.
+#[tactic(auto, using(crate::proofs::Table::maximal))]
 pub fn subparts_are_maximal()
     ensures character { (c : ℕ) (rest : List ℕ) → IsScalar c
         → subpart_len (encode_utf8 c ++ rest) ≡ length (encode_utf8 c) }
@@ -45,6 +48,7 @@ pub fn utf16_is_read_as_it_is()
 
 /// The bytes of a text are UTF-8, and those of that text alone: so `from_utf8` of what `into_bytes`
 /// returned succeeds, and gives the same text.
+#[tactic(auto, using(crate::proofs::Text::parts))]
 pub fn bytes_give_the_text_back()
     ensures utf8 { (t bs : List ℕ) → all_scalars t ≡ true → bs ≡ bytes_of t → IsUtf8 bs }
     ensures text { (t : List ℕ) → all_scalars t ≡ true → chars (bytes_of t) ≡ t }

@@ -12,11 +12,13 @@ use crate::run::{Command, Reply};
 use crate::string_ext::Storage;
 
 /// A text is determined by its bytes.
+#[tactic(auto, using(crate::proofs::Text::same_bytes))]
 pub fn texts_are_told_by_their_bytes()
     ensures { (t v : List ℕ) → all_scalars t ≡ true → bytes_of t ≡ bytes_of v → t ≡ v }
 {}
 
 /// `cut` finds the two parts of a text at each of its places, and nowhere else.
+#[tactic(auto, using(crate::proofs::Edits::edits))]
 pub fn cut_decides_places()
     ensures place { (t : List ℕ) (p : ℕ) (a b : List ℕ)
         → (cut t p ≡ Some (a, b)) ↔ IsCut t p a b }
@@ -49,6 +51,7 @@ pub fn truncations_are_cuts()
 {}
 
 /// An insertion or a `Truncate` succeeds exactly at a place; elsewhere the reply is `BadPlace`.
+#[tactic(auto, using(crate::proofs::Places::at_places))]
 pub fn edits_are_done_at_places()
     ensures insert_done { (t : List ℕ) (p c : ℕ)
         → (reply_of (edit t (Command.Insert p c)) ≡ Reply.Done) ↔ IsPlace t p }
@@ -65,6 +68,7 @@ pub fn edits_are_done_at_places()
 {}
 
 /// `Pop` removes the last character; only in the empty text there is none.
+#[tactic(auto, using(crate::proofs::Edits::edits))]
 pub fn pop_takes_off_the_last_character()
     ensures last { (t v : List ℕ) (c : ℕ)
         → (edit t Command.Pop ≡ yields c v) ↔ (t ≡ v ++ c ∷ []) }
@@ -92,6 +96,7 @@ pub fn replacement_has_the_bytes()
 {}
 
 /// A growth that succeeds adds its bytes to those of the text.
+#[tactic(auto, using(crate::proofs::Edits::growths))]
 pub fn growths_add_their_bytes()
     ensures push { (t : List ℕ) (c : ℕ)
         → size (text_left t (edit t (Command.Push c))) ≡ size t + size (c ∷ []) }
@@ -105,6 +110,7 @@ pub fn growths_add_their_bytes()
 {}
 
 /// `Remove` after `Insert` at the same place returns the character and leaves the old text.
+#[tactic(auto, using(crate::proofs::Edits::put_in_and_out))]
 pub fn remove_undoes_insert()
     ensures { (t : List ℕ) (p c : ℕ) → IsPlace t p
         → edit (text_left t (edit t (Command.Insert p c))) (Command.Remove p) ≡ yields c t }
@@ -142,6 +148,7 @@ pub fn each_text_has_its_own_run()
 /// The places of the refusals determine the rest: for one text, storage and policy, whatever the
 /// credits, replies with the same refusals are the same replies, and so are text and storage after
 /// them.
+#[tactic(auto, using(crate::proofs::RefusalsDecide::decided))]
 pub fn refusals_determine_the_run()
     ensures replies { (s t : TextState) (commands : List Command) (replies others : List Reply)
         → s.text ≡ t.text → LegalReplies s commands replies → LegalReplies t commands others
@@ -162,6 +169,7 @@ pub fn refusals_change_nothing()
 
 /// Short runs never ask: if the text is stored inline, and without failures neither the texts nor
 /// what is reserved besides would pass the limit, no allocation fails, and it stays inline.
+#[tactic(auto, using(crate::proofs::ShortRuns::short_runs))]
 pub fn short_runs_never_ask()
     ensures replies { (s : TextState) (commands : List Command) (replies : List Reply)
         → IsLawful s → s.storage ≡ Storage.Inline
@@ -175,6 +183,7 @@ pub fn short_runs_never_ask()
 
 /// Runs without refusals are edits: if no allocation fails, the replies and the text are those of
 /// one edit after the other, whatever its storage.
+#[tactic(auto, using(crate::proofs::Unrefused::unrefused))]
 pub fn unrefused_runs_are_edits()
     ensures replies { (s : TextState) (commands : List Command) (replies : List Reply)
         → LegalReplies s commands replies → ¬ Contains replies Reply.NoMemory
@@ -186,6 +195,7 @@ pub fn unrefused_runs_are_edits()
 
 /// Short runs are edits: the replies of plain edits are legal, no others are, and the text is that
 /// of plain edits.
+#[tactic(auto, using(crate::proofs::Unrefused::unrefused))]
 pub fn short_runs_are_edits()
     ensures replies { (s : TextState) (commands : List Command) (replies : List Reply)
         → IsLawful s → s.storage ≡ Storage.Inline
@@ -206,6 +216,7 @@ pub fn short_runs_are_short_at_each_command()
 
 /// Reserved pushes never fail: pushes directly after a reservation that succeeded, or at the start
 /// of a run on a value with capacity for them, cannot fail.
+#[tactic(auto, using(crate::proofs::ReservedPushes::pushes))]
 pub fn reserved_pushes_never_fail()
     ensures start { (s : TextState) (k : ℕ) (commands : List Command) (replies : List Reply)
         → PushesWithin k commands → size s.text + k ≤ s.capacity
@@ -223,6 +234,7 @@ pub fn reserved_pushes_never_fail()
 {}
 
 /// Two runs join: the second goes on from the state that the first left.
+#[tactic(auto, using(crate::proofs::RunsJoined::joined))]
 pub fn runs_join()
     ensures text { (t : List ℕ) (first second : List Command) (replies others : List Reply)
         → length first ≡ length replies → text_after t (first ++ second) (replies ++ others)

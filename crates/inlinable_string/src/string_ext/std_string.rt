@@ -33,11 +33,13 @@ impl StringExt for String {
     }
 
     #[inline(never)]
+    #[tactic(auto, using(crate::proofs::Text::sizes))]
     fn reserve(&mut self, additional: usize) -> Result<(), AllocError> {
         self.reserve(additional)
     }
 
     #[inline(never)]
+    #[tactic(auto, using(crate::proofs::Text::sizes))]
     fn reserve_exact(&mut self, additional: usize) -> Result<(), AllocError> {
         self.reserve_exact(additional)
     }
@@ -63,6 +65,7 @@ impl StringExt for String {
 
     // The allocation of the old bytes is kept for the new ones.
     #[inline(never)]
+    #[tactic(auto, using(crate::proofs::Text::overwritten))]
     fn replace_bytes(&mut self, bytes: &[u8]) -> Result<(), ReplaceError> {
         if bytes.len() != self.len() {
             return Err(ReplaceError::WrongLength);
@@ -87,6 +90,7 @@ impl StringExt for String {
         self.len()
     }
 
+    #[tactic(auto, using(crate::proofs::Makers::made))]
     fn as_bytes(&self) -> &[u8] {
         self.as_bytes()
     }
@@ -99,10 +103,12 @@ impl StringExt for String {
 impl StringMake for String {
     ghost policy = { heap_policy };
 
+    #[tactic(auto, using(crate::proofs::Text::no_bytes))]
     fn new(alloc: Global) -> Self {
         String::new(alloc)
     }
 
+    #[tactic(auto, using(crate::proofs::Text::no_bytes))]
     fn with_capacity(alloc: Global, capacity: usize) -> Result<Self, AllocError> {
         String::with_capacity(alloc, capacity)
     }
@@ -111,10 +117,12 @@ impl StringMake for String {
         string_from(vec)
     }
 
+    #[tactic(auto, using(crate::proofs::Makers::made))]
     unsafe fn from_utf8_unchecked(_alloc: Global, bytes: Vec<u8>) -> Self {
         unsafe { String::from_utf8_unchecked(bytes) }
     }
 
+    #[tactic(auto, using(crate::proofs::Makers::made))]
     fn into_bytes(self) -> Result<Vec<u8>, Self> {
         Ok(self.into_bytes())
     }

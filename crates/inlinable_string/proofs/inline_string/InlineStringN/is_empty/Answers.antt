@@ -1,5 +1,0 @@
-use Rattle.inlinable_string.proofs.Text.{empty_at_size}
-use Rattle.inlinable_string.proofs.inline_string.InlineStringN.is_empty.Goals as goal
-
-pub returns-clause-text : goal.returns-clause-text
-returns-clause-text g c = rw c.len.ensures.value (empty_at_size _)
