@@ -25,7 +25,7 @@ COPY = re.compile(r'^[^:]*?/[Er](\d+)(?![a-z])')
 # A file of definitions or of lemmas, as they and the sources name it.
 NAMED = re.compile(r'\b(?:Rattle\.(\w+)\.(specs|proofs)\.|crate::(proofs)::)(\w+)\b')
 # A function that does nothing, with its attributes.
-ROW = r'(?:^ *#\[.*\]\n)*^ *pub fn {}\b.*?^ *\{{\}}$'
+ROW = r'(?:^ *#\[[^\n]*\]\n)*^ *pub fn {}\b.*?^ *\{{\}}$'
 IMPORT = re.compile(r'^(?:ghost )?use [^;]*;$', re.MULTILINE)
 # The names that an import gives, where it gives none but these.
 GIVEN = re.compile(r'\{([^}]*)\};$')

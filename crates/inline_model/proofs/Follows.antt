@@ -1,5 +1,5 @@
 -- A list of commands with its replies, followed step by step.
-use Rattle.std.proofs.Common.{◌≡◌, ◌↔◌, ℕ, ◌+◌, ◌<◌, ◌≤◌, List, [], ◌∷◌, length, drop, get_or, refl, sym, arith, add-one, drop-cons}
+use Rattle.std.proofs.Common.{◌≡◌, ◌↔◌, ℕ, ◌+◌, ◌≤◌, List, ◌∷◌, length, drop, refl, sym}
 use Rattle.std.proofs.lemmas.List.{drop_all}
 use Rattle.inlinable_string.specs.State.{TextState}
 use Rattle.inlinable_string.specs.Run.{IsLegal, LegalReplies, state_after_step, state_after}
@@ -43,16 +43,3 @@ pub followed_whole : (start now : TextState) (cs : List Command) (rs : List Repl
 followed_whole start now cs rs i p q h =
     let legal = rw (drop_all i cs p, drop_all i rs q) at h.legal in
     let state = rw (drop_all i cs p) at h.state in (legal.1 tt, sym state)
-
--- a legal list of replies is as long as the list of commands
-pub as_many : (s : TextState) (cs : List Command) (rs : List Reply) → LegalReplies s cs rs
-    → length cs ≡ length rs
-as_many s [] [] h = refl
-as_many s [] (r ∷ rs) h = absurd h
-as_many s (c ∷ cs) [] h = absurd h
-as_many s (c ∷ cs) (r ∷ rs) h = omega (arith, as_many (state_after_step s c r) cs rs h.1)
-
--- one element more
-pub drop_next : {X : Type 0} (xs : List X) (i : ℕ) (d : X) → i < length xs
-    → drop i xs ≡ get_or xs i d ∷ drop (i + 1) xs
-drop_next xs i d h = rw (add-one, drop-cons xs i d)

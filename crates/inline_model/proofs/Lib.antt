@@ -1,6 +1,5 @@
 pub mod Fronts
 pub mod Sizes
 pub mod Follows
-pub mod LegalReplies
-pub mod WorkedRuns
-pub mod Parts
+pub mod Edits
+pub mod OnLiterals

@@ -3,9 +3,7 @@ use Rattle.std.specs.Prelude.{ℕ, List, [], ◌∷◌, true, false}
 use Rattle.inlinable_string.specs.State.{TextState}
 use Rattle.inlinable_string.specs.declared.string_ext.Storage.TheVariants.{Inline, Heap}
 use Rattle.inlinable_string.specs.declared.run.Command.{Command}
-use Rattle.inlinable_string.specs.declared.run.Command.TheVariants.{Push, Insert, Truncate, Pop, Remove, Reserve}
-use Rattle.inlinable_string.specs.declared.run.Reply.{Reply}
-use Rattle.inlinable_string.specs.declared.run.Reply.TheVariants.{Done, Char, BadPlace, NoMemory}
+use Rattle.inlinable_string.specs.declared.run.Command.TheVariants.{Push, Truncate, Pop, Remove}
 
 -- an inline text with this capacity
 abbrev pub inline_text : List ℕ → ℕ → TextState
@@ -28,14 +26,6 @@ heap_only_text t n = record {
 -- a text on the heap with this capacity, and a limit of 30
 abbrev pub heap_text : List ℕ → ℕ → TextState
 heap_text t n = record (heap_only_text t n) { policy = record { demotes = true; limit = 30 } }
-
--- a reservation, € inserted at 1 and removed from two places, and another reservation
-abbrev pub room_commands : List Command
-room_commands = Reserve 28 ∷ Insert 1 8364 ∷ Remove 2 ∷ Remove 1 ∷ Reserve 27 ∷ []
-
--- the replies to them, if the allocation of the first fails
-abbrev pub room_replies : List Reply
-room_replies = NoMemory ∷ Done ∷ BadPlace ∷ Char 8364 ∷ Done ∷ []
 
 -- é put at the end, a place inside it cut at, the first character taken out, and the last taken off
 abbrev pub four_edits : List Command

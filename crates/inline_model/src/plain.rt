@@ -19,6 +19,7 @@ use text::{chars_of, edit, size_of, text_after_step};
 
 /// A string as a plain text, with its storage and this capacity, or the string's length if that is
 /// greater.
+#[tactic(auto, using(crate::proofs::Sizes::size_of_chars))]
 pub fn plain_from(
     alloc: Global,
     string: &str,

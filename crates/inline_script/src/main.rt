@@ -4,8 +4,6 @@
 #![tactic(auto)]
 
 #[cfg(test)]
-mod memory;
-#[cfg(test)]
 mod tests;
 
 use script_language::ScriptFault;

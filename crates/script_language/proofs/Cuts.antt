@@ -8,10 +8,10 @@ use Rattle.std.proofs.lemmas.Bool.{eqb-false}
 use Rattle.std.specs.Char.{digit_value}
 use Rattle.script_language.specs.Line.{space}
 
-head-lacks : (m b : ℕ) (bs : List ℕ) → LacksByte m (b ∷ bs) → b ≢ m
+pub head-lacks : (m b : ℕ) (bs : List ℕ) → LacksByte m (b ∷ bs) → b ≢ m
 head-lacks m b bs lacks = lacks 0 (omega arith)
 
-tail-lacks : (m b : ℕ) (bs : List ℕ) → LacksByte m (b ∷ bs) → LacksByte m bs
+pub tail-lacks : (m b : ℕ) (bs : List ℕ) → LacksByte m (b ∷ bs) → LacksByte m bs
 tail-lacks m b bs lacks k below = lacks (suc k) (omega arith)
 
 -- a text that has the mark doesn't lack it

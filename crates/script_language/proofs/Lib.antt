@@ -9,10 +9,11 @@ mod HexTexts
 mod Lanes
 mod Lines
 mod OneCommand
-mod Scripts
+pub mod Scripts
 mod PlainCommands
 mod BadLines
 mod Outputs
 mod WorkedLines
 mod WorkedScripts
 mod RefusedLines
+pub mod OnLiterals

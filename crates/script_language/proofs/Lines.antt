@@ -1,15 +1,24 @@
 -- Lines, their words and what follows them.
-use Rattle.std.proofs.Common.{◌≡◌, sym, ap, subst, ◌∙◌, ℕ, List, [], ◌∷◌, ◌++◌, ◌⊎◌, inl, inr}
+use Rattle.std.proofs.Common.{◌≡◌, refl, sym, subst, ◌∙◌, ℕ, List, [], ◌∷◌, ◌++◌, ◌⊎◌, inl, inr}
 use Rattle.std.specs.Str.Iter.{LacksByte}
 use Rattle.std.proofs.lemmas.List.{append-nil}
 use Rattle.inlinable_string.specs.declared.run.Command.{Command}
 use Rattle.script_language.specs.Line.{Arguments, nothing, character, text, number, number_and_character, number_and_text, bytes, arguments_of, IsCharText, IsFirstCut, IsLine, IsNumberText, IsTail, space, word_of}
-use Rattle.script_language.proofs.Cuts.{digits_lack_space, has_mark, same_cut}
+use Rattle.script_language.proofs.Cuts.{digits_lack_space, head-lacks, same_cut, tail-lacks}
 use Rattle.script_language.proofs.Words.{form, word_lacks_space}
 
--- a line ends with its word, or goes on with a space
-pub tail_forms : (args : Arguments) (tail : List ℕ) → IsTail args tail
-    → (tail ≡ []) ⊎ ((rest : List ℕ) × (tail ≡ space ∷ rest))
+-- what follows a word: nothing, or a space and more
+abbrev pub StartsApart : List ℕ → Type 0
+StartsApart tail = (tail ≡ []) ⊎ ((rest : List ℕ) × (tail ≡ space ∷ rest))
+
+-- no other byte
+not_apart : (b : ℕ) (word rest tail : List ℕ) → LacksByte space (b ∷ word) → StartsApart tail
+    → tail ≡ b ∷ word ++ rest → ⊥
+not_apart b word rest tail lacks (inl none) same = cc
+not_apart b word rest tail lacks (inr (more, some)) same =
+    head-lacks space b word lacks (search (sym same ∙ some))
+
+pub tail_forms : (args : Arguments) (tail : List ℕ) → IsTail args tail → StartsApart tail
 tail_forms nothing tail is = inl is
 tail_forms (character c) tail is = inr (is.0, is.1)
 tail_forms (text t) tail is = inr (t, is)
@@ -18,44 +27,43 @@ tail_forms (number_and_character n c) tail is = inr (_, is.2)
 tail_forms (number_and_text n t) tail is = inr (_, is.1)
 tail_forms (bytes bs) tail is = inr (is.0, is.1)
 
+-- such a line falls into its word and what follows in one way
+one_split : (one other tail rest : List ℕ) → LacksByte space one → LacksByte space other
+    → StartsApart tail → StartsApart rest → one ++ tail ≡ other ++ rest
+    → (one ≡ other) × (tail ≡ rest)
+one_split [] [] tail rest lacks lacks' apart apart' same = (refl, same)
+one_split [] (b ∷ other) tail rest lacks lacks' apart apart' same =
+    absurd (not_apart b other rest tail lacks' apart same)
+one_split (b ∷ one) [] tail rest lacks lacks' apart apart' same =
+    absurd (not_apart b one tail rest lacks apart' (sym same))
+one_split (b ∷ one) (d ∷ other) tail rest lacks lacks' apart apart' same =
+    let parts = one_split one other tail rest (tail-lacks space b one lacks)
+    (tail-lacks space d other lacks') apart apart' (search same) in
+    (cc, parts.1)
+
+-- a line with this word and this tail is that of commands with this word alone
+pub parts_of_line : (word tail : List ℕ) (command : Command) → LacksByte space word
+    → StartsApart tail → IsLine (word ++ tail) command
+    → (word ≡ word_of command) × IsTail (arguments_of command) tail
+parts_of_line word tail command lacks apart (rest, is, ends) =
+    let parts = one_split word (word_of command) tail rest lacks (word_lacks_space command) apart
+    (tail_forms (arguments_of command) rest ends) is in
+    (parts.0, subst (IsTail (arguments_of command)) (sym parts.1) ends)
+
 -- a line without a space is the word alone
 pub line_of_word : (line : List ℕ) (command : Command) → LacksByte space line
     → IsLine line command → (line ≡ word_of command) × IsTail (arguments_of command) []
-line_of_word line command lacks (tail, is, ends) = by (tail_forms (arguments_of command) tail ends)
-  where
-    by : (tail ≡ []) ⊎ ((rest : List ℕ) × (tail ≡ space ∷ rest))
-        → (line ≡ word_of command) × IsTail (arguments_of command) []
-    by (inl none) = (
-      is ∙ ap (λ l. word_of command ++ l) none ∙ append-nil _,
-      subst (IsTail (arguments_of command)) none ends,
-    )
-    by (inr (rest, some)) =
-        let whole : line ≡ word_of command ++ space ∷ rest = is
-        ∙ ap (λ l. word_of command ++ l) some in
-        absurd (has_mark space (word_of command) rest (subst (LacksByte space) whole lacks))
+line_of_word line command lacks asked =
+    parts_of_line line [] command lacks (inl refl)
+    (subst (λ l. IsLine l command) (sym (append-nil line)) asked)
 
 -- a line with a space is the word, the space and what follows it
 pub line_with_word : (line word rest : List ℕ) (command : Command)
     → IsFirstCut space line word rest → IsLine line command
     → (word ≡ word_of command) × IsTail (arguments_of command) (space ∷ rest)
-line_with_word line word rest command cut (tail, is, ends) =
-    by (tail_forms (arguments_of command) tail ends)
-  where
-    by : (tail ≡ []) ⊎ ((argument : List ℕ) × (tail ≡ space ∷ argument))
-        → (word ≡ word_of command) × IsTail (arguments_of command) (space ∷ rest)
-    by (inl none) =
-        let alone : line ≡ word_of command = is
-        ∙ ap (λ l. word_of command ++ l) none
-        ∙ append-nil _ in
-        let lacks = subst (LacksByte space) (sym alone ∙ cut.joined) (word_lacks_space command) in
-        absurd (has_mark space word rest lacks)
-    by (inr (argument, some)) =
-        let joined = sym cut.joined ∙ is ∙ ap (λ l. word_of command ++ l) some in
-        let same = same_cut space word (word_of command) rest argument cut.first
-        (word_lacks_space command) joined in (
-          same.0,
-          subst (IsTail (arguments_of command)) (some ∙ ap (λ l. space ∷ l) (sym same.1)) ends,
-        )
+line_with_word line word rest command cut asked =
+    parts_of_line word (space ∷ rest) command cut.first (inr (rest, refl))
+    (subst (λ l. IsLine l command) cut.joined asked)
 
 -- arguments whose number is followed by no character
 pub no_character_behind : (rest digits behind : List ℕ) (place : ℕ)

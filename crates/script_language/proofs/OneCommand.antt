@@ -1,16 +1,14 @@
 -- A line asks for one command at most.
-use Rattle.std.proofs.Common.{arith, map, ◌≡◌, refl, sym, ap, subst, ◌∙◌, ℕ, List, [], ◌∷◌, ◌++◌, ◌⊎◌, inl, inr, length}
+use Rattle.std.proofs.Common.{arith, map, ◌≡◌, refl, sym, ap, subst, ◌∙◌, ℕ, List, [], ◌∷◌, ◌++◌, length}
 use Rattle.std.proofs.lemmas.Str.{IsUtf8-encode}
-use Rattle.std.proofs.lemmas.List.{append-nil}
 use Rattle.std.specs.Simd.{first_chunks}
 use Rattle.std.specs.Str.{IsUtf8}
-use Rattle.std.specs.Str.Iter.{LacksByte}
 use Rattle.std.specs.Str.Parse.{digits_value}
 use Rattle.inlinable_string.proofs.Window.{chars_one}
 use Rattle.inlinable_string.specs.declared.run.Command.{Command}
-use Rattle.script_language.specs.Line.{Arguments, nothing, character, text, number, number_and_character, number_and_text, bytes, arguments_of, IsCharText, IsFirstCut, IsHexText, IsLine, IsNumberText, IsTail, space, word_of}
+use Rattle.script_language.specs.Line.{Arguments, nothing, character, text, number, number_and_character, number_and_text, bytes, arguments_of, IsCharText, IsHexText, IsLine, IsNumberText, IsTail, space, word_of}
 use Rattle.script_language.proofs.Cuts.{digits_lack_space, same_cut}
-use Rattle.script_language.proofs.Lines.{line_with_word, line_of_word, tail_forms}
+use Rattle.script_language.proofs.Lines.{parts_of_line, tail_forms}
 use Rattle.script_language.proofs.Words.{form, form_of_word, word_lacks_space}
 
 one_char : (bs : List ℕ) (c d : ℕ) → IsCharText bs c → IsCharText bs d → c ∷ [] ≡ d ∷ []
@@ -79,22 +77,8 @@ same_command tail one other words =
 
 pub one_command : (line : List ℕ) (one other : Command) → IsLine line one → IsLine line other
     → (word_of one ≡ word_of other) × (arguments_of one ≡ arguments_of other)
-one_command line one other (tail, is, ends) asked = by (tail_forms (arguments_of one) tail ends)
-  where
-    by : (tail ≡ []) ⊎ ((rest : List ℕ) × (tail ≡ space ∷ rest))
-        → (word_of one ≡ word_of other) × (arguments_of one ≡ arguments_of other)
-    by (inl none) =
-        let alone : line ≡ word_of one = is ∙ ap (λ l. word_of one ++ l) none ∙ append-nil _ in
-        let lacks = subst (LacksByte space) (sym alone) (word_lacks_space one) in
-        let parts = line_of_word line other lacks asked in
-        let words : word_of one ≡ word_of other = sym alone ∙ parts.0 in
-        let ended = subst (IsTail (arguments_of one)) none ends in
-        (words, same_command [] one other words ended parts.1)
-    by (inr (rest, some)) =
-        let cut : IsFirstCut space line (word_of one) rest = record {
-          joined = is ∙ ap (λ l. word_of one ++ l) some;
-          first = word_lacks_space one;
-        } in
-        let parts = line_with_word line (word_of one) rest other cut asked in
-        let ended = subst (IsTail (arguments_of one)) some ends in
-        (parts.0, same_command (space ∷ rest) one other parts.0 ended parts.1)
+one_command line one other (tail, is, ends) asked =
+    let apart = tail_forms (arguments_of one) tail ends in
+    let parts = parts_of_line (word_of one) tail other (word_lacks_space one) apart
+    (subst (λ l. IsLine l other) is asked) in
+    (parts.0, same_command tail one other parts.0 ends parts.1)

@@ -16,7 +16,7 @@ const MOST_DIGITS: usize = 20;
 /// The line is searched faster where `bytes`, which begin with it, have more that follows it.
 ///
 /// The bytes that a `replace_bytes` line is written for are put at the front of `room`, which has
-/// to be half as long as the line. What is left of it is handed back.
+/// to be half as long as the line. The rest of `room` is returned.
 #[inline]
 pub fn command_of<'a>(
     line: &'a str,

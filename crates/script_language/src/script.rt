@@ -111,6 +111,7 @@ fn commands_of<'a>(
 }
 
 /// Returns what comes before the first line feed, and what comes after it.
+#[tactic(auto, using(crate::proofs::Scripts::lines_at, crate::proofs::Scripts::one_line))]
 fn first_line(text: &str) -> (&str, Option<&str>)
     ensures line { lines_of text.now ≡ result.0.now ∷ lines_left result.1 }
     ensures front { take (length result.0.now) text.now ≡ result.0.now }

@@ -10,6 +10,7 @@ use std::alloc::{AllocError, Global};
 use std::str;
 
 /// How many bytes the characters have in UTF-8.
+#[tactic(auto, using(crate::proofs::Sizes::size_more))]
 pub fn size_of(text: &[char]) -> usize
     ensures { result ≡ size text.now }
 {
@@ -21,6 +22,7 @@ pub fn size_of(text: &[char]) -> usize
 }
 
 /// The characters of a string.
+#[tactic(auto, using(std::proofs::lemmas::Str::chars_from_encodes))]
 pub fn chars_of(alloc: Global, string: &str) -> Result<Vec<char>, AllocError>
     ensures { IfOk result (λ text. text.items ≡ chars string.now) }
 {
@@ -29,6 +31,7 @@ pub fn chars_of(alloc: Global, string: &str) -> Result<Vec<char>, AllocError>
 
 /// How many characters stand before a place, which is a number of bytes. `None`: that number is no
 /// place of the text.
+#[tactic(auto, using(crate::proofs::Fronts::cut_after, crate::proofs::Fronts::cut_nowhere))]
 pub fn chars_before(text: &[char], place: usize) -> Option<usize>
     ensures parts { option_map (λ n. (take n text.now, drop n text.now)) result
         ≡ cut text.now place }
@@ -140,6 +143,7 @@ fn truncation(alloc: Global, text: &[char], place: usize) -> Result<(Reply, Vec<
     }
 }
 
+#[tactic(auto, using(crate::proofs::Edits::edits))]
 fn pop_result(alloc: Global, text: &[char]) -> Result<(Reply, Vec<char>), AllocError>
     ensures reply { IfOk result (λ r. r.0 ≡ reply_of (pop_result (split_last text.now))) }
     ensures text { IfOk result (λ r. r.1.items
@@ -167,6 +171,7 @@ fn removal(alloc: Global, text: &[char], place: usize) -> Result<(Reply, Vec<cha
 }
 
 // The number of bytes is tested first, so bytes of another number are never said not to be UTF-8.
+#[tactic(auto, using(crate::proofs::Edits::edits))]
 fn replacement(alloc: Global, text: &[char], bytes: &[u8]) -> Result<(Reply, Vec<char>), AllocError>
     ensures reply { IfOk result (λ r. r.0 ≡ reply_of (replacement text.now bytes.now)) }
     ensures text { IfOk result (λ r. r.1.items

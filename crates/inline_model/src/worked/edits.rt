@@ -1,11 +1,13 @@
 //! What commands do to texts, and what they answer.
-ghost use Rattle.std.specs.Prelude.{◌≡◌, ◌∷◌, [], List, ℕ, Some, None, codes};
+ghost use Rattle.std.specs.Prelude.{◌≡◌, ◌∷◌, ◌++◌, [], List, ℕ, Some, None, codes};
+ghost use Rattle.std.specs.Str.{chars};
 ghost use Rattle.inlinable_string.specs.Text.{size, cut};
 ghost use Rattle.inlinable_string.specs.Edit.{Outcome, becomes, yields, has_no_char, has_no_place, is_not_utf8, has_wrong_length, reply_of, text_left, edit};
 
 use inlinable_string::run::{Command, Reply};
 
 /// "aé" has three bytes and the places 0, 1 and 3: 2 is inside é, and 4 is past the end.
+#[tactic(auto, unfolding(crate::proofs::OnLiterals::on_literals))]
 pub fn places_of_two_characters()
     ensures bytes { size (97 ∷ 233 ∷ []) ≡ 3 }
     ensures start { cut (97 ∷ 233 ∷ []) 0 ≡ Some ([], 97 ∷ 233 ∷ []) }
@@ -36,6 +38,7 @@ pub fn texts_left_by_outcomes()
 {}
 
 /// "é", truncated at 1, inside it, or at 3, past its end, is unchanged; at 2 it is kept whole.
+#[tactic(auto, unfolding(crate::proofs::OnLiterals::on_literals))]
 pub fn truncate_of_one_character()
     ensures inside { edit (233 ∷ []) (Command.Truncate 1) ≡ has_no_place }
     ensures end { edit (233 ∷ []) (Command.Truncate 2) ≡ becomes (233 ∷ []) }
@@ -54,12 +57,6 @@ pub fn pop_of_two_texts()
     ensures none { edit [] Command.Pop ≡ has_no_char }
 {}
 
-/// The three bytes of € are one character.
-pub fn push_of_a_euro(string: &str)
-    requires { string.now ≡ 226 ∷ 130 ∷ 172 ∷ [] }
-    ensures { edit (codes "a") (Command.PushStr string.entry) ≡ becomes (97 ∷ 8364 ∷ []) }
-{}
-
 /// The G clef put at the end of "a".
 pub fn push_of_a_clef()
     ensures { edit (97 ∷ []) (Command.Push 119070) ≡ becomes (97 ∷ 119070 ∷ []) }
@@ -72,6 +69,7 @@ pub fn remove_of_the_last_character()
 {}
 
 /// € put into "aé" between its characters is taken out again at 1, but not at 2, inside it.
+#[tactic(auto, unfolding(crate::proofs::OnLiterals::on_literals))]
 pub fn euro_put_in_and_taken_out()
     ensures put_in { edit (97 ∷ 233 ∷ []) (Command.Insert 1 8364)
         ≡ becomes (97 ∷ 8364 ∷ 233 ∷ []) }
@@ -81,11 +79,13 @@ pub fn euro_put_in_and_taken_out()
         ≡ yields 8364 (97 ∷ 233 ∷ []) }
 {}
 
-/// "bar" put into "foo" at 2 makes "fobaro".
-pub fn insert_of_three_letters(string: &str)
-    requires { string.now ≡ codes "bar" }
-    ensures { edit (codes "foo") (Command.InsertStr 2 string.entry)
-        ≡ becomes (codes "fobaro") }
+/// The characters of a string put at the end of any text, and into "foo" at 2.
+#[tactic(auto, unfolding(crate::proofs::OnLiterals::on_literals))]
+pub fn strings_put_in(string: &str)
+    ensures push { (t : List ℕ) → edit t (Command.PushStr string.entry)
+        ≡ becomes (t ++ chars string.now) }
+    ensures insert { edit (codes "foo") (Command.InsertStr 2 string.entry)
+        ≡ becomes (codes "fo" ++ chars string.now ++ codes "o") }
 {}
 
 /// Of any text nothing is left.
@@ -95,6 +95,7 @@ pub fn clear_of_any_text()
 
 /// The two bytes of "é" are replaced by two bytes that are UTF-8, and by no others: one byte is of
 /// the wrong number, though it is not UTF-8 either.
+#[tactic(auto, unfolding(crate::proofs::OnLiterals::on_literals))]
 pub fn replace_of_two_bytes(one: &[u8], broken: &[u8], letters: &[u8])
     requires one { one.now ≡ 255 ∷ [] }
     requires broken { broken.now ≡ 195 ∷ 97 ∷ [] }

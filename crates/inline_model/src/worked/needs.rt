@@ -10,6 +10,7 @@ use inlinable_string::Storage;
 use inlinable_string::run::{Command, Reply};
 
 /// A growth needs the bytes that it adds, of which € has three.
+#[tactic(auto, unfolding(crate::proofs::OnLiterals::on_literals))]
 pub fn needs_of_growths(string: &str)
     requires { size (chars string.now) ≡ 5 }
     ensures push { need_of (Command.Push 8364) ≡ at_end 3 }
@@ -36,6 +37,7 @@ pub fn needs_of_cuts(bytes: &[u8])
 
 /// A command that needs room may ask for memory, also for none, unless its place is bad; one that
 /// needs no room may not.
+#[tactic(auto, unfolding(crate::proofs::OnLiterals::on_literals))]
 pub fn commands_that_need_room_ask()
     ensures push { (t : List ℕ) → AsksMemory t (Command.Push 97) }
     ensures reserve { (t : List ℕ) → AsksMemory t (Command.Reserve 0) }

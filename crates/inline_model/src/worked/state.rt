@@ -61,6 +61,7 @@ pub fn full_texts_are_lawful()
 {}
 
 /// The scalar values are those up to U+10FFFF without the surrogates U+D800 to U+DFFF.
+#[tactic(auto, unfolding(crate::proofs::OnLiterals::on_literals))]
 pub fn texts_of_scalars_are_lawful()
     ensures before_surrogates { IsLawful (heap_text (55295 ∷ []) 3) }
     ensures first_surrogate { (n : ℕ) → ¬ IsLawful (heap_text (55296 ∷ []) n) }

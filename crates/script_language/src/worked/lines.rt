@@ -49,7 +49,6 @@ pub fn texts_cut_at_a_space()
     ensures end { IsFirstCut space (codes "a ") (codes "a") [] }
     ensures later { ¬ IsFirstCut space (codes "insert 3 a") (codes "insert 3") (codes "a") }
     ensures other { ¬ IsFirstCut space (codes "insert 3 a") (codes "remove") (codes "3 a") }
-    ensures none { (front behind : List ℕ) → ¬ IsFirstCut space (codes "pop") front behind }
 {}
 
 /// A word alone.
@@ -65,7 +64,6 @@ pub fn lines_of_a_character()
     ensures blank { IsLine (codes "push  ") (Command.Push 32) }
     ensures euro { IsLine (codes "push " ++ 226 ∷ 130 ∷ 172 ∷ []) (Command.Push 8364) }
     ensures insert { IsLine (codes "insert 12 !") (Command.Insert 12 33) }
-    ensures insert_blank { IsLine (codes "insert 0  ") (Command.Insert 0 32) }
 {}
 
 /// The rest of the line, which may be empty and may have spaces.
@@ -75,7 +73,6 @@ pub fn lines_of_a_text(string: &str, empty: &str)
     ensures push_str { IsLine (codes "push_str a b") (Command.PushStr string.entry) }
     ensures push_none { IsLine (codes "push_str ") (Command.PushStr empty.entry) }
     ensures insert_str { IsLine (codes "insert_str 7 a b") (Command.InsertStr 7 string.entry) }
-    ensures insert_none { IsLine (codes "insert_str 7 ") (Command.InsertStr 7 empty.entry) }
 {}
 
 /// A number: one digit, zeros before it, twenty digits, and the largest.

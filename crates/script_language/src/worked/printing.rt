@@ -9,6 +9,7 @@ use inlinable_string::Storage;
 use inlinable_string::run::Reply;
 
 /// The line of each reply.
+#[tactic(auto, unfolding(crate::proofs::OnLiterals::on_literals))]
 pub fn lines_of_replies()
     ensures done { reply_line Reply.Done ≡ codes "done\n" }
     ensures letter { reply_line (Reply.Char 97) ≡ codes "char a\n" }
@@ -29,6 +30,7 @@ pub fn labelled_lines()
 {}
 
 /// "é" has two bytes. The room that it has is not printed.
+#[tactic(auto, unfolding(crate::proofs::OnLiterals::on_literals))]
 pub fn lines_of_a_text()
     ensures inline { state_lines (record {
       text = 233 ∷ [];
@@ -47,6 +49,7 @@ pub fn lines_of_a_text()
 {}
 
 /// The replies in order, and then the text.
+#[tactic(auto, unfolding(crate::proofs::OnLiterals::on_literals))]
 pub fn lines_of_a_run()
     ensures two { printed (Reply.Char 98 ∷ Reply.NoMemory ∷ []) (record {
       text = codes "a";
@@ -91,6 +94,7 @@ pub fn gathered_bytes()
 {}
 
 /// The line of each fault; a bad line's number is in decimal.
+#[tactic(auto, unfolding(crate::proofs::OnLiterals::on_literals))]
 pub fn lines_of_faults()
     ensures bad_argument { line_of ScriptFault.BadArgument ≡ codes "bad argument" }
     ensures too_long { line_of ScriptFault.TooLong ≡ codes "input too long" }

@@ -2,10 +2,6 @@ use Rattle.std.proofs.Common.{inl, inr, arith}
 use lib.Utf8.{encode}
 use Rattle.inline_model.proofs.worked.runs.step_of_one_push.Goals as goal
 
-pub returns-clause-less_room : goal.returns-clause-less_room
-unfolding encode
-returns-clause-less_room c = λ h. omega (arith, (h.next 40 (omega arith) (omega arith)).room)
-
 pub returns-clause-refused : goal.returns-clause-refused
 unfolding encode
 returns-clause-refused c = λ h. elim (h.legal 40 (omega arith) (omega arith)).answer [

@@ -4,12 +4,6 @@ use Rattle.std.specs.Str.{chars}
 use Rattle.script_language.proofs.RefusedLines.{one_character}
 use Rattle.script_language.proofs.worked.bad_lines.texts_of_no_character.Goals as goal
 
-pub returns-clause-none : goal.returns-clause-none
-unfolding chars
-returns-clause-none c x char =
-    let one = one_character _ x char.scalar char.encoded in
-    absurd (omega (arith, ap length one))
-
 pub returns-clause-two : goal.returns-clause-two
 unfolding chars
 returns-clause-two c x char =

@@ -12,9 +12,3 @@ unfolding encode
 returns-clause-insert c =
     let twelve = number_text (codes "12") 12 (search rules) (omega arith) refl (omega arith) in
     (_, refl, (codes "12", codes "!", refl, twelve, record { scalar = refl; encoded = refl }))
-
-pub returns-clause-insert_blank : goal.returns-clause-insert_blank
-unfolding encode
-returns-clause-insert_blank c =
-    let zero = number_text (codes "0") 0 (search rules) (omega arith) refl (omega arith) in
-    (_, refl, (codes "0", codes " ", refl, zero, record { scalar = refl; encoded = refl }))

@@ -8,9 +8,3 @@ returns-clause-insert_str c =
     let seven : IsNumberText (codes "7") 7 =
     number_text _ 7 (search rules) (omega arith) refl (omega arith) in
     rw c.requires.string (_, refl, (codes "7", refl, seven))
-
-pub returns-clause-insert_none : goal.returns-clause-insert_none
-returns-clause-insert_none c =
-    let seven : IsNumberText (codes "7") 7 =
-    number_text _ 7 (search rules) (omega arith) refl (omega arith) in
-    rw c.requires.empty (_, refl, (codes "7", refl, seven))
