@@ -1,19 +1,20 @@
 -- The ids of texts in the order of their texts, and how a new text is found among them.
-use Rattle.std.proofs.Common.{arith, ◌≡◌, ◌↔◌, ℕ, zero, suc, ◌<◌, List, [], ◌∷◌, ◌++◌, length, get_or, Some, Bool, true, false, cond, Ordering, Less, Equal, Greater, is_eq, refl, sym, ap, subst, ◌∙◌, inl, inr}
+use Rattle.std.proofs.Common.{arith, ◌≡◌, ◌↔◌, ℕ, zero, suc, ◌<◌, List, [], ◌∷◌, ◌++◌, length, get_or, Some, Bool, true, false, cond, is_eq, refl, sym, ap, subst, ◌∙◌, inl, inr}
 use Rattle.std.specs.Prelude.{slice_get}
 use Rattle.std.specs.List.{AllByRecursion, insert}
 use Rattle.std.specs.List.Sorted.{IsStrictlySortedBy}
 use Rattle.std.specs.Map.{keys_of, lookup}
 use Rattle.std.specs.BTreeMap.{is_at}
 use Rattle.std.specs.Ordering.{eq_by_cmp}
-use Rattle.std.proofs.lemmas.Cmp.{nat_list_cmp_total, eq_by_cmp_equiv}
+use Rattle.std.specs.Cmp.{Equal-is}
+use Rattle.std.proofs.lemmas.Cmp.{nat_list_cmp_total, tied_itself, eq_by_cmp_equiv}
 use Rattle.std.proofs.lemmas.List.{get_or_append_left, length-append}
 use Rattle.std.proofs.lemmas.Map.{lookup-insert, none_passes_from_lookup}
 use Rattle.std.proofs.lemmas.Map.Lookups.{exact_bytes}
 use Rattle.std.proofs.Math.Seq.{get_or-append_seam}
 use Rattle.inline_uses.specs.Symbols.{key_order, IsGap, HaveOneId, text_at, with_ids, IsOrderOf}
-use Rattle.inline_uses.proofs.Search.{itself, seen_at, inserted, inserted_seen, none, ordered_put}
-use Rattle.inline_uses.proofs.Tables.{at_push, before_push, from_push}
+use Rattle.inline_uses.proofs.Search.{seen_at, inserted, inserted_seen, none, ordered_put}
+use Rattle.inline_uses.proofs.Tables.{at_push, before_append, from_push}
 
 -- no text has two ids
 pub once : (texts : List (List ℕ)) (ids : List ℕ) → IsOrderOf texts ids → HaveOneId texts
@@ -44,11 +45,6 @@ with_ids_more texts text (id ∷ ids) all =
     rw (get_or_append_left texts (text ∷ []) [] id all.0)
     (ap (λ rest. (text_at texts id, id) ∷ rest) (with_ids_more texts text ids all.1))
 
-equal : (o : Ordering) → is_eq o ≡ true → o ≡ Equal
-equal Less h = cc
-equal Equal h = refl
-equal Greater h = cc
-
 module _ (texts : List (List ℕ)) (ids : List ℕ) (text : List ℕ) (at : ℕ)
     (order : IsOrderOf texts ids) (gap : IsGap (keys_of (with_ids texts ids)) text at)
   where
@@ -70,7 +66,7 @@ module _ (texts : List (List ℕ)) (ids : List ℕ) (text : List ℕ) (at : ℕ)
         id)
         ↔ (slice_get (texts ++ text ∷ []) id ≡ Some q)
     found_anew q id true is =
-        let same : text ≡ q = exact_bytes text q (equal (key_order text q) is) in (
+        let same : text ≡ q = exact_bytes text q ((Equal-is (key_order text q)).0 is) in (
           (λ h. let e : length texts ≡ id = cc in
               subst (λ n. slice_get (texts ++ text ∷ []) n ≡ Some q) e
               (at_push texts text ∙ ap Some same)),
@@ -80,11 +76,12 @@ module _ (texts : List (List ℕ)) (ids : List ℕ) (text : List ℕ) (at : ℕ)
           ],
         )
     found_anew q id false is = (
-      (λ h. before_push texts q text id ((order.found q id).0 h)),
+      (λ h. before_append texts (text ∷ []) id q ((order.found q id).0 h)),
       λ h. elim (from_push texts q text id h) [
         | inl old ↦ (order.found q id).1 old
         | inr new ↦ let e : eq_by_cmp key_order text q ≡ true
-            = subst (λ x. eq_by_cmp key_order text x ≡ true) new.1 (ap is_eq (itself text)) in cc
+            = subst (λ x. eq_by_cmp key_order text x ≡ true) new.1
+            (ap is_eq (tied_itself nat_list_cmp_total text)) in cc
       ],
     )
 

@@ -18,7 +18,7 @@ use Rattle.inline_uses.specs.declared.tree.Fault.{Fault}
 use Rattle.inline_uses.specs.declared.tree.Node.{Node}
 use Rattle.inline_uses.proofs.Listed.{IsUnderLate, all_late, from_append, IsBelow, AreBefore, not_taken}
 use Rattle.inline_uses.proofs.Shown.{Starts, same_below}
-use Rattle.inline_uses.proofs.Tables.{at_push, from_push}
+use Rattle.inline_uses.proofs.Tables.{at_push, before_append, from_push}
 use Rattle.inline_uses.proofs.Under.{next_of}
 
 -- keys lead into the value where they lead to a node, or into the members that are left
@@ -49,12 +49,6 @@ all_read nodes place d read = λ key keys utf8 all.
       ]),
       λ leads. s.1 (inl leads),
     )
-
-before_append : {X : Type 0} (xs ys : List X) (i : ℕ) (x : X) → slice_get xs i ≡ Some x
-    → slice_get (xs ++ ys) i ≡ Some x
-before_append [] ys i x is = cc
-before_append (z ∷ xs) ys zero x is = is
-before_append (z ∷ xs) ys (suc i) x is = before_append xs ys i x is
 
 other_key : {A : Type 0} (o : Ordering) (a b : A) → ¬ (o ≡ Equal) → match_ordering o a b a ≡ a
 other_key Less a b not = refl

@@ -14,7 +14,7 @@ use Rattle.std.proofs.lemmas.List.{append_assoc, length-append}
 use Rattle.serde_json.specs.Data.{Data, Members, member}
 use Rattle.inline_uses.specs.Tree.{node_at, IsPlaceOf, IsTree, place_order, AreFound, Leads, listed, listed_members}
 use Rattle.inline_uses.specs.declared.tree.Node.{Node}
-use Rattle.inline_uses.proofs.Tables.{at_push, before_push, from_push, one_id_pushed}
+use Rattle.inline_uses.proofs.Tables.{at_push, before_append, from_push, one_id_pushed}
 
 pub grown : (nodes : List Node) (place : Option ℕ) (key : List ℕ) → IsTree nodes
     → IsPlaceOf nodes place → ((id : ℕ) → ¬ (slice_get nodes id ≡ Some (node_at place key)))
@@ -71,7 +71,7 @@ found_other : (nodes : List Node) (node other : Node) (old new : Option ℕ) (id
     → ¬ (node ≡ other) → (old ≡ Some id) ↔ (slice_get nodes id ≡ Some other)
     → (new ≡ Some id) ↔ (slice_get (nodes ++ node ∷ []) id ≡ Some other)
 found_other nodes node other old new id is differs was = (
-  (λ h. before_push nodes other node id (was.0 (sym is ∙ h))),
+  (λ h. before_append nodes (node ∷ []) id other (was.0 (sym is ∙ h))),
   λ h. elim (from_push nodes other node id h) [
     | inl older ↦ is ∙ was.1 older
     | inr newer ↦ absurd (differs newer.1)
