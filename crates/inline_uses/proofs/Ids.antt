@@ -1,5 +1,5 @@
 -- The ids of texts in the order of their texts, and how a new text is found among them.
-use Rattle.std.proofs.Common.{arith, ◌≡◌, ◌↔◌, ℕ, zero, suc, ◌<◌, List, [], ◌∷◌, ◌++◌, length, get_or, Some, Bool, true, false, cond, is_eq, refl, sym, ap, subst, ◌∙◌, inl, inr}
+use Rattle.std.proofs.Common.{arith, ◌≡◌, ◌↔◌, ℕ, suc, ◌<◌, List, [], ◌∷◌, ◌++◌, length, take, drop, get_or, Some, Bool, true, false, cond, is_eq, refl, sym, ap, subst, ◌∙◌, inl, inr}
 use Rattle.std.specs.Prelude.{slice_get}
 use Rattle.std.specs.List.{AllByRecursion, insert}
 use Rattle.std.specs.List.Sorted.{IsStrictlySortedBy}
@@ -9,6 +9,7 @@ use Rattle.std.specs.Ordering.{eq_by_cmp}
 use Rattle.std.specs.Cmp.{Equal-is}
 use Rattle.std.proofs.lemmas.Cmp.{nat_list_cmp_total, tied_itself, eq_by_cmp_equiv}
 use Rattle.std.proofs.lemmas.List.{get_or_append_left, length-append}
+use Rattle.std.proofs.lemmas.List.Elements.{All-from_recursion, recursion_from_All, All-append, All-cons, All-drop, All-take, All-weaker}
 use Rattle.std.proofs.lemmas.Map.{lookup-insert, none_passes_from_lookup}
 use Rattle.std.proofs.lemmas.Map.Lookups.{exact_bytes}
 use Rattle.std.proofs.Math.Seq.{get_or-append_seam}
@@ -22,19 +23,6 @@ once texts ids order i j text is js =
     let e = (order.found text i).1 is in
     let f = (order.found text j).1 js in
     cc
-
--- each id of a list has what is so of all, also after a new one that has it
-all_inserted : (P : ℕ → Type 0) (xs : List ℕ) (at x : ℕ) → AllByRecursion P xs → P x
-    → AllByRecursion P (insert xs at x)
-all_inserted P [] zero x all p = (p, tt)
-all_inserted P [] (suc at) x all p = (p, tt)
-all_inserted P (y ∷ xs) zero x all p = (p, all)
-all_inserted P (y ∷ xs) (suc at) x all p = (all.0, all_inserted P xs at x all.1 p)
-
-all_below_more : (xs : List ℕ) (n : ℕ) → AllByRecursion (λ x. x < n) xs
-    → AllByRecursion (λ x. x < suc n) xs
-all_below_more [] n all = tt
-all_below_more (x ∷ xs) n all = (omega (arith, all.0), all_below_more xs n all.1)
 
 -- ids keep their texts when there is one more
 with_ids_more : (texts : List (List ℕ)) (text : List ℕ) (ids : List ℕ)
@@ -91,14 +79,18 @@ module _ (texts : List (List ℕ)) (ids : List ℕ) (text : List ℕ) (at : ℕ)
         let es = with_ids texts ids in
         let count : length (texts ++ text ∷ []) ≡ suc n
         = omega (arith, length-append texts (text ∷ [])) in
+        let below = All-weaker (λ id. id < n) (λ id. id < suc n) (λ id less. omega (arith, less)) ids
+        (All-from_recursion (λ id. id < n) ids order.within) in
         let looks : (q : List ℕ) → lookup (is_at (key_order q)) (insert es at (text, n))
         ≡ cond (eq_by_cmp key_order text q) (Some n) (lookup (is_at (key_order q)) es)
         = λ q. lookup-insert (eq_by_cmp_equiv nat_list_cmp_total) text n q es at
         (none_passes_from_lookup (eq_by_cmp key_order text) es (none text es at gap).0) in
         record {
           sorted = rw (grown, ← inserted text es at n gap) (ordered_put es text n order.sorted);
-          within = rw count (all_inserted (λ id. id < suc n) ids at n
-              (all_below_more ids n order.within) (omega arith));
+          within = rw count (recursion_from_All (λ id. id < suc n) (insert ids at n)
+              (All-append (λ id. id < suc n) (take at ids) (n ∷ drop at ids)
+              (All-take (λ id. id < suc n) at ids below) (All-cons (λ id. id < suc n) n _
+              (omega arith) (All-drop (λ id. id < suc n) at ids below))));
           found = λ q id. rw (grown, looks q)
               (found_anew q id (eq_by_cmp key_order text q) refl);
         }

@@ -3,9 +3,11 @@ use Rattle.std.proofs.Common.{arith, ◌≡◌, ℕ, zero, suc, ◌+◌, ◌<◌
 use Rattle.std.specs.Prelude.{slice_get}
 use Rattle.std.proofs.lemmas.Cmp.{nat_list_cmp_total, tied_itself}
 use Rattle.std.proofs.lemmas.List.{get_or-map, length-map, map-append, map-set, take-map, drop-map}
+use Rattle.std.proofs.lemmas.List.Elements.{All-from_recursion, recursion_from_All, All-weaker}
 use Rattle.std.proofs.lemmas.List.Sorted.{searchable_from_sorted}
 use Rattle.std.proofs.lemmas.Map.Keys.{Less-from_sorted}
 use Rattle.std.proofs.lemmas.Map.Lookups.{exact_bytes}
+use Rattle.std.proofs.lemmas.Map.Views.{All-keys-insert_entry, All-map-remove_entry}
 use Rattle.std.proofs.lemmas.Option.{slice_get-get_or, slice_get-map, slice_get_within, get_or_from_slice_get}
 use Rattle.std.specs.List.{AllByRecursion, insert, remove, filter}
 use Rattle.std.specs.List.Sorted.{IsStrictlySortedBy, IsSearchInRange, IsBinarySearchResult, IsNonDecreasingBy}
@@ -184,26 +186,6 @@ run test (e ∷ es) zero (suc n) before within after =
     (λ k l b. after (suc k) (omega arith) (omega arith))))
 
 -- the order stays
-all_put : {X : Type 0} (P : List ℕ → Type 0) (es : List (List ℕ × X)) (key : List ℕ) (value : X)
-    → AllByRecursion P (keys_of es) → P key
-    → AllByRecursion P (keys_of (insert_entry key_order es key value))
-all_put P [] key value all p = (p, tt)
-all_put P (e ∷ es) key value all p =
-    by (key_order key e.0) (all_put P es key value all.1 p)
-  where
-    by : (o : Ordering) → AllByRecursion P (keys_of (insert_entry key_order es key value))
-        → AllByRecursion P (keys_of (match_ordering o ((key, value) ∷ e ∷ es) ((e.0, value) ∷ es)
-        (e ∷ insert_entry key_order es key value)))
-    by Less rest = (p, all)
-    by Equal rest = all
-    by Greater rest = (all.0, rest)
-
-all_above : (k q : List ℕ) (ks : List (List ℕ)) → key_order k q ≡ Less
-    → AllByRecursion (λ x. key_order q x ≡ Less) ks → AllByRecursion (λ x. key_order k x ≡ Less) ks
-all_above k q [] h all = tt
-all_above k q (x ∷ ks) h all =
-    (nat_list_cmp_total.trans k q x h all.0, all_above k q ks h all.1)
-
 pub ordered_put : {X : Type 0} (es : List (List ℕ × X)) (key : List ℕ) (value : X)
     → IsStrictlySortedBy key_order (keys_of es)
     → IsStrictlySortedBy key_order (keys_of (insert_entry key_order es key value))
@@ -217,22 +199,23 @@ ordered_put (e ∷ es) key value sorted =
         → IsStrictlySortedBy key_order
         (keys_of (match_ordering o ((key, value) ∷ e ∷ es) ((e.0, value) ∷ es)
         (e ∷ insert_entry key_order es key value)))
-    by Less is rest = ((is, all_above key e.0 (keys_of es) is sorted.0), sorted)
+    by Less is rest = (
+      (
+        is,
+        recursion_from_All (λ q. key_order key q ≡ Less) (keys_of es)
+            (All-weaker (λ q. key_order e.0 q ≡ Less) (λ q. key_order key q ≡ Less)
+            (λ q less. nat_list_cmp_total.trans key e.0 q is less) (keys_of es)
+            (All-from_recursion _ (keys_of es) sorted.0)),
+      ),
+      sorted,
+    )
     by Equal is rest = sorted
     by Greater is rest = (
-      all_put (λ q. key_order e.0 q ≡ Less) es key value sorted.0 (turned key e.0 Greater is),
+      recursion_from_All (λ q. key_order e.0 q ≡ Less) _
+          (All-keys-insert_entry key_order key value (λ q. key_order e.0 q ≡ Less) es
+          (All-from_recursion _ (keys_of es) sorted.0) (turned key e.0 Greater is)),
       rest,
     )
-
-all_left : {X : Type 0} (P : List ℕ → Type 0) (es : List (List ℕ × X)) (test : List ℕ → Bool)
-    → AllByRecursion P (keys_of es) → AllByRecursion P (keys_of (remove_entry test es))
-all_left P [] test all = tt
-all_left P (e ∷ es) test all = by (test e.0) (all_left P es test all.1)
-  where
-    by : (b : Bool) → AllByRecursion P (keys_of (remove_entry test es))
-        → AllByRecursion P (keys_of (cond b es (e ∷ remove_entry test es)))
-    by true rest = all.1
-    by false rest = (all.0, rest)
 
 pub ordered_left : {X : Type 0} (es : List (List ℕ × X)) (test : List ℕ → Bool)
     → IsStrictlySortedBy key_order (keys_of es)
@@ -244,7 +227,12 @@ ordered_left (e ∷ es) test sorted = by (test e.0) (ordered_left es test sorted
     by : (b : Bool) → IsStrictlySortedBy key_order (keys_of (remove_entry test es))
         → IsStrictlySortedBy key_order (keys_of (cond b es (e ∷ remove_entry test es)))
     by true rest = sorted.1
-    by false rest = (all_left _ es test sorted.0, rest)
+    by false rest = (
+      recursion_from_All (λ q. key_order e.0 q ≡ Less) (keys_of (remove_entry test es))
+          (All-map-remove_entry test (λ f. f.0) (λ q. key_order e.0 q ≡ Less) es
+          (All-from_recursion _ (keys_of es) sorted.0)),
+      rest,
+    )
 
 -- an edit of a list is one of what is seen of it
 pub inserted_seen : {A B : Type 0} (f : A → B) (xs : List A) (at : ℕ) (x : A)
