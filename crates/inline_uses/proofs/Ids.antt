@@ -79,7 +79,8 @@ module _ (texts : List (List ℕ)) (ids : List ℕ) (text : List ℕ) (at : ℕ)
         let es = with_ids texts ids in
         let count : length (texts ++ text ∷ []) ≡ suc n
         = omega (arith, length-append texts (text ∷ [])) in
-        let below = All-weaker (λ id. id < n) (λ id. id < suc n) (λ id less. omega (arith, less)) ids
+        let below = All-weaker (λ id. id < n) (λ id. id < suc n)
+        (λ id less. omega (arith, less)) ids
         (All-from_recursion (λ id. id < n) ids order.within) in
         let looks : (q : List ℕ) → lookup (is_at (key_order q)) (insert es at (text, n))
         ≡ cond (eq_by_cmp key_order text q) (Some n) (lookup (is_at (key_order q)) es)
