@@ -1,19 +1,21 @@
 -- The ids of texts in the order of their texts, and how a new text is found among them.
-use Rattle.std.proofs.Common.{arith, ◌≡◌, ◌↔◌, ℕ, zero, suc, ◌<◌, List, [], ◌∷◌, ◌++◌, length, get_or, Some, Bool, true, false, cond, Ordering, Less, Equal, Greater, is_eq, refl, sym, ap, subst, ◌∙◌, inl, inr}
+use Rattle.std.proofs.Common.{arith, ◌≡◌, ◌↔◌, ℕ, suc, ◌<◌, List, [], ◌∷◌, ◌++◌, length, take, drop, get_or, Some, Bool, true, false, cond, is_eq, refl, sym, ap, subst, ◌∙◌, inl, inr}
 use Rattle.std.specs.Prelude.{slice_get}
 use Rattle.std.specs.List.{AllByRecursion, insert}
 use Rattle.std.specs.List.Sorted.{IsStrictlySortedBy}
 use Rattle.std.specs.Map.{keys_of, lookup}
 use Rattle.std.specs.BTreeMap.{is_at}
 use Rattle.std.specs.Ordering.{eq_by_cmp}
-use Rattle.std.proofs.lemmas.Cmp.{nat_list_cmp_total, eq_by_cmp_equiv}
+use Rattle.std.specs.Cmp.{Equal-is}
+use Rattle.std.proofs.lemmas.Cmp.{nat_list_cmp_total, tied_itself, eq_by_cmp_equiv}
 use Rattle.std.proofs.lemmas.List.{get_or_append_left, length-append}
+use Rattle.std.proofs.lemmas.List.Elements.{All-from_recursion, recursion_from_All, All-append, All-cons, All-drop, All-take, All-weaker}
 use Rattle.std.proofs.lemmas.Map.{lookup-insert, none_passes_from_lookup}
 use Rattle.std.proofs.lemmas.Map.Lookups.{exact_bytes}
 use Rattle.std.proofs.Math.Seq.{get_or-append_seam}
 use Rattle.inline_uses.specs.Symbols.{key_order, IsGap, HaveOneId, text_at, with_ids, IsOrderOf}
-use Rattle.inline_uses.proofs.Search.{itself, seen_at, inserted, inserted_seen, none, ordered_put}
-use Rattle.inline_uses.proofs.Tables.{at_push, before_push, from_push}
+use Rattle.inline_uses.proofs.Search.{seen_at, inserted, inserted_seen, none, ordered_put}
+use Rattle.inline_uses.proofs.Tables.{at_push, before_append, from_push}
 
 -- no text has two ids
 pub once : (texts : List (List ℕ)) (ids : List ℕ) → IsOrderOf texts ids → HaveOneId texts
@@ -21,19 +23,6 @@ once texts ids order i j text is js =
     let e = (order.found text i).1 is in
     let f = (order.found text j).1 js in
     cc
-
--- each id of a list has what is so of all, also after a new one that has it
-all_inserted : (P : ℕ → Type 0) (xs : List ℕ) (at x : ℕ) → AllByRecursion P xs → P x
-    → AllByRecursion P (insert xs at x)
-all_inserted P [] zero x all p = (p, tt)
-all_inserted P [] (suc at) x all p = (p, tt)
-all_inserted P (y ∷ xs) zero x all p = (p, all)
-all_inserted P (y ∷ xs) (suc at) x all p = (all.0, all_inserted P xs at x all.1 p)
-
-all_below_more : (xs : List ℕ) (n : ℕ) → AllByRecursion (λ x. x < n) xs
-    → AllByRecursion (λ x. x < suc n) xs
-all_below_more [] n all = tt
-all_below_more (x ∷ xs) n all = (omega (arith, all.0), all_below_more xs n all.1)
 
 -- ids keep their texts when there is one more
 with_ids_more : (texts : List (List ℕ)) (text : List ℕ) (ids : List ℕ)
@@ -43,11 +32,6 @@ with_ids_more texts text [] all = refl
 with_ids_more texts text (id ∷ ids) all =
     rw (get_or_append_left texts (text ∷ []) [] id all.0)
     (ap (λ rest. (text_at texts id, id) ∷ rest) (with_ids_more texts text ids all.1))
-
-equal : (o : Ordering) → is_eq o ≡ true → o ≡ Equal
-equal Less h = cc
-equal Equal h = refl
-equal Greater h = cc
 
 module _ (texts : List (List ℕ)) (ids : List ℕ) (text : List ℕ) (at : ℕ)
     (order : IsOrderOf texts ids) (gap : IsGap (keys_of (with_ids texts ids)) text at)
@@ -70,7 +54,7 @@ module _ (texts : List (List ℕ)) (ids : List ℕ) (text : List ℕ) (at : ℕ)
         id)
         ↔ (slice_get (texts ++ text ∷ []) id ≡ Some q)
     found_anew q id true is =
-        let same : text ≡ q = exact_bytes text q (equal (key_order text q) is) in (
+        let same : text ≡ q = exact_bytes text q ((Equal-is (key_order text q)).0 is) in (
           (λ h. let e : length texts ≡ id = cc in
               subst (λ n. slice_get (texts ++ text ∷ []) n ≡ Some q) e
               (at_push texts text ∙ ap Some same)),
@@ -80,11 +64,12 @@ module _ (texts : List (List ℕ)) (ids : List ℕ) (text : List ℕ) (at : ℕ)
           ],
         )
     found_anew q id false is = (
-      (λ h. before_push texts q text id ((order.found q id).0 h)),
+      (λ h. before_append texts (text ∷ []) id q ((order.found q id).0 h)),
       λ h. elim (from_push texts q text id h) [
         | inl old ↦ (order.found q id).1 old
         | inr new ↦ let e : eq_by_cmp key_order text q ≡ true
-            = subst (λ x. eq_by_cmp key_order text x ≡ true) new.1 (ap is_eq (itself text)) in cc
+            = subst (λ x. eq_by_cmp key_order text x ≡ true) new.1
+            (ap is_eq (tied_itself nat_list_cmp_total text)) in cc
       ],
     )
 
@@ -94,14 +79,19 @@ module _ (texts : List (List ℕ)) (ids : List ℕ) (text : List ℕ) (at : ℕ)
         let es = with_ids texts ids in
         let count : length (texts ++ text ∷ []) ≡ suc n
         = omega (arith, length-append texts (text ∷ [])) in
+        let below = All-weaker (λ id. id < n) (λ id. id < suc n)
+        (λ id less. omega (arith, less)) ids
+        (All-from_recursion (λ id. id < n) ids order.within) in
         let looks : (q : List ℕ) → lookup (is_at (key_order q)) (insert es at (text, n))
         ≡ cond (eq_by_cmp key_order text q) (Some n) (lookup (is_at (key_order q)) es)
         = λ q. lookup-insert (eq_by_cmp_equiv nat_list_cmp_total) text n q es at
         (none_passes_from_lookup (eq_by_cmp key_order text) es (none text es at gap).0) in
         record {
           sorted = rw (grown, ← inserted text es at n gap) (ordered_put es text n order.sorted);
-          within = rw count (all_inserted (λ id. id < suc n) ids at n
-              (all_below_more ids n order.within) (omega arith));
+          within = rw count (recursion_from_All (λ id. id < suc n) (insert ids at n)
+              (All-append (λ id. id < suc n) (take at ids) (n ∷ drop at ids)
+              (All-take (λ id. id < suc n) at ids below) (All-cons (λ id. id < suc n) n _
+              (omega arith) (All-drop (λ id. id < suc n) at ids below))));
           found = λ q id. rw (grown, looks q)
               (found_anew q id (eq_by_cmp key_order text q) refl);
         }

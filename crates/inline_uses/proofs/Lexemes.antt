@@ -8,12 +8,13 @@ use Rattle.inline_uses.specs.declared.tokens.Fault.TheVariants.{TooLong, Untermi
 use Rattle.std.specs.Str.Pattern.{LacksTextAt}
 use Rattle.std.specs.List.{take_while}
 use Rattle.std.proofs.lemmas.List.{take-append-drop}
+use Rattle.std.proofs.Math.Seq.{drop-append_seam, take-append_seam}
 use Rattle.std.proofs.lemmas.List.Sums.{take_while-cons, sum_by-cons}
 use Rattle.std.proofs.lemmas.Str.{chars-append, encodes-chars, encodes-append, encodes_same, IsUtf8-take, IsUtf8-drop, IsUtf8-past_char, IsCharBoundary-at_seam, IsCharBoundary-before_ascii, length-encode, len_utf8_bounds, chars_past_char}
 use Rattle.inlinable_string.specs.Text.{bytes_of}
 use Rattle.inline_uses.specs.declared.tokens.Kind.{Kind}
 use Rattle.inline_uses.specs.declared.tokens.Kind.TheVariants.{Space, Word, Number, LineComment, BlockComment, Text, Mark}
-use Rattle.inline_uses.specs.Tokens.{kind_of, kind_at, continues, escape_of, with_char, with_point, fraction_of, number_of, unescaped_from, unescaped, HasNoClose, newlines, IsToken, IsStop, StopsAt}
+use Rattle.inline_uses.specs.Tokens.{kind_of, kind_at, continues, escape_of, with_char, unescaped_from, unescaped, HasNoClose, newlines, IsToken, IsStop, StopsAt}
 
 pub text_begins : (c : ℕ) (next : Option ℕ) → kind_of c next ≡ Text → c ≡ 34
 text_begins c None is = grind arith
@@ -126,14 +127,6 @@ shorter bs rest c is =
     let count = ap length is ∙ length-append (encode_utf8 c) rest in
     omega (arith, count, length-encode c, (len_utf8_bounds c).0)
 
-pub drop_front : (xs ys : List ℕ) → drop (length xs) (xs ++ ys) ≡ ys
-drop_front [] ys = refl
-drop_front (x ∷ xs) ys = drop_front xs ys
-
-take_front : (xs ys : List ℕ) → take (length xs) (xs ++ ys) ≡ xs
-take_front [] ys = refl
-take_front (x ∷ xs) ys = ap (λ l. x ∷ l) (take_front xs ys)
-
 -- where the characters of a source fall into a front and those of a rest, so do its bytes
 module _ (front source rest : List ℕ) (utf8 : IsUtf8 source) (utf8_rest : IsUtf8 rest)
     (is : chars source ≡ front ++ chars rest) where
@@ -159,36 +152,16 @@ module _ (front source rest : List ℕ) (utf8 : IsUtf8 source) (utf8_rest : IsUt
   pub back_is : drop (length source - length rest) source ≡ rest
   back_is =
       ap (λ i. drop i source) (sym offset) ∙ ap (drop (length (bytes_of front))) front_bytes
-      ∙ drop_front (bytes_of front) rest
+      ∙ drop-append_seam (bytes_of front) rest
 
   pub front_is : chars (take (length source - length rest) source) ≡ front
   front_is =
       let cut : take (length source - length rest) source ≡ bytes_of front =
       ap (λ i. take i source) (sym offset) ∙ ap (take (length (bytes_of front))) front_bytes
-      ∙ take_front (bytes_of front) rest in
+      ∙ take-append_seam (bytes_of front) rest in
       encodes_same (chars (take (length source - length rest) source)) front
       (encodes-chars (take (length source - length rest) source) (IsUtf8-take source
       (length source - length rest) utf8 seam) ∙ cut)
-
-pub number_from : (source digits rest : List ℕ) → source ≡ digits ++ rest
-    → digits ≡ take_while (continues Number) source → number_of source ≡ digits ++ fraction_of rest
-number_from source digits rest whole is =
-    let after : drop (length digits) source ≡ rest =
-    ap (drop (length digits)) whole ∙ drop_front digits rest in
-    rw (← is, after) refl
-
-pub no_point : (source rest : List ℕ) (c : ℕ) → source ≡ c ∷ rest → c ≢ 46
-    → fraction_of source ≡ []
-no_point source rest c is other = rw is (grind arith)
-
-pub no_digit : (source rest : List ℕ) → source ≡ 46 ∷ rest
-    → take_while (continues Number) rest ≡ [] → fraction_of source ≡ []
-no_digit source rest is none = ap fraction_of is ∙ ap with_point none
-
-pub fraction_from : (source rest digits : List ℕ) → source ≡ 46 ∷ rest
-    → digits ≡ take_while (continues Number) rest → digits ≢ [] → fraction_of source ≡ 46 ∷ digits
-fraction_from source rest [] is taken some = absurd (some refl)
-fraction_from source rest (d ∷ ds) is taken some = ap fraction_of is ∙ ap with_point (sym taken)
 
 -- a close of the characters is one of the bytes
 close_bytes : (cs front back : List ℕ) → cs ≡ front ++ 42 ∷ 47 ∷ back
@@ -204,7 +177,7 @@ no_close s utf8 none front back is =
     let count = ap length bytes ∙ length-append (bytes_of front) (42 ∷ 47 ∷ bytes_of back) in
     none (length (bytes_of front)) (omega (arith, count)) (bytes_of back)
     (ap (drop (length (bytes_of front))) bytes
-    ∙ drop_front (bytes_of front) (42 ∷ 47 ∷ bytes_of back))
+    ∙ drop-append_seam (bytes_of front) (42 ∷ 47 ∷ bytes_of back))
 
 head_at : (i : ℕ) (s rest : List ℕ) (x : ℕ) → drop i s ≡ x ∷ rest → get_or s i 0 ≡ x
 head_at zero s rest x is = ap (λ l. get_or l 0 0) is
@@ -249,7 +222,7 @@ module _ (s rest : List ℕ) (i : ℕ) (utf8 : IsUtf8 s) (within : i < length s)
       let front_len = length-take-le i s (omega (arith, within)) in
       none (length (bytes_of front)) (omega (arith, count, front_len))
       (bytes_of back ++ 47 ∷ rest) (ap (drop (length (bytes_of front))) all
-      ∙ drop_front (bytes_of front) (42 ∷ 47 ∷ (bytes_of back ++ 47 ∷ rest)))
+      ∙ drop-append_seam (bytes_of front) (42 ∷ 47 ∷ (bytes_of back ++ 47 ∷ rest)))
 
 pub stops : (N : ℕ) (fault : Fault) (word rest : List ℕ) → IsStop fault rest
     → StopsAt N fault word rest
@@ -268,18 +241,6 @@ taken_some t c cs text holds is none =
     in
     let bad : ⊥ = cc in absurd bad
 
-number_some : (c : ℕ) (cs text : List ℕ) → continues Number c ≡ true
-    → text ≡ number_of (c ∷ cs) → text ≢ []
-number_some c cs text holds is none =
-    let t = continues Number in
-    let ds : take_while (continues Number) (c ∷ cs) ≡ c ∷ take_while (continues Number) cs =
-    take_while-cons (continues Number) c cs
-    ∙ ap (λ b. cond b (c ∷ take_while (continues Number) cs) []) holds in
-    let e : c ∷ (take_while (continues Number) cs ++ fraction_of (drop (length
-    (c ∷ take_while (continues Number) cs)) (c ∷ cs))) ≡ [] =
-    sym (ap (λ l. l ++ fraction_of (drop (length l) (c ∷ cs))) ds) ∙ sym is ∙ none in
-    let bad : ⊥ = cc in absurd bad
-
 begun : (kind : Kind) (c : ℕ) (cs text word : List ℕ) → kind_of c (slice_get cs 0) ≡ kind
     → IsToken kind (c ∷ cs) text word → text ≢ []
 begun Space c cs text word k is =
@@ -289,7 +250,7 @@ begun LineComment c cs text word k is =
 begun Word c cs text word k is =
     taken_some (continues Word) c cs text (word_goes_on c (slice_get cs 0) k) is.0
 begun Number c cs text word k is =
-    number_some c cs text (number_goes_on c (slice_get cs 0) k) is.0
+    taken_some (continues Number) c cs text (number_goes_on c (slice_get cs 0) k) is.0
 begun BlockComment c cs text word k is =
     some_here text _ 47 is.1
 begun Text c cs text word k is = some_here text _ 34 is.1

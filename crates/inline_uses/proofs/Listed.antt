@@ -1,7 +1,7 @@
 -- The nodes that the members of a JSON object add to a tree, in the order of their keys.
 use Rattle.std.proofs.Common.{◌≡◌, ◌⊎◌, ◌<◌, ◌≤◌, ◌+◌, inl, inr, ℕ, zero, suc, List, [], ◌∷◌, ◌++◌, length, Option, Some, Ordering, Less, String, string_bytes, refl, ap, subst, arith}
 use Rattle.std.specs.Prelude.{slice_get, ⊤}
-use Rattle.std.specs.List.{AllByRecursion}
+use Rattle.std.specs.List.{All, AllByRecursion}
 use Rattle.std.specs.List.Sorted.{IsStrictlySortedBy}
 use Rattle.std.specs.Map.{keys_of}
 use Rattle.std.specs.Cmp.Lexicographic.{slice_cmp}
@@ -10,7 +10,8 @@ use Rattle.std.specs.Str.{chars}
 use Rattle.std.specs.declared.alloc.Global.{Global}
 use Rattle.std.proofs.lemmas.Cmp.{tied_itself, nat_list_cmp_total}
 use Rattle.std.proofs.lemmas.List.{length-append}
-use Rattle.std.proofs.lemmas.Option.{slice_get_within}
+use Rattle.std.proofs.lemmas.List.Elements.{All-append, All-cons, All-get_or, All-nil}
+use Rattle.std.proofs.lemmas.Option.{get_or_from_slice_get, slice_get_within}
 use Rattle.inlinable_string.specs.Text.{bytes_of}
 use Rattle.serde_json.specs.Data.{Data, null, boolean, number, string, array, object, Members, no_members, member}
 use Rattle.serde_json.specs.View.{members_view}
@@ -24,40 +25,29 @@ use Rattle.inline_uses.proofs.Tables.{from_push}
 abbrev pub IsUnderLate : ℕ → Node → Type 0
 IsUnderLate n node = (p : ℕ) × (node.parent ≡ Some p) × (n ≤ p)
 
-all_append : {X : Type 0} (P : X → Type 0) (xs ys : List X) → AllByRecursion P xs
-    → AllByRecursion P ys → AllByRecursion P (xs ++ ys)
-all_append P [] ys h k = k
-all_append P (x ∷ xs) ys h k = (h.0, all_append P xs ys h.1 k)
-
 mutual
   pub all_late : (m n p : ℕ) (d : Data) → m ≤ n → m ≤ p
-      → AllByRecursion (IsUnderLate m) (listed n (Some p) d)
-  all_late m n p null h k = tt
-  all_late m n p (boolean b) h k = tt
-  all_late m n p (number x) h k = tt
-  all_late m n p (string s) h k = tt
-  all_late m n p (array ds) h k = tt
+      → All (IsUnderLate m) (listed n (Some p) d)
+  all_late m n p null h k = All-nil _
+  all_late m n p (boolean b) h k = All-nil _
+  all_late m n p (number x) h k = All-nil _
+  all_late m n p (string s) h k = All-nil _
+  all_late m n p (array ds) h k = All-nil _
   all_late m n p (object ms) h k = members_late m n p ms h k
 
   members_late : (m n p : ℕ) (ms : Members) → m ≤ n → m ≤ p
-      → AllByRecursion (IsUnderLate m) (listed_members n (Some p) ms)
-  members_late m n p no_members h k = tt
+      → All (IsUnderLate m) (listed_members n (Some p) ms)
+  members_late m n p no_members h k = All-nil _
   members_late m n p (member key d ms) h k =
-      let own = listed (suc n) (Some n) d in (
-        (p, refl, k),
-        all_append (IsUnderLate m) own _ (all_late m (suc n) n d (omega arith) h)
-            (members_late m (suc n + length own) p ms (omega arith) k),
-      )
-
-at_index : {X : Type 0} (P : X → Type 0) (xs : List X) (i : ℕ) (x : X) → AllByRecursion P xs
-    → slice_get xs i ≡ Some x → P x
-at_index P [] i x all is = cc
-at_index P (y ∷ xs) zero x all is = let e : y ≡ x = cc in subst P e all.0
-at_index P (y ∷ xs) (suc i) x all is = at_index P xs i x all.1 is
+      let own = listed (suc n) (Some n) d in
+      All-cons (IsUnderLate m) (node_at (Some p) (chars key)) _ (p, refl, k)
+      (All-append (IsUnderLate m) own _ (all_late m (suc n) n d (omega arith) h)
+      (members_late m (suc n + length own) p ms (omega arith) k))
 
 pub from_append : {X : Type 0} (P : X → Type 0) (xs ys : List X) (i : ℕ) (x : X)
-    → AllByRecursion P ys → slice_get (xs ++ ys) i ≡ Some x → (slice_get xs i ≡ Some x) ⊎ P x
-from_append P [] ys i x all is = inr (at_index P ys i x all is)
+    → All P ys → slice_get (xs ++ ys) i ≡ Some x → (slice_get xs i ≡ Some x) ⊎ P x
+from_append P [] ys i x all is = inr (subst P (get_or_from_slice_get ys i x x is)
+    (All-get_or P ys i x (slice_get_within ys i x is) all))
 from_append P (z ∷ xs) ys zero x all is = inl is
 from_append P (z ∷ xs) ys (suc i) x all is = from_append P xs ys i x all is
 

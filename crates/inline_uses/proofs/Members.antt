@@ -1,12 +1,11 @@
 -- The entries of a store, and the members of a JSON object.
-use Rattle.std.proofs.Common.{◌≡◌, ℕ, List, [], ◌∷◌, ◌++◌, Some, Ordering, Less, Equal, Greater, refl, sym, ap, ◌∙◌, append-nil, Option, None, true, false, is_some, option_and_then}
+use Rattle.std.proofs.Common.{◌≡◌, ℕ, List, [], ◌∷◌, ◌++◌, Some, Ordering, Less, Equal, Greater, refl, sym, ap, ◌∙◌, append-nil}
 use Rattle.std.proofs.lemmas.Cmp.{nat_list_cmp_total}
 use Rattle.std.proofs.lemmas.List.{append_assoc}
 use Rattle.std.specs.List.{AllByRecursion}
 use Rattle.std.specs.List.Sorted.{IsStrictlySortedBy}
 use Rattle.std.specs.Map.{keys_of}
 use Rattle.std.specs.Ordering.{ordering_reverse, match_ordering}
-use Rattle.serde_json.specs.Find.{as_str}
 use Rattle.serde_json.specs.Data.{string, Members, no_members, member, put, members_depth}
 use Rattle.inline_uses.specs.Symbols.{key_order}
 use Rattle.inline_uses.specs.Store.{Entries, AreInOrder, with_value, with_members}
@@ -73,38 +72,3 @@ read_back entries (e ∷ more) = read_back (with_value entries e.0 e.1) more
 pub flat : (entries : Entries) → members_depth (members_of entries) ≡ 0
 flat [] = refl
 flat (e ∷ entries) = rw (flat entries) refl
-
--- whether members are strings doesn't hang on the entries that they are put into
-pub tell : (es fs : Entries) (ms : Members)
-    → is_some (with_members es ms) ≡ is_some (with_members fs ms)
-tell es fs no_members = refl
-tell es fs (member key datum ms) = by (as_str datum)
-    (λ value. tell (with_value es key value) (with_value fs key value) ms)
-  where
-    by : (o : Option (List ℕ)) → ((value : List ℕ)
-        → is_some (with_members (with_value es key value) ms)
-        ≡ is_some (with_members (with_value fs key value) ms))
-        → is_some (option_and_then (λ value. with_members (with_value es key value) ms) o)
-        ≡ is_some (option_and_then (λ value. with_members (with_value fs key value) ms) o)
-    by None same = refl
-    by (Some value) same = same value
-
--- a member that is a string may be left out of that
-pub passed : (key : List ℕ) (datum : _) (ms : Members) → is_some (as_str datum) ≡ true
-    → is_some (with_members [] (member key datum ms)) ≡ is_some (with_members [] ms)
-passed key datum ms h = by (as_str datum) h
-  where
-    by : (o : Option (List ℕ)) → is_some o ≡ true
-        → is_some (option_and_then (λ value. with_members (with_value [] key value) ms) o)
-        ≡ is_some (with_members [] ms)
-    by None h = cc
-    by (Some value) h = tell (with_value [] key value) [] ms
-
-pub not_passed : (key : List ℕ) (datum : _) (ms : Members) → is_some (as_str datum) ≡ false
-    → is_some (with_members [] (member key datum ms)) ≡ false
-not_passed key datum ms h = by (as_str datum) h
-  where
-    by : (o : Option (List ℕ)) → is_some o ≡ false
-        → is_some (option_and_then (λ value. with_members (with_value [] key value) ms) o) ≡ false
-    by None h = refl
-    by (Some value) h = cc

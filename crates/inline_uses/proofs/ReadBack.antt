@@ -18,7 +18,7 @@ use Rattle.inline_uses.specs.declared.tree.Fault.{Fault}
 use Rattle.inline_uses.specs.declared.tree.Node.{Node}
 use Rattle.inline_uses.proofs.Listed.{IsUnderLate, all_late, from_append, IsBelow, AreBefore, not_taken}
 use Rattle.inline_uses.proofs.Shown.{Starts, same_below}
-use Rattle.inline_uses.proofs.Tables.{at_push, from_push}
+use Rattle.inline_uses.proofs.Tables.{at_push, before_append, from_push}
 use Rattle.inline_uses.proofs.Under.{next_of}
 
 -- keys lead into the value where they lead to a node, or into the members that are left
@@ -50,12 +50,6 @@ all_read nodes place d read = λ key keys utf8 all.
       λ leads. s.1 (inl leads),
     )
 
-before_append : {X : Type 0} (xs ys : List X) (i : ℕ) (x : X) → slice_get xs i ≡ Some x
-    → slice_get (xs ++ ys) i ≡ Some x
-before_append [] ys i x is = cc
-before_append (z ∷ xs) ys zero x is = is
-before_append (z ∷ xs) ys (suc i) x is = before_append xs ys i x is
-
 other_key : {A : Type 0} (o : Ordering) (a b : A) → ¬ (o ≡ Equal) → match_ordering o a b a ≡ a
 other_key Less a b not = refl
 other_key Equal a b not = absurd (not refl)
@@ -66,29 +60,32 @@ absent key no_members below = refl
 absent key (member k d ms) below = rw below.0 (absent key ms below.1)
 
 -- the nodes with one more, and then those of its value
-module _ (nodes added new : List Node) (place : Option ℕ) (k : List ℕ) (e : Data)
-    (is_added : added ≡ nodes ++ node_at place (chars k) ∷ [])
-    (is_new : new ≡ added ++ listed (length added) (Some (length nodes)) e)
-    (tree : IsTree nodes) (within : IsPlaceOf nodes place)
+module _ (nodes : List Node) (place : Option ℕ) (k : List ℕ) (e : Data) (tree : IsTree nodes)
+    (within : IsPlaceOf nodes place)
   where
+    abbrev added : List Node
+    added = nodes ++ node_at place (chars k) ∷ []
+
+    abbrev below : List Node
+    below = listed (length added) (Some (length nodes)) e
+
+    abbrev new : List Node
+    new = added ++ below
+
+    -- they come in two steps
+    pub in_steps : (more after : List Node) → more ≡ added
+        → after ≡ more ++ listed (length more) (Some (length nodes)) e → after ≡ new
+    in_steps more after is_more is_after = rw (is_after, is_more) refl
+
     longer : length nodes ≤ length added
-    longer = rw (is_added, length-append) (omega arith)
+    longer = rw length-append (omega arith)
 
     older : (id : ℕ) (node : Node) → slice_get nodes id ≡ Some node → slice_get new id ≡ Some node
-    older id node is =
-        let here : slice_get added id ≡ Some node
-        = subst (λ ns. slice_get ns id ≡ Some node) (sym is_added)
-        (before_append nodes (node_at place (chars k) ∷ []) id node is) in
-        subst (λ ns. slice_get ns id ≡ Some node) (sym is_new)
-        (before_append added (listed (length added) (Some (length nodes)) e) id node here)
+    older id node is = before_append added below id node
+        (before_append nodes (node_at place (chars k) ∷ []) id node is)
 
     named : slice_get new (length nodes) ≡ Some (node_at place (chars k))
-    named =
-        let here : slice_get added (length nodes) ≡ Some (node_at place (chars k))
-        = subst (λ ns. slice_get ns (length nodes) ≡ Some (node_at place (chars k))) (sym is_added)
-        (at_push nodes (node_at place (chars k))) in
-        subst (λ ns. slice_get ns (length nodes) ≡ Some (node_at place (chars k))) (sym is_new)
-        (before_append added (listed (length added) (Some (length nodes)) e) (length nodes) _ here)
+    named = before_append added below (length nodes) _ (at_push nodes (node_at place (chars k)))
 
     -- each node is an old one, the one more, or under that or a later one
     ways : (id : ℕ) (node : Node) → slice_get new id ≡ Some node
@@ -96,15 +93,12 @@ module _ (nodes added new : List Node) (place : Option ℕ) (k : List ℕ) (e : 
         ⊎ (((id ≡ length nodes) × (node_at place (chars k) ≡ node))
         ⊎ IsUnderLate (length nodes) node)
     ways id node is =
-        elim (from_append (IsUnderLate (length nodes)) added
-        (listed (length added) (Some (length nodes)) e) id node
-        (all_late (length nodes) (length added) (length nodes) e longer (omega arith))
-        (subst (λ ns. slice_get ns id ≡ Some node) is_new is)) [
-          | inl here ↦ elim (from_push nodes node (node_at place (chars k)) id
-              (subst (λ ns. slice_get ns id ≡ Some node) is_added here)) [
-                | inl old ↦ inl old
-                | inr last ↦ inr (inl last)
-              ]
+        elim (from_append (IsUnderLate (length nodes)) added below id node
+        (all_late (length nodes) (length added) (length nodes) e longer (omega arith)) is) [
+          | inl here ↦ elim (from_push nodes node (node_at place (chars k)) id here) [
+            | inl old ↦ inl old
+            | inr last ↦ inr (inl last)
+          ]
           | inr late ↦ inr (inr late)
         ]
 
@@ -150,30 +144,34 @@ module _ (nodes added new : List Node) (place : Option ℕ) (k : List ℕ) (e : 
     -- what is under the place is still before the members that are left
     pub before_one : (rest : Members) → bytes_of (chars k) ≡ k → IsBelow k rest
         → AreBefore nodes place (member k e rest) → AreBefore new place rest
-    before_one rest bytes below before id key is = elim (under_place id key is) [
+    before_one rest bytes less before id key is = elim (under_place id key is) [
       | inl old ↦ (before id key old).1
-      | inr last ↦ subst (λ b. IsBelow b rest) (sym bytes ∙ ap bytes_of last.1) below
+      | inr last ↦ subst (λ b. IsBelow b rest) (sym bytes ∙ ap bytes_of last.1) less
     ]
 
-    pub read_one : (d : Data) (rest : Members)
+    pub read_one : (d : Data) (rest : Members) (after : List Node) → after ≡ new
         → ((bs : List ℕ) → IsUtf8 bs → bytes_of (chars bs) ≡ bs)
         → bytes_of (chars k) ≡ k → IsBelow k rest → AreBefore nodes place (member k e rest)
-        → IsShown new (Some (length nodes)) e → IsReadBut nodes place d (member k e rest)
-        → IsReadBut new place d rest
-    read_one d rest law bytes below before inner read = λ key keys utf8 all.
-        by_test key keys utf8 all (pointwise nat_eq key k) (bytes_decides key k)
+        → IsShown after (Some (length nodes)) e → IsReadBut nodes place d (member k e rest)
+        → IsReadBut after place d rest
+    read_one d rest after is law bytes less before inner read =
+        subst (λ ns. IsReadBut ns place d rest) (sym is) (λ key keys utf8 all.
+        by_test key keys utf8 all (pointwise nat_eq key k) (bytes_decides key k))
       where
+        shown : IsShown new (Some (length nodes)) e
+        shown = subst (λ ns. IsShown ns (Some (length nodes)) e) is inner
+
         by_test : (key : List ℕ) (keys : List (List ℕ)) → IsUtf8 key → AllByRecursion IsUtf8 keys
             → (b : Bool) → Decides b (key ≡ k) → IsSome (walk d (key ∷ keys))
             ↔ (Starts new place key keys ⊎ IsSome (walk (object rest) (key ∷ keys)))
         by_test key keys utf8 all true told =
             let same : key ≡ k = told.0 refl in
-            let own = same_below new (length nodes) e inner keys all in
+            let own = same_below new (length nodes) e shown keys all in
             let tied : key_order key k ≡ Equal
             = subst (λ x. key_order x k ≡ Equal) (sym same) (tied_itself nat_list_cmp_total k) in
             let found : get_member key (member k e rest) ≡ Some e = rw tied refl in
             let none : get_member key rest ≡ None
-            = subst (λ x. get_member x rest ≡ None) (sym same) (absent k rest below) in
+            = subst (λ x. get_member x rest ≡ None) (sym same) (absent k rest less) in
             let s = read key keys utf8 all in (
               (λ some. elim (s.0 some) [
                 | inl (to, leads) ↦ inl (to, up place (map chars (key ∷ keys)) to leads)

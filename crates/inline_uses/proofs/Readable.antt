@@ -62,46 +62,29 @@ one_faulty levels d k e rest TooDeep (nested, short, deep) some fault =
     by_contradiction_of x n above = omega (arith, above)
 one_faulty levels d k e rest NoMemory decide some fault = fault
 
--- members that are put in keep what the others have
 any_order : (P : Members → Type 0) (o : Ordering) (a b c : Members) → P a → P b → P c
     → P (match_ordering o a b c)
 any_order P Less a b c p q r = p
 any_order P Equal a b c p q r = q
 any_order P Greater a b c p q r = r
 
-nested_put : (k : List ℕ) (d : Data) (ms : Members) → IsNested d → AreNested ms
-    → AreNested (put k d ms)
-nested_put k d no_members h hs = (h, hs)
-nested_put k d (member l e ms) h hs =
-    any_order AreNested _ (member k d (member l e ms)) (member l d ms) (member l e (put k d ms))
-    (h, hs) (h, hs.1) (hs.0, nested_put k d ms h hs.1)
-
-short_put : (k : List ℕ) (d : Data) (ms : Members) → length k ≤ 16 → HasShortKeys d
-    → HaveShortKeys ms → HaveShortKeys (put k d ms)
-short_put k d no_members key h hs = (key, h, hs)
-short_put k d (member l e ms) key h (first, at, rest) =
-    any_order HaveShortKeys _ (member k d (member l e ms)) (member l d ms)
-    (member l e (put k d ms)) (key, h, (first, at, rest)) (first, h, rest)
-    (first, at, short_put k d ms key h rest)
-
-deep_put : (n : ℕ) (k : List ℕ) (d : Data) (ms : Members) → depth d ≤ n → members_depth ms ≤ n
-    → members_depth (put k d ms) ≤ n
-deep_put n k d no_members h hs = omega arith
-deep_put n k d (member l e ms) h hs =
-    any_order (λ ms. members_depth ms ≤ n) _ (member k d (member l e ms)) (member l d ms)
-    (member l e (put k d ms)) (omega arith) (omega arith)
-    (let rest = deep_put n k d ms h (omega arith) in omega (arith, rest))
-
 abbrev pub AreReadable : ℕ → Members → Type 0
 AreReadable n ms = AreNested ms × HaveShortKeys ms × (members_depth ms ≤ n)
 
+-- a member that is put in keeps what the others have
 pub readable_put : (n : ℕ) (k : List ℕ) (d : Data) (ms : Members) → length k ≤ 16
     → IsReadable n d → AreReadable n ms → AreReadable n (put k d ms)
-readable_put n k d ms key (nested, short, deep) (are_nested, have_short, are_deep) = (
-  nested_put k d ms nested are_nested,
-  short_put k d ms key short have_short,
-  deep_put n k d ms deep are_deep,
-)
+readable_put n k d no_members key (nested, short, deep) are =
+    ((nested, tt), (key, short, tt), omega (arith, deep))
+readable_put n k d (member l e ms) key (nested, short, deep) are =
+    let ((first, others), (known, at, rest), below) = are in
+    let (put_nested, put_short, put_deep) = readable_put n k d ms key (nested, short, deep)
+    (others, rest, omega (arith, below)) in
+    any_order (AreReadable n) _ (member k d (member l e ms)) (member l d ms)
+    (member l e (put k d ms))
+    ((nested, (first, others)), (key, short, (known, at, rest)), omega (arith, deep, below))
+    ((nested, others), (known, short, rest), omega (arith, deep, below))
+    ((first, put_nested), (known, at, put_short), omega (arith, put_deep, below))
 
 pub object_of : (n : ℕ) (ms : Members) → AreReadable n ms → IsReadable (suc n) (object ms)
 object_of n ms (nested, short, deep) = (nested, short, omega arith)

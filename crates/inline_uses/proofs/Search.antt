@@ -1,59 +1,35 @@
 -- What a search among keys in order finds, and what an edit there does to the entries.
 use Rattle.std.proofs.Common.{arith, ◌≡◌, ℕ, zero, suc, ◌+◌, ◌<◌, ◌≤◌, List, [], ◌∷◌, map, length, get_or, set, Some, None, Result, Ok, Err, IfOk, IfErr, Bool, true, false, cond, Ordering, Less, Equal, Greater, refl, sym, ap, subst, ◌∙◌, take, drop, option_map}
 use Rattle.std.specs.Prelude.{slice_get}
-use Rattle.std.proofs.lemmas.Cmp.{nat_list_cmp_total}
+use Rattle.std.proofs.lemmas.Cmp.{nat_list_cmp_total, tied_itself}
 use Rattle.std.proofs.lemmas.List.{get_or-map, length-map, map-append, map-set, take-map, drop-map}
+use Rattle.std.proofs.lemmas.List.Elements.{All-from_recursion, recursion_from_All, All-weaker}
+use Rattle.std.proofs.lemmas.List.Sorted.{searchable_from_sorted}
 use Rattle.std.proofs.lemmas.Map.Keys.{Less-from_sorted}
 use Rattle.std.proofs.lemmas.Map.Lookups.{exact_bytes}
+use Rattle.std.proofs.lemmas.Map.Views.{All-keys-insert_entry, All-map-remove_entry}
 use Rattle.std.proofs.lemmas.Option.{slice_get-get_or, slice_get-map, slice_get_within, get_or_from_slice_get}
 use Rattle.std.specs.List.{AllByRecursion, insert, remove, filter}
 use Rattle.std.specs.List.Sorted.{IsStrictlySortedBy, IsSearchInRange, IsBinarySearchResult, IsNonDecreasingBy}
 use Rattle.std.specs.Map.{keys_of, lookup, remove_entry}
 use Rattle.std.specs.BTreeMap.{is_at, insert_entry}
-use Rattle.std.specs.Ordering.{ordering_reverse, ordering_index, match_ordering, is_gt}
+use Rattle.std.specs.Ordering.{ordering_reverse, ordering_index, match_ordering, is_gt, is_lt}
 use Rattle.inline_uses.specs.Symbols.{key_order, IsGap}
 
--- a key is equal to itself, and above one that is below it
-pub itself : (key : List ℕ) → key_order key key ≡ Equal
-itself key = by (key_order key key) (nat_list_cmp_total.antisymm key key)
-  where
-    by : (o : Ordering) → o ≡ ordering_reverse o → o ≡ Equal
-    by Less h = cc
-    by Equal h = refl
-    by Greater h = cc
-
+-- a key is above one that is below it
 turned : (a b : List ℕ) (o : Ordering) → key_order a b ≡ o → key_order b a ≡ ordering_reverse o
 turned a b o h = nat_list_cmp_total.antisymm b a ∙ ap ordering_reverse h
-
--- comparisons with a key rise from a key to one above it
-rise : (a b key : List ℕ) → key_order a b ≡ Less
-    → ordering_index (key_order a key) ≤ ordering_index (key_order b key)
-rise a b key h = by (key_order a key) (key_order b key) refl refl
-  where
-    by : (o p : Ordering) → key_order a key ≡ o → key_order b key ≡ p
-        → ordering_index o ≤ ordering_index p
-    by Less p f g = omega arith
-    by Equal Less f g =
-        let above = turned a b Less h in
-        let e = ap (key_order b) (exact_bytes a key f) in cc
-    by Equal Equal f g = omega arith
-    by Equal Greater f g = omega arith
-    by Greater Less f g = let e = nat_list_cmp_total.trans a b key h g in cc
-    by Greater Equal f g = let e = ap (key_order a) (exact_bytes b key g) in cc
-    by Greater Greater f g = omega arith
 
 module _ {X : Type 0} (f : X → List ℕ) (xs : List X) (key : List ℕ) where
   rises : IsStrictlySortedBy key_order (map f xs)
       → IsNonDecreasingBy (λ x. ordering_index (key_order (f x) key)) xs
-  rises sorted i j d le within =
-      let rank = λ (k : ℕ). ordering_index (key_order (f (get_or xs k d)) key) in
-      let less : i < j → rank i ≤ rank j = λ l. rise _ _ key
-      (subst (λ q. key_order q (f (get_or xs j d)) ≡ Less) (get_or-map f xs i d (f d) (omega arith))
-      (subst (λ q. key_order (get_or (map f xs) i (f d)) q ≡ Less) (get_or-map f xs j d (f d)
-      within)
-      (Less-from_sorted key_order (map f xs) i j (f d) sorted l (rw length-map within)))) in
-      let equal : i ≡ j → rank i ≡ rank j = λ e. ap rank e in
-      grind (arith, less, equal)
+  rises sorted = searchable_from_sorted nat_list_cmp_total f xs key (λ i d low less. ap is_lt
+      (turned (f (get_or xs i d)) _ Less (subst (λ q. key_order q (f (get_or xs (i + 1) d)) ≡ Less)
+      (get_or-map f xs i d (f d) (omega arith))
+      (subst (λ q. key_order (get_or (map f xs) i (f d)) q ≡ Less)
+      (get_or-map f xs (i + 1) d (f d) less)
+      (Less-from_sorted key_order (map f xs) i (i + 1) (f d) sorted (omega arith)
+      (rw length-map less))))))
 
   at_key : (P : List ℕ → Type 0) (i : ℕ) → i < length xs → ((d : X) → P (f (get_or xs i d)))
       → P (get_or (map f xs) i [])
@@ -136,7 +112,7 @@ module _ {X : Type 0} (key : List ℕ) where
   unfolding IsStrictlySortedBy
   written [] at value sorted is = cc
   written (e ∷ es) zero value sorted is =
-      let same : e.0 ≡ key = cc in rw (same, itself key) refl
+      let same : e.0 ≡ key = cc in rw (same, tied_itself nat_list_cmp_total key) refl
   written (e ∷ es) (suc at) value sorted is = rw (above key e.0 (keys_of es) at sorted.0 is)
       (ap (λ rest. e ∷ rest) (written es at value sorted.1 is))
 
@@ -151,8 +127,8 @@ module _ {X : Type 0} (key : List ℕ) where
       let same : e.0 ≡ key = cc in (
         e.1,
         ap (λ k. Some (k, e.1)) same,
-        rw (same, itself key) refl,
-        rw (same, itself key) refl,
+        rw (same, tied_itself nat_list_cmp_total key) refl,
+        rw (same, tied_itself nat_list_cmp_total key) refl,
       )
   there (e ∷ es) (suc at) sorted is =
       let rest = there es at sorted.1 is in (
@@ -179,7 +155,7 @@ parted_at key keys at sorted is =
           (Less-from_sorted key_order keys at i [] sorted l below)) in
           let equal : at ≡ i → is_gt (key_order key (get_or keys i [])) ≡ false
           = λ e. ap is_gt (ap (key_order key) (ap (λ k. get_or keys k []) (sym e) ∙ here)
-          ∙ itself key) in
+          ∙ tied_itself nat_list_cmp_total key) in
           grind (arith, more, equal),
     )
 
@@ -210,26 +186,6 @@ run test (e ∷ es) zero (suc n) before within after =
     (λ k l b. after (suc k) (omega arith) (omega arith))))
 
 -- the order stays
-all_put : {X : Type 0} (P : List ℕ → Type 0) (es : List (List ℕ × X)) (key : List ℕ) (value : X)
-    → AllByRecursion P (keys_of es) → P key
-    → AllByRecursion P (keys_of (insert_entry key_order es key value))
-all_put P [] key value all p = (p, tt)
-all_put P (e ∷ es) key value all p =
-    by (key_order key e.0) (all_put P es key value all.1 p)
-  where
-    by : (o : Ordering) → AllByRecursion P (keys_of (insert_entry key_order es key value))
-        → AllByRecursion P (keys_of (match_ordering o ((key, value) ∷ e ∷ es) ((e.0, value) ∷ es)
-        (e ∷ insert_entry key_order es key value)))
-    by Less rest = (p, all)
-    by Equal rest = all
-    by Greater rest = (all.0, rest)
-
-all_above : (k q : List ℕ) (ks : List (List ℕ)) → key_order k q ≡ Less
-    → AllByRecursion (λ x. key_order q x ≡ Less) ks → AllByRecursion (λ x. key_order k x ≡ Less) ks
-all_above k q [] h all = tt
-all_above k q (x ∷ ks) h all =
-    (nat_list_cmp_total.trans k q x h all.0, all_above k q ks h all.1)
-
 pub ordered_put : {X : Type 0} (es : List (List ℕ × X)) (key : List ℕ) (value : X)
     → IsStrictlySortedBy key_order (keys_of es)
     → IsStrictlySortedBy key_order (keys_of (insert_entry key_order es key value))
@@ -243,22 +199,23 @@ ordered_put (e ∷ es) key value sorted =
         → IsStrictlySortedBy key_order
         (keys_of (match_ordering o ((key, value) ∷ e ∷ es) ((e.0, value) ∷ es)
         (e ∷ insert_entry key_order es key value)))
-    by Less is rest = ((is, all_above key e.0 (keys_of es) is sorted.0), sorted)
+    by Less is rest = (
+      (
+        is,
+        recursion_from_All (λ q. key_order key q ≡ Less) (keys_of es)
+            (All-weaker (λ q. key_order e.0 q ≡ Less) (λ q. key_order key q ≡ Less)
+            (λ q less. nat_list_cmp_total.trans key e.0 q is less) (keys_of es)
+            (All-from_recursion _ (keys_of es) sorted.0)),
+      ),
+      sorted,
+    )
     by Equal is rest = sorted
     by Greater is rest = (
-      all_put (λ q. key_order e.0 q ≡ Less) es key value sorted.0 (turned key e.0 Greater is),
+      recursion_from_All (λ q. key_order e.0 q ≡ Less) _
+          (All-keys-insert_entry key_order key value (λ q. key_order e.0 q ≡ Less) es
+          (All-from_recursion _ (keys_of es) sorted.0) (turned key e.0 Greater is)),
       rest,
     )
-
-all_left : {X : Type 0} (P : List ℕ → Type 0) (es : List (List ℕ × X)) (test : List ℕ → Bool)
-    → AllByRecursion P (keys_of es) → AllByRecursion P (keys_of (remove_entry test es))
-all_left P [] test all = tt
-all_left P (e ∷ es) test all = by (test e.0) (all_left P es test all.1)
-  where
-    by : (b : Bool) → AllByRecursion P (keys_of (remove_entry test es))
-        → AllByRecursion P (keys_of (cond b es (e ∷ remove_entry test es)))
-    by true rest = all.1
-    by false rest = (all.0, rest)
 
 pub ordered_left : {X : Type 0} (es : List (List ℕ × X)) (test : List ℕ → Bool)
     → IsStrictlySortedBy key_order (keys_of es)
@@ -270,7 +227,12 @@ ordered_left (e ∷ es) test sorted = by (test e.0) (ordered_left es test sorted
     by : (b : Bool) → IsStrictlySortedBy key_order (keys_of (remove_entry test es))
         → IsStrictlySortedBy key_order (keys_of (cond b es (e ∷ remove_entry test es)))
     by true rest = sorted.1
-    by false rest = (all_left _ es test sorted.0, rest)
+    by false rest = (
+      recursion_from_All (λ q. key_order e.0 q ≡ Less) (keys_of (remove_entry test es))
+          (All-map-remove_entry test (λ f. f.0) (λ q. key_order e.0 q ≡ Less) es
+          (All-from_recursion _ (keys_of es) sorted.0)),
+      rest,
+    )
 
 -- an edit of a list is one of what is seen of it
 pub inserted_seen : {A B : Type 0} (f : A → B) (xs : List A) (at : ℕ) (x : A)

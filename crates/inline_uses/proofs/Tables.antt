@@ -1,13 +1,13 @@
--- A list of texts, and what finds their indices, with one more text at the end.
+-- What is found by its index in a list with more at its end.
 use Rattle.std.proofs.Common.{◌≡◌, ◌⊎◌, inl, inr, ℕ, zero, suc, List, [], ◌∷◌, ◌++◌, length, Some, refl, sym, ap, ◌∙◌}
 use Rattle.std.specs.Prelude.{slice_get}
 use Rattle.inline_uses.specs.Symbols.{HaveOneId}
 
-pub before_push : {X : Type 0} (xs : List X) (x y : X) (i : ℕ)
-    → slice_get xs i ≡ Some x → slice_get (xs ++ y ∷ []) i ≡ Some x
-before_push [] x y i is = cc
-before_push (z ∷ xs) x y zero is = is
-before_push (z ∷ xs) x y (suc i) is = before_push xs x y i is
+pub before_append : {X : Type 0} (xs ys : List X) (i : ℕ) (x : X) → slice_get xs i ≡ Some x
+    → slice_get (xs ++ ys) i ≡ Some x
+before_append [] ys i x is = cc
+before_append (z ∷ xs) ys zero x is = is
+before_append (z ∷ xs) ys (suc i) x is = before_append xs ys i x is
 
 pub at_push : {X : Type 0} (xs : List X) (y : X) → slice_get (xs ++ y ∷ []) (length xs) ≡ Some y
 at_push [] y = refl

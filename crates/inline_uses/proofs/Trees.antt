@@ -4,7 +4,7 @@ use Rattle.std.specs.Prelude.{slice_get, unwrap_or, option_map}
 use Rattle.std.specs.BTreeMap.{BTreeMap, get}
 use Rattle.std.specs.Bool.{Decides}
 use Rattle.std.specs.Cmp.Lexicographic.{slice_cmp, bytes_decides, texts_ties}
-use Rattle.std.specs.List.{AllByRecursion}
+use Rattle.std.specs.List.{All}
 use Rattle.std.specs.Option.{option_cmp}
 use Rattle.std.specs.Ordering.{nat_cmp, ordering_then}
 use Rattle.std.specs.Str.{chars}
@@ -14,7 +14,7 @@ use Rattle.std.proofs.lemmas.List.{append_assoc, length-append}
 use Rattle.serde_json.specs.Data.{Data, Members, member}
 use Rattle.inline_uses.specs.Tree.{node_at, IsPlaceOf, IsTree, place_order, AreFound, Leads, listed, listed_members}
 use Rattle.inline_uses.specs.declared.tree.Node.{Node}
-use Rattle.inline_uses.proofs.Tables.{at_push, before_push, from_push, one_id_pushed}
+use Rattle.inline_uses.proofs.Tables.{at_push, before_append, from_push, one_id_pushed}
 
 pub grown : (nodes : List Node) (place : Option ℕ) (key : List ℕ) → IsTree nodes
     → IsPlaceOf nodes place → ((id : ℕ) → ¬ (slice_get nodes id ≡ Some (node_at place key)))
@@ -71,7 +71,7 @@ found_other : (nodes : List Node) (node other : Node) (old new : Option ℕ) (id
     → ¬ (node ≡ other) → (old ≡ Some id) ↔ (slice_get nodes id ≡ Some other)
     → (new ≡ Some id) ↔ (slice_get (nodes ++ node ∷ []) id ≡ Some other)
 found_other nodes node other old new id is differs was = (
-  (λ h. before_push nodes other node id (was.0 (sym is ∙ h))),
+  (λ h. before_append nodes (node ∷ []) id other (was.0 (sym is ∙ h))),
   λ h. elim (from_push nodes other node id h) [
     | inl older ↦ is ∙ was.1 older
     | inr newer ↦ absurd (differs newer.1)
@@ -137,18 +137,7 @@ with_keys-push nodes keys (i ∷ ids) id = with_keys-push nodes (key_of nodes i 
 
 -- the numbers are all of nodes
 abbrev pub AreNodes : List Node → List ℕ → Type 0
-AreNodes nodes ids = AllByRecursion (λ id. id < length nodes) ids
-
-pub all_pushed : (n : ℕ) (ids : List ℕ) (id : ℕ) → AllByRecursion (λ i. i < n) ids → id < n
-    → AllByRecursion (λ i. i < n) (ids ++ id ∷ [])
-all_pushed n [] id all less = (less, all)
-all_pushed n (i ∷ ids) id all less = (all.0, all_pushed n ids id all.1 less)
-
-pub all_popped : (n : ℕ) (ids : List ℕ) (id : ℕ) → AllByRecursion (λ i. i < n) (ids ++ id ∷ [])
-    → AllByRecursion (λ i. i < n) ids × (id < n)
-all_popped n [] id all = (search rules, all.0)
-all_popped n (i ∷ ids) id all =
-    let rest = all_popped n ids id all.1 in ((all.0, rest.0), rest.1)
+AreNodes nodes ids = All (λ id. id < length nodes) ids
 
 pub wider : (nodes more : List Node) (place : Option ℕ) → IsPlaceOf nodes place
     → IsPlaceOf (nodes ++ more) place

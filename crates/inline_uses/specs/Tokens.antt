@@ -1,6 +1,6 @@
 -- The tokens of a source. Texts are lists of characters.
 use Rattle.std.specs.Prelude.{◌≡◌, ℕ, ◌+◌, ◌<◌, ◌⊎◌, List, [], ◌∷◌, ◌++◌, length, drop, Bool, true, false, not, ◌||◌, ◌==◌, Option, Some, None, if◌then◌else◌, slice_get}
-use Rattle.std.specs.Char.{is_whitespace}
+use Rattle.std.specs.Char.{is_ascii_alphanumeric, is_whitespace}
 use Rattle.std.specs.Char.Unicode.Alphabetic.{is_alphabetic}
 use Rattle.std.specs.Char.Unicode.Numeric.{is_numeric}
 use Rattle.std.specs.Int.{is_in_range}
@@ -31,29 +31,13 @@ abbrev pub kind_at : List ℕ → Option Kind
 kind_at [] = None
 kind_at (c ∷ source) = Some (kind_of c (slice_get source 0))
 
--- whether a token of this kind goes on with the character; of a number, its digits
+-- whether a token of this kind goes on with the character
 abbrev pub continues : Kind → ℕ → Bool
 continues Space c = is_whitespace c
 continues Word c = c == 95 || (is_alphabetic c || is_numeric c)
-continues Number c = is_in_range 48 57 c
+continues Number c = c == 95 || is_ascii_alphanumeric c
 continues LineComment c = not (c == 10)
 continues _ c = false
-
--- digits after a point, with it
-abbrev pub with_point : List ℕ → List ℕ
-with_point [] = []
-with_point (digit ∷ digits) = 46 ∷ digit ∷ digits
-
--- the point and the digits that a source begins with, or nothing where one of them is not there
-abbrev pub fraction_of : List ℕ → List ℕ
-fraction_of [] = []
-fraction_of (c ∷ source) = if c == 46 then with_point (take_while (continues Number) source) else []
-
--- digits, and a point with more digits where both follow
-abbrev pub number_of : List ℕ → List ℕ
-number_of source =
-    let digits = take_while (continues Number) source in
-    digits ++ fraction_of (drop (length digits) source)
 
 -- the character that this one means after a backslash, if it may be there
 abbrev pub escape_of : ℕ → Option ℕ
@@ -90,7 +74,7 @@ HasNoClose text = (front back : List ℕ) → ¬ (text ≡ front ++ 42 ∷ 47 �
 -- a token of this kind has this text of a source that begins with it, and this is in the buffer
 abbrev pub IsToken : Kind → List ℕ → List ℕ → List ℕ → Type 0
 IsToken Word source text word = (text ≡ take_while (continues Word) source) × (word ≡ text)
-IsToken Number source text word = (text ≡ number_of source) × (word ≡ text)
+IsToken Number source text word = (text ≡ take_while (continues Number) source) × (word ≡ text)
 IsToken Text source text word = (inside : List ℕ)
     × (text ≡ 34 ∷ inside ++ 34 ∷ []) × (unescaped inside ≡ Some word)
 IsToken BlockComment source text word = (inside : List ℕ)
@@ -119,7 +103,8 @@ IsTextFault N fault source = (inside word rest : List ℕ) × (source ≡ inside
 abbrev pub Fails : ℕ → Kind → List ℕ → Fault → Type 0
 Fails N Word source fault =
     (fault ≡ TooLong) × (N < size (take_while (continues Word) source))
-Fails N Number source fault = (fault ≡ TooLong) × (N < size (number_of source))
+Fails N Number source fault =
+    (fault ≡ TooLong) × (N < size (take_while (continues Number) source))
 Fails N Text source fault = IsTextFault N fault (drop 1 source)
 Fails N BlockComment source fault = (fault ≡ Unterminated) × HasNoClose (drop 2 source)
 Fails N _ source fault = ⊥

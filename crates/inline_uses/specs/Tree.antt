@@ -8,7 +8,7 @@ use Rattle.std.specs.Ordering.{nat_cmp, ordering_then}
 use Rattle.std.specs.declared.cmp.Ordering.{Ordering}
 use Rattle.std.specs.Str.{chars}
 use Rattle.inlinable_string.specs.Text.{bytes_of, size}
-use Rattle.serde_json.specs.Data.{Data, null, boolean, number, string, array, object, Members, no_members, member, depth}
+use Rattle.serde_json.specs.Data.{Data, object, Members, no_members, member, depth}
 use Rattle.serde_json.specs.Find.{get}
 use Rattle.inline_uses.specs.declared.tree.Fault.{Fault}
 use Rattle.inline_uses.specs.declared.tree.Fault.TheVariants.{LongKey, NoNode, Taken, NotObject, TooDeep, NoMemory}
@@ -57,12 +57,8 @@ AreFound nodes ids = (place : Option ℕ) (key : List ℕ) (id : ℕ) → chars 
 -- member, in their order, each before those of the member's own value
 abbrev mutual
   pub listed : ℕ → Option ℕ → Data → List Node
-  listed n place null = []
-  listed n place (boolean b) = []
-  listed n place (number x) = []
-  listed n place (string s) = []
-  listed n place (array ds) = []
   listed n place (object ms) = listed_members n place ms
+  listed n place d = []
 
   pub listed_members : ℕ → Option ℕ → Members → List Node
   listed_members n place no_members = []
@@ -78,12 +74,8 @@ walk d (key ∷ keys) = option_and_then (λ e. walk e keys) (get key d)
 -- a JSON value is an object, and so is each value in it
 abbrev mutual
   pub IsNested : Data → Type 0
-  IsNested null = ⊥
-  IsNested (boolean b) = ⊥
-  IsNested (number x) = ⊥
-  IsNested (string s) = ⊥
-  IsNested (array ds) = ⊥
   IsNested (object ms) = AreNested ms
+  IsNested d = ⊥
 
   pub AreNested : Members → Type 0
   AreNested no_members = ⊤
@@ -105,12 +97,8 @@ HaveSamePaths nodes others =
 -- the keys of a JSON object, and of the objects in it, have at most 16 bytes
 abbrev mutual
   pub HasShortKeys : Data → Type 0
-  HasShortKeys null = ⊤
-  HasShortKeys (boolean b) = ⊤
-  HasShortKeys (number x) = ⊤
-  HasShortKeys (string s) = ⊤
-  HasShortKeys (array ds) = ⊤
   HasShortKeys (object ms) = HaveShortKeys ms
+  HasShortKeys d = ⊤
 
   pub HaveShortKeys : Members → Type 0
   HaveShortKeys no_members = ⊤

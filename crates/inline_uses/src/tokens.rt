@@ -7,7 +7,7 @@ ghost use Rattle.std.specs.List.{count_by, take_while};
 ghost use Rattle.std.specs.Str.{chars};
 ghost use Rattle.inlinable_string.specs.Text.{size};
 ghost use Rattle.inline_uses.specs.declared.tokens.Kind.{Kind};
-ghost use Rattle.inline_uses.specs.Tokens.{AreTokens, Fails, HasNoClose, IsStop, IsTextFault, IsToken, column_after, continues, escape_of, fraction_of, kind_at, kind_of, is_solid, is_solid_kind, newlines, number_of, slash_kind, unescaped};
+ghost use Rattle.inline_uses.specs.Tokens.{AreTokens, Fails, HasNoClose, IsStop, IsTextFault, IsToken, column_after, continues, escape_of, kind_at, kind_of, is_solid, is_solid_kind, newlines, slash_kind, unescaped};
 
 use inlinable_string::InlineStringN;
 use inlinable_string::laws::{sizes_of_parts, steps_are_over_characters};
@@ -31,7 +31,8 @@ pub enum Kind {
     Space,
     /// A letter or `_`, with the letters, digits and `_` after it.
     Word,
-    /// Digits from `0` to `9`, with a point and more digits if these follow.
+    /// A digit from `0` to `9`, with the ASCII letters, digits and `_` after it, as `0x1F` and
+    /// `10_usize`. A point is a mark of its own.
     Number,
     /// `//` and what follows it in its line.
     LineComment,
@@ -44,14 +45,14 @@ pub enum Kind {
 }
 
 impl Kind {
-    /// Whether a token of this kind goes on with `ch`; of a number, its digits.
+    /// Whether a token of this kind goes on with `ch`.
     fn goes_on_with(self, ch: char) -> bool
         ensures { result ≡ continues self ch }
     {
         match self {
             Kind::Space => ch.is_whitespace(),
             Kind::Word => ch == '_' || ch.is_alphanumeric(),
-            Kind::Number => ch.is_ascii_digit(),
+            Kind::Number => ch == '_' || ch.is_ascii_alphanumeric(),
             Kind::LineComment => ch != '\n',
             Kind::BlockComment | Kind::Text | Kind::Mark(_) => false,
         }
@@ -139,7 +140,6 @@ pub fn unescape(letter: char) -> Option<char>
 /// Splits a source after the characters with which a token of the kind goes on.
 fn split_while(kind: Kind, source: &str) -> (&str, &str)
     ensures parts { source.now ≡ result.0.now ++ result.1.now }
-    ensures split { chars source.now ≡ chars result.0.now ++ chars result.1.now }
     ensures front { chars result.0.now ≡ take_while (continues kind) (chars source.now) }
 {
     match source.find(move |ch: char| !kind.goes_on_with(ch)) {
@@ -157,35 +157,6 @@ fn split_before<'a>(source: &'a str, rest: &str) -> (&'a str, &'a str)
     ensures rest { result.1.now ≡ rest.now }
 {
     source.split_at(source.len() - rest.len())
-}
-
-/// Splits a source after the point and the digits that it begins with, if both are there.
-fn split_fraction(source: &str) -> (&str, &str)
-    ensures parts { source.now ≡ result.0.now ++ result.1.now }
-    ensures split { chars source.now ≡ chars result.0.now ++ chars result.1.now }
-    ensures front { chars result.0.now ≡ fraction_of (chars source.now) }
-{
-    let Some((first, after)) = split_first(source) else {
-        return ("", source);
-    };
-    if first != '.' {
-        return ("", source);
-    }
-    let (digits, rest) = split_while(Kind::Number, after);
-    let Some(_) = split_first(digits) else {
-        return ("", source);
-    };
-    split_before(source, rest)
-}
-
-/// Splits a source after the number that it begins with.
-fn split_number(source: &str) -> (&str, &str)
-    ensures parts { source.now ≡ result.0.now ++ result.1.now }
-    ensures front { chars result.0.now ≡ number_of (chars source.now) }
-{
-    let (_, after) = split_while(Kind::Number, source);
-    let (_, rest) = split_fraction(after);
-    split_before(source, rest)
 }
 
 /// Splits a source after the block comment that it begins with, if this ends.
@@ -332,15 +303,10 @@ fn read_token<'a, const N: usize>(
     ensures err { IfErr result (λ fault. Fails N kind (chars source.now) fault) }
 {
     match kind {
-        Kind::Space => Ok(split_while(Kind::Space, source)),
-        Kind::LineComment => Ok(split_while(Kind::LineComment, source)),
+        Kind::Space | Kind::LineComment => Ok(split_while(kind, source)),
         Kind::Mark(_) => Ok(split_mark(source)),
-        Kind::Word => {
-            let (text, rest) = split_while(Kind::Word, source);
-            keep(word, text, rest)
-        }
-        Kind::Number => {
-            let (text, rest) = split_number(source);
+        Kind::Word | Kind::Number => {
+            let (text, rest) = split_while(kind, source);
             keep(word, text, rest)
         }
         Kind::BlockComment => match split_comment(source) {

@@ -13,7 +13,7 @@ use std::marker::Model;
 
 pub mod json;
 
-/// How many objects may stand one in another in the JSON of a tree, the outermost among them.
+/// How many objects may be nested in the JSON of a tree, the outermost included.
 pub const LEVELS: usize = 128;
 
 /// A node: what it is under, which is a node by its number or the top, and its key there.
@@ -30,13 +30,13 @@ pub enum Fault {
     LongKey,
     /// There is no such node.
     NoNode,
-    /// The key stands there already.
+    /// The place has a node with this key.
     Taken,
     /// A JSON value is not an object, or one in it is not.
     NotObject,
-    /// Of the objects in JSON more than `LEVELS` stand one in another.
+    /// More than `LEVELS` objects are nested in JSON.
     TooDeep,
-    /// Memory was refused.
+    /// An allocation failed.
     NoMemory,
 }
 

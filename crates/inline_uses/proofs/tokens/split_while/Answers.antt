@@ -1,10 +1,10 @@
-use Rattle.std.proofs.Common.{rules, take, drop, not, ap, sym, ◌∙◌}
+use Rattle.std.proofs.Common.{rules, take, drop, not, ap, ◌∙◌}
 use Rattle.std.specs.List.{take_while}
 use Rattle.std.specs.Str.Pattern.{FindsBy}
 use Rattle.std.specs.Prelude.{Some}
-use Rattle.std.proofs.lemmas.Str.{IsUtf8-take, IsUtf8-drop, chars-append, chars-nil}
+use Rattle.std.proofs.lemmas.Str.{IsUtf8-take, IsUtf8-drop}
 use Rattle.std.proofs.lemmas.Fn.{always_returns_same}
-use Rattle.std.proofs.lemmas.List.{take-append-drop, append-nil}
+use Rattle.std.proofs.lemmas.List.{take-append-drop}
 use Rattle.std.specs.Str.{chars}
 use Rattle.inline_uses.specs.Tokens.{continues}
 use Rattle.inline_uses.proofs.Words.{whole_word, front_word}
@@ -29,14 +29,3 @@ returns-in-Some-clause-front c =
     (IsUtf8-take s i c.utf8.source at.3) (IsUtf8-drop s i c.utf8.source at.3)
     found.0 found.1.1 found.1.2.split
     ∙ ap (λ bs. take_while (continues c.args.kind) (chars bs)) (take-append-drop i s))
-
-pub returns-in-None-clause-split : goal.returns-in-None-clause-split
-returns-in-None-clause-split c = rw chars-nil (sym (append-nil (chars c.args.source.now)))
-
-pub returns-in-Some-clause-split : goal.returns-in-Some-clause-split
-returns-in-Some-clause-split c =
-    let s = c.args.source.now in
-    let i = c.in-Some.end in
-    rw (c.split_at.ensures.front, c.split_at.ensures.back)
-    (ap chars (sym (take-append-drop i s))
-    ∙ chars-append (take i s) (drop i s) (IsUtf8-take s i c.utf8.source c.in-Some.ensures.cases.3))

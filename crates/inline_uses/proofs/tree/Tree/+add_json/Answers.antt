@@ -8,7 +8,7 @@ use Rattle.inline_uses.specs.Tree.{node_at, listed, IsShown, IsFaultOf}
 use Rattle.inline_uses.specs.declared.tree.Fault.{Fault}
 use Rattle.inline_uses.specs.declared.tree.Fault.TheVariants.{LongKey}
 use Rattle.inline_uses.proofs.Listed.{in_order, not_taken, none_under, last_place}
-use Rattle.inline_uses.proofs.ReadBack.{IsReadBut, none_read, all_read, before_one, read_one}
+use Rattle.inline_uses.proofs.ReadBack.{IsReadBut, none_read, all_read, before_one, in_steps, read_one}
 use Rattle.inline_uses.proofs.Readable.{all_decide, one_read, not_added}
 use Rattle.inline_uses.proofs.Trees.{one_more, wider}
 use Rattle.inline_uses.proofs.tree.Tree.+add_json.Goals as goal
@@ -47,9 +47,10 @@ loop-key-preserved t c =
     let is_after : c.add_json.new.self
     ≡ c.add.new.self ++ listed (length c.add.new.self) (Some (length old)) below
     = rw (← c.len-id.ensures.count) c.in_ok-add_json.ensures.ok in
+    let all = in_steps old c.args.place key below c.len-id.ensures.tree was.place _ _ is_new
+    is_after in
     let short : length key ≤ 16 = short_key key _ c.add.result c.in_ok-add.was
-    (subst (λ k. (c.add.result ≡ Err LongKey) ↔ (16 < length k)) c.as_str.ensures.value
-    c.add.ensures.long_key) in
+    (rw c.as_str.ensures.value at c.add.ensures.long_key) in
     let bytes : bytes_of (chars key) ≡ key = search rules in
     record {
       place = rw (is_after, is_new) (wider _ _ c.args.place (wider old _ c.args.place was.place));
@@ -57,13 +58,12 @@ loop-key-preserved t c =
           c.in_ok-add_json.ensures.readable (search rules);
       adds = one_more old c.args.place key below left _ _ is_new is_after ∙ was.adds;
       ordered = was.ordered.1;
-      before = before_one old _ _ c.args.place key below is_new is_after
-          c.len-id.ensures.tree was.place left bytes was.ordered.0 was.before;
-      read = read_one old _ _ c.args.place key below is_new is_after c.len-id.ensures.tree
-          was.place (view c.args.value.now) left c.bytes_of_parts.ensures.string bytes
-          was.ordered.0 was.before
-          (subst (λ i. IsShown c.add_json.new.self (Some i) below) c.len-id.ensures.count
-          c.in_ok-add_json.ensures.shown) was.read;
+      before = rw all (before_one old c.args.place key below c.len-id.ensures.tree was.place left
+          bytes was.ordered.0 was.before);
+      read = read_one old c.args.place key below c.len-id.ensures.tree was.place
+          (view c.args.value.now) left _ all c.bytes_of_parts.ensures.string bytes was.ordered.0
+          was.before (subst (λ i. IsShown c.add_json.new.self (Some i) below)
+          c.len-id.ensures.count c.in_ok-add_json.ensures.shown) was.read;
     }
 
 pub add_json-requires : goal.add_json-requires

@@ -71,15 +71,13 @@ loop-entry-preserved t c =
 
 pub object-requires : goal.object-requires
 object-requires t c =
-    let text : chars (bytes_of c.in-Some-2.entry.now.1) ≡ c.in-Some-2.entry.now.1
-    = ap chars (sym c.as_str-key.ensures.value) ∙ c.as_str-key.ensures.text in
+    let text = ap chars (sym c.as_str-key.ensures.value) ∙ c.as_str-key.ensures.text in
     let is = (rw c.in-Some-2.ensures.steps at c.loop-entry.invariant).under.0 text in
     (search rules, slice_get_within c.args.self.now c.in-Some-2.id.now _ is)
 
 pub returns-then-below-eq0-clause-fault : goal.returns-then-below-eq0-clause-fault
 returns-then-below-eq0-clause-fault t c =
-    let text : chars (bytes_of c.in-Some-2.entry.now.1) ≡ c.in-Some-2.entry.now.1
-    = ap chars (sym c.as_str-key.ensures.value) ∙ c.as_str-key.ensures.text in
+    let text = ap chars (sym c.as_str-key.ensures.value) ∙ c.as_str-key.ensures.text in
     let is = (rw c.in-Some-2.ensures.steps at c.loop-entry.invariant).under.0 text in
     let deep : suc c.args.below ≤ 1 = rw c.if-below-eq0.true (omega arith) in
     let n = c.in-Some-2.id.now in
@@ -102,8 +100,7 @@ returns-clause-shown t c =
 
 pub returns-in_err-value-clause-fault : goal.returns-in_err-value-clause-fault
 returns-in_err-value-clause-fault t c =
-    let text : chars (bytes_of c.in-Some-2.entry.now.1) ≡ c.in-Some-2.entry.now.1
-    = ap chars (sym c.as_str-key.ensures.value) ∙ c.as_str-key.ensures.text in
+    let text = ap chars (sym c.as_str-key.ensures.value) ∙ c.as_str-key.ensures.text in
     let is = (rw c.in-Some-2.ensures.steps at c.loop-entry.invariant).under.0 text in
     let key = c.in-Some-2.entry.now.1 in
     let f = c.in_err-value.field-0.0 in

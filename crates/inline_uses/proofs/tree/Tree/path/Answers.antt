@@ -1,11 +1,12 @@
-use Rattle.std.proofs.Common.{rules, refl, ◌≡◌, ◌<◌, ◌∷◌, ◌++◌, [], Some, length, unwrap_or, option_map, ap, sym, subst, ◌∙◌}
+use Rattle.std.proofs.Common.{rules, refl, ◌≡◌, ◌<◌, ◌∷◌, ◌++◌, [], Some, length, unwrap_or, option_map, ap, sym, ◌∙◌}
 use Rattle.std.specs.Prelude.{slice_get}
 use Rattle.std.proofs.lemmas.List.{append_assoc}
+use Rattle.std.proofs.lemmas.List.Elements.{All-pop, All-push}
 use Rattle.std.proofs.lemmas.Option.{slice_get-get_or}
 use Rattle.inlinable_string.specs.Values.{inlinable_state}
 use Rattle.inline_uses.specs.Tree.{joined}
 use Rattle.inline_uses.specs.declared.tree.Node.{Node}
-use Rattle.inline_uses.proofs.Trees.{above, key_of, with_keys, with_keys-push, AreNodes, all_pushed, all_popped}
+use Rattle.inline_uses.proofs.Trees.{above, key_of, with_keys, with_keys-push}
 use Rattle.inline_uses.proofs.tree.Tree.path.Goals as goal
 
 pub up-preserved : goal.up-preserved
@@ -22,7 +23,7 @@ up-preserved c =
     let up = above nodes at c.args.id node (with_keys nodes [] c.up.ids.items)
     c.self.invariant.0 within is leads in
     rw (pushed, with_keys-push, key)
-    (up.0, all_pushed (length nodes) c.up.ids.items at all within, up.1)
+    (up.0, All-push (λ id. id < length nodes) c.up.ids.items at all within, up.1)
 
 pub index-requires-in-Some-pop : goal.index-requires-in-Some-pop
 index-requires-in-Some-pop c =
@@ -30,8 +31,8 @@ index-requires-in-Some-pop c =
     let popped : c.down.ids.items ≡ c.pop.new.self.items ++ c.in-Some-pop.at ∷ []
     = search rules in
     let less : c.in-Some-pop.at < length nodes
-    = (all_popped (length nodes) c.pop.new.self.items c.in-Some-pop.at
-    (subst (AreNodes nodes) popped c.down.invariant.0)).1 in
+    = (All-pop (λ id. id < length nodes) c.down.ids.items c.pop.new.self.items
+    (Some c.in-Some-pop.at) popped c.down.invariant.0).1 in
     search (rules, less)
 
 pub down-preserved : goal.down-preserved
@@ -42,8 +43,8 @@ down-preserved c =
     let left = with_keys nodes [] c.pop.new.self.items in
     let old = (inlinable_state 30 c.down.path).text in
     let popped : c.down.ids.items ≡ c.pop.new.self.items ++ at ∷ [] = search rules in
-    let all = all_popped (length nodes) c.pop.new.self.items at
-    (subst (AreNodes nodes) popped c.down.invariant.0) in
+    let all = All-pop (λ id. id < length nodes) c.down.ids.items c.pop.new.self.items (Some at)
+    popped c.down.invariant.0 in
     let is : slice_get nodes at ≡ Some node
     = slice_get-get_or nodes at node all.1 ∙ ap Some (sym c.index-in-Some-pop.ensures) in
     let key : key_of nodes at ≡ node.key
