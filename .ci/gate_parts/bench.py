@@ -1,9 +1,7 @@
 """gate bench [PROGRAM ..]: compares the checksums of the bench with those of Rust's `String`.
 
-Without PROGRAM they are the two builds of `bench` that `rt ci` leaves. Each runs every workload of
-`bench/workloads.py` on every type of text that has it, and must give the sum that `bench/sums` has.
-Nothing is counted or timed. There must be as many workloads, and as many on each type of text, as
-`.ci/floors.py` says.
+Without PROGRAM they are the two builds of `bench` that `rt ci` leaves. Each runs every workload on every type of
+text that has it, and must give the sum that `bench/sums` has. Nothing is counted or timed.
 """
 import sys
 from collections import Counter

@@ -1,7 +1,7 @@
 """gate callers [--jobs N]: shows that the callers of a library need the clauses of its contracts.
 
-Those that the edits of `wrong-clauses` name must be proved as things are, with no proof of their own. docs/TESTING.md
-says what else is shown, of the README too.
+Those that the edits of `wrong-clauses` name must be proved as things are, with no proof of their own.
+docs/TESTING.md says what else is shown, of the README too.
 """
 import os
 import re
@@ -22,16 +22,12 @@ REACHED = re.compile(r'^ *\S+::(\w+) +reached$', re.MULTILINE)
 TRUSTED = re.compile(r'of which the program calls (.*?)\.$', re.MULTILINE | re.DOTALL)
 
 
-def promising(text):
-    """How many public functions of a source text have an `ensures`."""
-    return sum(bool(ENSURES.search(function)) for function in text.split('pub fn ')[1:])
-
-
 def require_callers():
     """There are as many callers as there must be, and they have no proof of their own."""
     if os.path.exists(os.path.join(crate_folder(CRATE), 'proofs')):
         raise Failure(f'{CRATE} has a folder proofs: a caller must not need any')
-    count = sum(map(promising, sources(crate_folder(CRATE))))
+    functions = [function for text in sources(crate_folder(CRATE)) for function in text.split('pub fn ')[1:]]
+    count = len(list(filter(ENSURES.search, functions)))
     if count < CALLERS:
         raise Failure(f'{CRATE} has {count} public functions with an `ensures`, and must have {CALLERS}')
     print(f'{CRATE}: {count} public functions with an `ensures`, and no proof', flush=True)

@@ -84,10 +84,7 @@ def texts_with(folder, edits):
     """The text of each file below the folder that the edits change, as they make it."""
     texts, changes = {}, defaultdict(list)
     for edit, change in ((edit, change) for edit in edits for change in edit.changes):
-        try:
-            text = texts.setdefault(change.path, text_of(os.path.join(folder, change.path)))
-        except OSError as error:
-            raise Failure(f'{edit.name}: {change.path} cannot be read: {error.strerror}')
+        text = texts.setdefault(change.path, text_of(os.path.join(folder, change.path)))
         changes[change.path].append((only_place(edit, change, text), change))
     for path, own in changes.items():
         before = len(texts[path])

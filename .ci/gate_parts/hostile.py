@@ -8,6 +8,7 @@ can be compared. No input asks for memory that one machine grants and another re
 import re
 import runpy
 from collections import Counter
+from contextlib import suppress
 from functools import partial
 
 from floors import HOSTILE, HOSTILE_INPUTS, NAMED_CASES
@@ -112,12 +113,10 @@ def hostile_case(number):
         words = draw.choice(WRONG_WORDS) if draw.chance(WRONG) else [word]
         io = draw.choice(STREAMS) if draw.chance(STREAMED) else ''
         case = Case(f'hostile_{number}', words, draw.weighted(INPUTS)(draw, word), io)
-        try:
+        # another one, where what memory there is would decide
+        with suppress(Undecided):
             ends, replies = answer(case)
             return case, ends, *('char' if reply.startswith('char ') else reply for reply in replies)
-        except Undecided:
-            # what memory there is would decide: another one
-            pass
 
 
 def named_cases(count=NAMED_CASES, path=NAMED):

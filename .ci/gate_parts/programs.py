@@ -3,6 +3,7 @@ import os
 import subprocess
 import threading
 import time
+from contextlib import suppress
 from dataclasses import dataclass
 from multiprocessing import get_context
 
@@ -71,12 +72,10 @@ def input_of(case):
 def feed_in_parts(pipe, data):
     """The first byte, then the rest in four parts."""
     step = len(data) // 4 + 1
-    try:
+    with suppress(BrokenPipeError):
         for part in (data[:1], *(data[at:at + step] for at in range(1, len(data), step))):
             os.write(pipe, part)
             time.sleep(.001)
-    except BrokenPipeError:
-        pass
     os.close(pipe)
 
 

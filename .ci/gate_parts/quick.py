@@ -1,8 +1,7 @@
 """gate quick: a newcomer's check, under three minutes on two processors. The gate is `.ci/run`.
 
 One part of the library is proved, lists of commands; the main tests run unproved, by `rt try`; and the
-program prints what is stored of its own script. A test that holds all memory stops under `rt try`: it says
-that it needs the proved build, and is counted apart.
+program prints what is stored of its own script.
 """
 import os
 import re

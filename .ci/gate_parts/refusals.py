@@ -4,18 +4,17 @@ The tests of the modules `refusals` must pass each time, and each says what its 
 it makes, and how many of them are unseen, as std does without (`shrink_to_fit` and `collect` do so). One request
 more of each test is its last. A test must say `one refused` where one of its requests fails, except as often as
 it has unseen ones, `last refused` at the next, and `none refused` after it. So a call that allocates where it need
-not is found, even if it does without where that fails. Each allocation is one build of a crate's tests.
-
-Without CRATE the wrong bodies of `wrong-bodies/` are tried too, as docs/TESTING.md says.
+not is found, even if it does without where that fails. Each allocation is one build of a crate's tests. Without CRATE the
+wrong bodies of `wrong-bodies/` are tried too, as docs/TESTING.md says.
 """
 import os
 import re
 from glob import glob
 
 from floors import REFUSALS, WRONG_BODIES
-from gate_parts.edit_files import read_edits, refuse_repetitions, texts_with
+from gate_parts.edit_files import edits_of, read_edits, texts_with
 from gate_parts.rooms import Room, copies
-from gate_parts.tree import Failure, crate_folder, crates_with, run_in, too_few
+from gate_parts.tree import crate_folder, crates_with, run_in, too_few
 
 OPTIONS, FOLDER = 'crates', 'wrong-bodies'
 # The allocation that fails over wrong bodies: the first that is one too many may come second.
@@ -99,18 +98,14 @@ def are_refused(library, edits, named):
 
 def bodies_are_refused():
     """Whether tests refuse all wrong bodies, of which there are as many as is said."""
-    folders = {library: os.path.join(crate_folder(library), FOLDER) for library in crates_with(FOLDER)}
-    groups = [(library, read_edits(folder, path, library)) for library, folder in folders.items()
+    libraries = {*crates_with(FOLDER), *WRONG_BODIES}
+    edits = {library: edits_of(library, FOLDER, WRONG_BODIES) for library in libraries}
+    folders = [(library, os.path.join(crate_folder(library), FOLDER)) for library in edits]
+    groups = [(library, read_edits(folder, path, library)) for library, folder in folders
               for path in sorted(glob(os.path.join(folder, '*')))]
-    edits = [edit for _, group in groups for edit in group]
-    refuse_repetitions(FOLDER, edits)
-    if len(edits) != WRONG_BODIES:
-        raise Failure(f'there are {len(edits)} wrong bodies, and floors.py says {WRONG_BODIES}')
-    named = {function for edit in edits for _, function in edit.functions()}
+    named = {function for own in edits.values() for edit in own for _, function in edit.functions()}
     return all([are_refused(library, group, named) for library, group in groups])
 
 
 def main(given):
-    if not given.crates and not REFUSALS:
-        raise Failure('no crate is named, and .ci/floors.py has none')
     return all([*map(is_swept, given.crates or REFUSALS), bool(given.crates) or bodies_are_refused()])

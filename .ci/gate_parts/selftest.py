@@ -14,7 +14,7 @@ from gate_parts.tree import in_tree, run_in, text_of, write_text
 FLOORS = '''
 EDITS, MUST_FAIL, WRONG_DEFINITIONS, WRONG_CLAUSES = {'toy': 1}, {'toy': 1}, {'toy': 1}, {'toy': 1}
 CALLERS = 1
-REFUSALS, WRONG_BODIES = {'toy': (2, 3)}, 2
+REFUSALS, WRONG_BODIES = {'toy': (2, 3)}, {'toy': 2}
 BENCH_WORKLOADS, BENCH_TEXTS = 1, {'One': 1, 'Two': 1}
 PROOFS, CITED, UNSAFE = 2, 2, {}
 '''
@@ -144,8 +144,7 @@ BROKEN = (
     ('edits', 'clause-other is not refused', TOGETHER, 'clause-value', 'clause-other'),
     ('edits', 'which is not of toy', TOGETHER, ': one', ': above/row'),
     ('edits', 'two_for_one: this is 0 times', TOGETHER, 'old:     1', 'old:     3'),
-    ('edits', 'two_for_one: src/none.rt cannot be read', TOGETHER, 'old:', 'file: src/none.rt\nold:'),
-    ('edits', 'two_for_other: this is 0 times', ALONE, 'one()', 'none()'),
+    ('edits', '/crates/toy/src/none.rt', TOGETHER, 'old:', 'file: src/none.rt\nold:'),
     ('edits', 'must-fail/ and the table of its README differ', LISTED, 'two_for_other', 'two'),
     ('edits', 'or change, (Change', TOGETHER, EDIT, EDIT + '\n' + EDIT.replace('two_for_one', 'again')),
     ('edits', 'has 1 edits in must-fail-together', '.ci/floors.py', "= {'toy': 1},", "= {'toy': 2},"),
@@ -178,7 +177,7 @@ BROKEN = (
     ('refusals', 'first does not go wrong with `none`', {'WRONG': 'one 2 0,one 2 0'}),
     ('refusals', 'second goes wrong, and no edit', BODIES, BODY, BODY + 'old:     one()\nnew:     3\n'),
     ('refusals', 'a test is named twice', BODIES, 'old:', 'refused: refusals::first last\nold:'),
-    ('refusals', 'there are 2 wrong bodies', '.ci/floors.py', '(2, 3)}, 2', '(2, 3)}, 1'),
+    ('refusals', 'has 2 edits in wrong-bodies', '.ci/floors.py', "(2, 3)}, {'toy': 2}", "(2, 3)}, {'toy': 1}"),
     ('bench', 'wanted 11, given 12', 'bin/program', 'echo 11', 'echo 12'),
     ('bench', 'is not there', 'bin/program', '', None),
     ('bench', '0 are `Two`, and at least 1 must be', 'bench/workloads.py', "'One', 'Two'", "'One',"),

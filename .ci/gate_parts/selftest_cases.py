@@ -90,11 +90,10 @@ INPUTS = 40
 
 def fails(call, *given):
     """Whether it says that a part can't be tried."""
-    try:
+    with contextlib.suppress(Failure):
         call(*given)
-    except Failure:
-        return True
-    return False
+        return False
+    return True
 
 
 def on_floors():
