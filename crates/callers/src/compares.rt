@@ -24,15 +24,6 @@ pub fn is_same<const N: usize>(a: &InlinableStringN<N>, b: &InlinableStringN<N>)
     a == b
 }
 
-/// Whether two texts in arrays have the same characters.
-pub fn is_same_inline<const N: usize>(a: &InlineStringN<N>, b: &InlineStringN<N>) -> bool
-    ensures { IsTrue result ↔ (a.now ≡ b.now) }
-{
-    equality_is_that_of_texts::<N>();
-    let _ = a.len();
-    a == b
-}
-
 /// The later of two texts.
 pub fn later<const N: usize>(a: InlinableStringN<N>, b: InlinableStringN<N>) -> InlinableStringN<N>
     ensures one { (result ≡ a.entry) ⊎ (result ≡ b.entry) }
@@ -54,17 +45,7 @@ pub fn copied<const N: usize>(text: &InlinableStringN<N>) -> Result<InlinableStr
     text.clone()
 }
 
-/// A copy of a text in an array, which is never refused.
-pub fn copied_inline<const N: usize>(text: &InlineStringN<N>) -> InlineStringN<N>
-    ensures { result ≡ text.now }
-{
-    let Ok(copy) = text.clone() else {
-        unreachable!();
-    };
-    copy
-}
-
-/// The price of what has this name. The key is made on the stack, so it asks for no memory.
+/// The price of what has this name. The key is made on the stack, so it does not allocate.
 pub fn price_of(prices: &BTreeMap<InlineStringN<16>, u32>, name: &str) -> Option<u32>
     ensures too_long { 16 < length name.now → result ≡ None }
     ensures value { length name.now ≤ 16 → result

@@ -1,25 +1,14 @@
-//! Cuts and insertions at places: `is_char_boundary` tests them, of the text or of its `as_str()`.
+//! Cuts and insertions at places, which `is_char_boundary` tests.
 ghost use Rattle.std.specs.Prelude.{◌≡◌, ◌+◌, ◌≤◌, ◌<◌, ◌↔◌, ◌++◌, [], ◌∷◌, IsTrue, IfOk, OnErr, length, IsSome, IfNone, IfSome};
 ghost use Rattle.std.specs.Str.{chars};
-ghost use Rattle.inlinable_string.specs.Text.{size, cut, IsPlace, IsSplice, IsRemoval};
+ghost use Rattle.inlinable_string.specs.Text.{size, IsPlace, IsSplice, IsRemoval};
 ghost use Rattle.inlinable_string.specs.State.{IsSameText};
 
 use inlinable_string::laws::{
-    cuts_are_at_places, edits_leave_places, places_are_boundaries, steps_are_over_characters,
+    edits_leave_places, places_are_boundaries, steps_are_over_characters,
 };
 use inlinable_string::{InlineStringN, StringExt, StringMake};
 use std::alloc::{AllocError, Global};
-
-/// Cuts a text in an array.
-pub fn cut_inline<const N: usize>(text: &mut InlineStringN<N>, place: usize) -> bool
-    ensures { IsTrue result ↔ IsPlace text.old place }
-{
-    if text.as_str().is_char_boundary(place) {
-        text.truncate(place);
-        return true;
-    }
-    false
-}
 
 /// Puts a text in at a place, or does nothing where there is none.
 pub fn insert_at<S: StringExt>(text: &mut S, place: usize, part: &str) -> Result<bool, AllocError>
@@ -68,15 +57,6 @@ pub fn complete<const N: usize>(text: &mut InlineStringN<N>, cursor: usize, part
     text.insert_str(cursor, part).is_ok()
 }
 
-/// Takes the character at a place out of a text in an array.
-pub fn delete_at<const N: usize>(text: &mut InlineStringN<N>, place: usize) -> char
-    requires place { IsPlace text.old place }
-    requires some { place < size text.old }
-    ensures { IsRemoval text.old place result text.new }
-{
-    text.remove(place)
-}
-
 /// Splits the text off after a place, into a text of its own.
 pub fn split_off<S: StringMake + Drop>(
     alloc: Global,
@@ -94,14 +74,6 @@ pub fn split_off<S: StringMake + Drop>(
     tail.push_str(&text.as_str()[at..])?;
     text.truncate(at);
     Ok(tail)
-}
-
-/// Whether the text falls into two parts there.
-pub fn has_cut<S: StringExt>(text: &S, place: usize) -> bool
-    ensures { IsTrue result ↔ IsSome (cut (S.state text.now).text place) }
-{
-    cuts_are_at_places();
-    text.is_char_boundary(place)
 }
 
 /// The last character, and the text before it.

@@ -1,5 +1,6 @@
-//! Texts that are joined from iterators, printed, written into, and used as a `str`.
-ghost use Rattle.std.specs.Prelude.{◌≡◌, ◌+◌, ◌≤◌, ◌↔◌, ◌++◌, ◌∷◌, length, IfOk, IfErr, IsOk, OnOk, IsTrue};
+//! Texts that are joined from iterators and from strings out of an enum, printed, written into, and
+//! used as a `str`.
+ghost use Rattle.std.specs.Prelude.{◌≡◌, ◌+◌, ◌≤◌, ◌↔◌, ◌++◌, ◌∷◌, length, codes, IfOk, IfErr, IsOk, OnOk, IsTrue};
 ghost use Rattle.std.specs.Str.{chars};
 ghost use Rattle.std.specs.Str.Iter.{chars_rest};
 ghost use Rattle.std.specs.String.{string_bytes};
@@ -8,8 +9,9 @@ ghost use Rattle.inlinable_string.specs.State.{IsSameText, HasRoom, storage_when
 ghost use Rattle.inlinable_string.specs.Joins.{text_of_strs};
 ghost use Rattle.inlinable_string.specs.Values.{inlinable_policy, inlinable_state};
 
+use inlinable_string::inline_string::NotEnoughSpaceError;
 use inlinable_string::laws::{loops_go_over_the_text, writing_appends};
-use inlinable_string::{InlinableString, InlinableStringN, InlineStringN};
+use inlinable_string::{InlinableString, InlinableStringN, InlineStringN, StringExt};
 use std::alloc::{AllocError, Global};
 use std::fmt::{self, Write};
 use std::str::Chars;
@@ -39,13 +41,6 @@ pub fn add_letters<const N: usize>(
     text.extend_chars(letters.iter().copied())?;
     text.extend_char_refs(more.iter())?;
     text.extend_strs(words.iter().copied())
-}
-
-/// A word letter by letter.
-pub fn spelled(alloc: Global, word: &str) -> Result<InlinableString, AllocError>
-    ensures { IfOk result (λ made. bytes_of (inlinable_state 30 made).text ≡ word.now) }
-{
-    InlinableString::from_chars(alloc, word.chars())
 }
 
 /// The same by `collect`.
@@ -89,6 +84,13 @@ pub fn printed<const N: usize>(
     format!(in alloc; "{text}")
 }
 
+/// What the error of a growth prints.
+pub fn reason(alloc: Global, error: &NotEnoughSpaceError) -> Result<String, AllocError>
+    ensures { IfOk result (λ made. string_bytes made ≡ codes "the text does not fit") }
+{
+    format!(in alloc; "{error}")
+}
+
 /// Writes `name=value` at the end of a text.
 pub fn write_pair<const N: usize>(
     text: &mut InlinableStringN<N>,
@@ -112,15 +114,6 @@ pub fn write_within<const N: usize>(text: &mut InlinableStringN<N>, string: &str
     text.write_str(string)
 }
 
-/// Writes a string into an array, or nothing where it doesn't fit.
-pub fn write_if_it_fits<const N: usize>(text: &mut InlineStringN<N>, string: &str) -> bool
-    ensures fits { IsTrue result → text.new ≡ text.old ++ chars string.now }
-    ensures size { size text.new ≤ N }
-{
-    let _ = text.len();
-    text.write_str(string).is_ok()
-}
-
 /// A part of a path: `+=` where it is known to fit.
 pub fn add_part(path: &mut InlineStringN<16>, part: &str)
     requires { size path.old + length part.now ≤ 16 }
@@ -141,4 +134,33 @@ fn bytes_in(string: &str) -> usize
     ensures { result ≡ length string.now }
 {
     string.len()
+}
+
+/// What is noted.
+pub enum Note<'a> {
+    /// A word.
+    Word(&'a str),
+    /// A gap between words.
+    Gap,
+}
+
+/// Adds what a note says. A `&str` out of a variant is not known
+/// to be UTF-8, so it goes by a function, whose parameter is.
+pub fn add_note(text: &mut InlinableString, note: &Note) -> Result<(), AllocError>
+    ensures { OnOk result ((word : _) → note.now ≡ Note.Word word
+        → bytes_of (inlinable_state 30 text.new).text
+        ≡ bytes_of (inlinable_state 30 text.old).text ++ word.now) }
+{
+    match note {
+        Note::Word(word) => add_bytes(text, word),
+        Note::Gap => text.push(' '),
+    }
+}
+
+/// Adds a string: the bytes of the text are followed by its own.
+fn add_bytes(text: &mut InlinableString, string: &str) -> Result<(), AllocError>
+    ensures { OnOk result (bytes_of (inlinable_state 30 text.new).text
+        ≡ bytes_of (inlinable_state 30 text.old).text ++ string.now) }
+{
+    text.push_str(string)
 }

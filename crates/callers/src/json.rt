@@ -1,17 +1,21 @@
-//! Texts as JSON strings, and back.
-ghost use Rattle.std.specs.Prelude.{◌≡◌, ◌≤◌, List, ℕ, length, Err, IfOk, IfSome, IsSome};
+//! Texts as JSON strings, and back; and an error of a caller's own, which `?` makes of those of the
+//! library.
+ghost use Rattle.std.specs.Prelude.{◌≡◌, ◌≤◌, ◌↔◌, List, ℕ, length, None, Err, IfOk, IfSome, IsOk, IsSome};
 ghost use Rattle.serde_json.specs.Data.{string};
+ghost use Rattle.serde_json.specs.Find.{as_str};
 ghost use Rattle.serde_json.specs.View.{view};
 ghost use Rattle.inlinable_string.specs.Text.{bytes_of};
 ghost use Rattle.inlinable_string.specs.Values.{inlinable_state};
+ghost use Rattle.callers.specs.declared.json.LabelError.TheVariants.{TooLong, Document};
 
-use inlinable_string::inline_json::JsonError;
 use inlinable_string::laws::json_gives_the_text_back;
-use inlinable_string::{InlinableStringN, InlineStringN, StringExt};
+use inlinable_string::{
+    InlinableString, InlinableStringN, InlineStringN, JsonError, NotEnoughSpaceError, StringExt,
+};
 use serde_json::Value;
 use std::alloc::{AllocError, Global};
 
-/// A text goes through JSON and comes back; only memory can be wanting.
+/// Converts a text to JSON and back. Fails only if an allocation does.
 pub fn there_and_back<const N: usize>(
     alloc: Global,
     text: &InlinableStringN<N>,
@@ -49,4 +53,42 @@ impl Code {
         let code = InlineStringN::try_from(text).ok()?;
         Some(Code(code))
     }
+}
+
+/// Why there is no label.
+#[derive(Clone, Copy, Debug, PartialEq, Eq)]
+pub enum LabelError {
+    /// It has more than 16 bytes.
+    TooLong(NotEnoughSpaceError),
+    /// The value is no string, or an allocation failed.
+    Document(JsonError),
+}
+
+impl From<NotEnoughSpaceError> for LabelError {
+    ghost from_gives = { λ error made. made ≡ TooLong error };
+
+    fn from(error: NotEnoughSpaceError) -> Self {
+        LabelError::TooLong(error)
+    }
+}
+
+impl From<JsonError> for LabelError {
+    ghost from_gives = { λ error made. made ≡ Document error };
+
+    fn from(error: JsonError) -> Self {
+        LabelError::Document(error)
+    }
+}
+
+/// A label out of a document. One of at most 16 bytes is always read.
+pub fn from_document(alloc: Global, value: &Value) -> Result<InlineStringN<16>, LabelError>
+    ensures ok { IfOk result (λ label. view value.now ≡ string (bytes_of label)) }
+    ensures granted { (bytes : List ℕ) → view value.now ≡ string bytes → length bytes ≤ 16
+        → IsOk result }
+    ensures not_string { result ≡ Err (Document JsonError.NotString)
+        ↔ (as_str (view value.now) ≡ None) }
+{
+    let text = InlinableString::from_json(alloc, value)?;
+    let label = InlineStringN::try_from(text.as_str())?;
+    Ok(label)
 }

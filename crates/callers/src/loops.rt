@@ -2,7 +2,6 @@
 ghost use Rattle.std.specs.Prelude.{◌≡◌, ◌++◌, ◌==◌, if◌then◌else◌, map, filter, replicate, reverse, IfOk, OnOk};
 ghost use Rattle.std.specs.Char.{is_ascii_digit};
 ghost use Rattle.std.specs.Str.{chars};
-ghost use Rattle.inlinable_string.specs.Joins.{text_of_strs};
 
 use inlinable_string::inline_string::NotEnoughSpaceError;
 use inlinable_string::laws::items_are_the_characters;
@@ -36,24 +35,6 @@ pub fn reversed(letters: &[char]) -> Result<InlineStringN<32>, NotEnoughSpaceErr
     ensures { IfOk result (λ made. made ≡ reverse letters.now) }
 {
     InlineStringN::from_chars(letters.iter().rev().copied())
-}
-
-/// Adds words to the end of a text of an array.
-pub fn add_all<const N: usize>(
-    text: &mut InlineStringN<N>,
-    words: &[&str],
-) -> Result<(), NotEnoughSpaceError>
-    ensures { OnOk result (text.new ≡ text.old ++ text_of_strs words.now) }
-{
-    text.extend_strs(words.iter().copied())
-}
-
-/// Adds words to the end of any text.
-pub fn add_to_any<S: StringExt>(text: &mut S, words: &[&str]) -> Result<(), AllocError>
-    ensures { OnOk result ((S.state text.new).text
-        ≡ (S.state text.old).text ++ text_of_strs words.now) }
-{
-    string_ext::extend_strs(text, words.iter().copied())
 }
 
 /// Adds the digits of a string to the end of any text.

@@ -32,15 +32,17 @@ pub fn log_line(alloc: Global, units: &[u16]) -> Result<InlinableStringN<16>, Al
     InlinableStringN::from_utf16_lossy(alloc, units)
 }
 
-/// The units of a text that is known are read as that text.
+/// The units of a text that is known are read as that text, and those of no text are an error.
 pub fn same_name<S: StringMake + Drop>(
     alloc: Global,
     name: &S,
     units: &[u16],
 ) -> Result<S, Utf16Error>
-    requires { units.now ≡ units_of (S.state name.now).text }
-    ensures text { IfOk result (λ made. (S.state made).text ≡ (S.state name.now).text) }
-    ensures paired { ¬ (result ≡ Err Utf16Error.Unpaired) }
+    ensures text { units.now ≡ units_of (S.state name.now).text
+        → IfOk result (λ made. (S.state made).text ≡ (S.state name.now).text) }
+    ensures paired { units.now ≡ units_of (S.state name.now).text
+        → ¬ (result ≡ Err Utf16Error.Unpaired) }
+    ensures unpaired { HasUnpaired units.now → result ≡ Err Utf16Error.Unpaired }
 {
     paired_units_are_texts();
     utf16_is_read_as_it_is();

@@ -1,9 +1,15 @@
-//! Texts that are made: their capacity, their storage, and their policy.
-ghost use Rattle.std.specs.Prelude.{◌≡◌, ◌+◌, ◌<◌, ◌++◌, [], ◌∷◌, IfOk, OnOk};
+//! Texts that are made by any type: empty ones, their capacity, storage and policy, and what
+//! conversions make.
+ghost use Rattle.std.specs.Prelude.{◌≡◌, ◌≤◌, ◌↔◌, ◌++◌, [], ◌∷◌, IfOk, IfSome, IsSome, OnOk};
+ghost use Rattle.inlinable_string.specs.Text.{size};
 ghost use Rattle.inlinable_string.specs.State.{HasRoom, storage_when_made};
 ghost use Rattle.inlinable_string.specs.Values.{inlinable_policy, inlinable_state};
+ghost use Rattle.inlinable_string.specs.BoxableValues.{boxable_state};
+ghost use Rattle.inlinable_string.specs.StringValues.{string_state};
 
-use inlinable_string::{InlinableStringN, InlineStringN, Storage, StringMake};
+use inlinable_string::{
+    BoxableString, InlinableString, InlinableStringN, InlineStringN, Storage, StringExt, StringMake,
+};
 use std::alloc::{AllocError, Global};
 
 /// The empty text, of a type of the caller's choice.
@@ -53,4 +59,35 @@ impl<const N: usize> Names<N> {
             Err(_) => Err(AllocError),
         }
     }
+}
+
+/// The empty text, as `derive(Default)` makes it.
+pub fn blank<const N: usize>() -> InlineStringN<N>
+    ensures { result ≡ [] }
+{
+    InlineStringN::default()
+}
+
+/// A character as a text, or none where the array is too small.
+pub fn initial<const N: usize>(ch: char) -> Option<InlineStringN<N>>
+    ensures some { IfSome result (λ made. made ≡ ch ∷ []) }
+    ensures fits { IsSome result ↔ (size (ch ∷ []) ≤ N) }
+{
+    InlineStringN::try_from(ch).ok()
+}
+
+/// A text for a box of a `dyn`; its storage is unchanged.
+pub fn boxable(text: InlinableString) -> BoxableString
+    ensures { boxable_state result ≡ inlinable_state 30 text }
+{
+    BoxableString::from(text)
+}
+
+/// A copy of a `dyn StringExt` in std's `String`.
+pub fn string_of(alloc: Global, text: &dyn StringExt) -> Result<String, AllocError>
+    ensures { IfOk result (λ copy. (string_state copy).text ≡ (state text.now).text) }
+{
+    let mut copy: String = StringMake::new(alloc);
+    StringExt::push_str(&mut copy, text.as_str())?;
+    Ok(copy)
 }

@@ -1,5 +1,6 @@
-//! Texts split in two, in the other case, copied, and handed over as a `String`.
-ghost use Rattle.std.specs.Prelude.{◌≡◌, ◌≤◌, ◌++◌, map, IfOk, IfErr, IfNone, IfSome, IsOk, OnOk, OnErr, slice_index};
+//! Texts split in two, in the other case, copied, moved to another capacity, and handed over as a
+//! `String`.
+ghost use Rattle.std.specs.Prelude.{◌≡◌, ◌≤◌, ◌<◌, ◌++◌, map, IfOk, IfErr, IfNone, IfSome, IsOk, OnOk, OnErr, slice_index};
 ghost use Rattle.std.specs.Char.{to_ascii_lowercase, to_ascii_uppercase};
 ghost use Rattle.std.specs.Ordering.{nat_cmp};
 ghost use Rattle.std.specs.Cmp.Lexicographic.{slice_cmp};
@@ -57,23 +58,10 @@ pub fn wrap<const N: usize>(
     ensures err { OnErr result (IsSameText (inlinable_state N line.old)
         (inlinable_state N line.new)) }
     ensures granted { size (inlinable_state N line.old).text ≤ N → IsOk result }
+    ensures inline { (inlinable_state N line.old).storage ≡ Storage.Inline → IsOk result }
 {
     let at = line.as_str().floor_char_boundary(most);
     line.split_off(at)
-}
-
-/// The last `N` bytes of an inline text, or fewer, take no memory.
-pub fn tail(text: &mut InlinableString, at: usize) -> InlinableString
-    requires inline { (inlinable_state 30 text.old).storage ≡ Storage.Inline }
-    ensures parts { size (inlinable_state 30 text.new).text ≤ at
-        → (inlinable_state 30 text.old).text
-        ≡ (inlinable_state 30 text.new).text ++ (inlinable_state 30 result).text }
-{
-    let at = text.as_str().floor_char_boundary(at);
-    let Ok(rest) = text.split_off(at) else {
-        unreachable!();
-    };
-    rest
 }
 
 /// A name for a library that takes a `String`; a long one goes as it is.
@@ -86,14 +74,6 @@ pub fn handed_over<const N: usize>(name: InlinableStringN<N>) -> Result<String, 
     name.into_string()
 }
 
-/// A name that a library gave, in the value itself where it fits.
-pub fn taken_over(name: String) -> InlinableString
-    ensures { (inlinable_state 30 result).text ≡ (string_state name).text }
-{
-    strings_convert::<30>();
-    name.into()
-}
-
 /// A key of a table out of a `String`, or the `String` back.
 pub fn key_of(name: String) -> Result<InlineStringN<16>, String>
     ensures ok { IfOk result (λ key. key ≡ (string_state name).text) }
@@ -102,4 +82,26 @@ pub fn key_of(name: String) -> Result<InlineStringN<16>, String>
 {
     strings_convert::<16>();
     InlineStringN::try_from(name)
+}
+
+/// A key of a table, in less room; or the name as it came, which then has more than 8 bytes.
+pub fn as_key(name: InlinableString) -> Result<InlinableStringN<8>, InlinableString>
+    ensures text { IfOk result
+        (λ key. (inlinable_state 8 key).text ≡ (inlinable_state 30 name).text) }
+    ensures err { IfErr result (λ back. back ≡ name) }
+    ensures long { IfErr result (λ back. 8 < size (inlinable_state 30 back).text) }
+{
+    name.with_limit::<8>()
+}
+
+/// A name that was cut goes back inline, into a larger value: that takes no memory.
+pub fn widened(name: InlinableStringN<8>) -> InlinableStringN<64>
+    requires { size (inlinable_state 8 name).text ≤ 64 }
+    ensures text { (inlinable_state 64 result).text ≡ (inlinable_state 8 name).text }
+    ensures storage { (inlinable_state 64 result).storage ≡ Storage.Inline }
+{
+    let Ok(wide) = name.with_limit::<64>() else {
+        unreachable!();
+    };
+    wide
 }
