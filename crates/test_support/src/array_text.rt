@@ -2,7 +2,7 @@
 ghost use Rattle.inlinable_string.specs.Values.{inlinable_policy};
 ghost use Rattle.inlinable_string.specs.declared.string_ext.Storage.TheVariants.{Inline};
 
-use inlinable_string::inline_string::{NotEnoughSpaceError, ReplaceError};
+use inlinable_string::inline_string::ReplaceError;
 use inlinable_string::{InlineStringN, Storage, StringExt};
 use std::alloc::AllocError;
 
@@ -20,31 +20,19 @@ impl<const N: usize> StringExt for ArrayText<N> {
     } };
 
     fn push(&mut self, ch: char) -> Result<(), AllocError> {
-        match self.0.push(ch) {
-            Ok(()) => Ok(()),
-            Err(NotEnoughSpaceError) => Err(AllocError),
-        }
+        self.0.push(ch).map_err(|_| AllocError)
     }
 
     fn push_str(&mut self, string: &str) -> Result<(), AllocError> {
-        match self.0.push_str(string) {
-            Ok(()) => Ok(()),
-            Err(NotEnoughSpaceError) => Err(AllocError),
-        }
+        self.0.push_str(string).map_err(|_| AllocError)
     }
 
     fn insert(&mut self, idx: usize, ch: char) -> Result<(), AllocError> {
-        match self.0.insert(idx, ch) {
-            Ok(()) => Ok(()),
-            Err(NotEnoughSpaceError) => Err(AllocError),
-        }
+        self.0.insert(idx, ch).map_err(|_| AllocError)
     }
 
     fn insert_str(&mut self, idx: usize, string: &str) -> Result<(), AllocError> {
-        match self.0.insert_str(idx, string) {
-            Ok(()) => Ok(()),
-            Err(NotEnoughSpaceError) => Err(AllocError),
-        }
+        self.0.insert_str(idx, string).map_err(|_| AllocError)
     }
 
     fn reserve(&mut self, additional: usize) -> Result<(), AllocError> {
@@ -56,11 +44,7 @@ impl<const N: usize> StringExt for ArrayText<N> {
     }
 
     fn reserve_exact(&mut self, additional: usize) -> Result<(), AllocError> {
-        if additional <= N - self.0.len() {
-            Ok(())
-        } else {
-            Err(AllocError)
-        }
+        self.reserve(additional)
     }
 
     fn shrink_to_fit(&mut self) -> Result<(), AllocError> {

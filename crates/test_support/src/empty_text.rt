@@ -1,8 +1,8 @@
 //! Texts that tests make empty, of every kind.
 ghost use Rattle.std.specs.Prelude.{◌≡◌, [], IfOk};
 
-use crate::{ArrayText, HeapText};
-use inlinable_string::{InlinableStringN, InlineStringN, StringExt, StringMake};
+use crate::ArrayText;
+use inlinable_string::{InlineStringN, StringExt, StringMake};
 use std::alloc::{AllocError, Global};
 
 /// A text that can be made empty. An array is one, and yet no `StringMake`: that makes texts on the
@@ -13,16 +13,7 @@ pub trait EmptyText: StringExt {
         ensures { IfOk result (λ made. (Self.state made).text ≡ []) };
 }
 
-impl EmptyText for String {
-    fn empty(alloc: Global, room: Option<usize>) -> Result<Self, AllocError> {
-        match room {
-            Some(room) => StringMake::with_capacity(alloc, room),
-            None => Ok(StringMake::new(alloc)),
-        }
-    }
-}
-
-impl<const N: usize> EmptyText for InlinableStringN<N> {
+impl<S: StringMake> EmptyText for S {
     fn empty(alloc: Global, room: Option<usize>) -> Result<Self, AllocError> {
         match room {
             Some(room) => StringMake::with_capacity(alloc, room),
@@ -36,15 +27,6 @@ impl<const N: usize> EmptyText for ArrayText<N> {
         match room {
             Some(room) if N < room => Err(AllocError),
             _ => Ok(ArrayText(InlineStringN::new())),
-        }
-    }
-}
-
-impl EmptyText for HeapText {
-    fn empty(alloc: Global, room: Option<usize>) -> Result<Self, AllocError> {
-        match room {
-            Some(room) => StringMake::with_capacity(alloc, room),
-            None => Ok(StringMake::new(alloc)),
         }
     }
 }

@@ -59,10 +59,11 @@ impl Hoard {
     /// All memory that is left, in addition to these blocks.
     fn rest(alloc: Global, mut blocks: Vec<Vec<u8>>) -> Option<Hoard> {
         for smaller in 0..=LARGEST_SHIFT {
-            take_all(alloc, &mut blocks, 1usize << (LARGEST_SHIFT - smaller));
+            let size = 1usize << (LARGEST_SHIFT - smaller);
+            take_some(alloc, &mut blocks, size, MOST_BLOCKS);
         }
         for size in 1..=MOST_KEPT {
-            take_all(alloc, &mut blocks, size);
+            take_some(alloc, &mut blocks, size, MOST_BLOCKS);
         }
         let one_more: Result<Vec<u8>, _> = Vec::with_capacity(alloc, 1);
         if blocks.len() < MOST_BLOCKS && one_more.is_err() {
@@ -73,12 +74,8 @@ impl Hoard {
     }
 }
 
-/// Takes blocks of this size until one is refused, as far as there are places for them.
-fn take_all(alloc: Global, blocks: &mut Vec<Vec<u8>>, size: usize) {
-    take_some(alloc, blocks, size, MOST_BLOCKS);
-}
-
-/// The same, and no more than `count` of them.
+/// Takes at most `count` blocks of this size, until one is refused, as far as there are places for
+/// them.
 fn take_some(alloc: Global, blocks: &mut Vec<Vec<u8>>, size: usize, count: usize) {
     for _ in 0..count {
         let Ok(block) = Vec::with_capacity(alloc, size) else {

@@ -1,5 +1,5 @@
 -- The entries of an index, as its map has them and as its user sees them; and a word of a text.
-use Rattle.std.proofs.Common.{◌≡◌, ◌++◌, ◌<◌, List, [], ◌∷◌, ℕ, length, map, Bool, true, false, cond, Option, option_map, Ordering, Less, Equal, Greater, is_eq, refl, ap}
+use Rattle.std.proofs.Common.{◌≡◌, ◌++◌, ◌<◌, List, [], ◌∷◌, ℕ, length, map, cond, Some, Ordering, Less, Equal, Greater, is_eq, refl, ap}
 use Rattle.std.specs.BTreeMap.{is_at, insert_entry}
 use Rattle.std.specs.Char.{is_whitespace, is_not_whitespace}
 use Rattle.std.specs.Cmp.Lexicographic.{slice_cmp}
@@ -14,11 +14,6 @@ use Rattle.word_index.specs.Index.{bytes_at, entry_of, use_of, with_use, BeginsW
 abbrev pub word_order : InlinableStringN 30 → InlinableStringN 30 → Ordering
 word_order s t = slice_cmp nat_cmp (bytes_at s) (bytes_at t)
 
-by_test : {A B : Type 0} (f : A → B) (b : Bool) (x y : A) (z : B) → f y ≡ z
-    → f (cond b x y) ≡ cond b (f x) z
-by_test f true x y z e = refl
-by_test f false x y z e = e
-
 by_order : {A B : Type 0} (f : A → B) (o : Ordering) (x y z : A) (w : B) → f z ≡ w
     → f (match_ordering o x y z) ≡ match_ordering o (f x) (f y) w
 by_order f Less x y z w e = refl
@@ -29,8 +24,7 @@ by_order f Greater x y z w e = e
 pub finds : (word : InlinableStringN 30) (es : List (InlinableStringN 30 × Uses))
     → lookup (is_at (word_order word)) es ≡ use_of (map entry_of es) (bytes_at word)
 finds word [] = refl
-finds word (e ∷ es) =
-    by_test (λ o. o) (is_eq (word_order word e.0)) _ _ _ (finds word es)
+finds word (e ∷ es) = ap (cond (is_eq (word_order word e.0)) (Some e.1)) (finds word es)
 
 pub puts : (word : InlinableStringN 30) (uses : Uses) (es : List (InlinableStringN 30 × Uses))
     → map entry_of (insert_entry word_order es word uses)
