@@ -5,7 +5,7 @@
 //! The text starts empty. The answer has what each call returns and the storage after it, and at
 //! the end the storage, the length and the bytes.
 
-use crate::digits::{bytes_of, push_digits, units_of};
+use crate::digits::{bytes_of, push_digits};
 use crate::fault::LineFault;
 use inlinable_string::{InlinableString, InlinableStringN, InlineString, Storage, StringMake};
 use std::alloc::{AllocError, Global};
@@ -18,9 +18,11 @@ mod views;
 /// A call of a line.
 #[derive(Clone, Copy)]
 pub struct Call<'a> {
+    pub alloc: Global,
     pub word: &'a str,
     pub number: usize,
-    digits: &'a str,
+    /// What it is given.
+    pub bytes: &'a [u8],
 }
 
 /// What a call answers.
@@ -37,48 +39,25 @@ pub enum Answer {
 /// A text on which calls are played.
 pub trait Played {
     /// What a call answers, which may change the text.
-    fn play(&mut self, alloc: Global, call: Call) -> Result<Answer, LineFault>;
+    fn play(&mut self, call: Call) -> Result<Answer, LineFault>;
 
     /// The storage of the text, and the text.
     fn seen(&self) -> (Storage, &str);
 }
 
 impl<'a> Call<'a> {
-    fn of(token: &'a str) -> Result<Call<'a>, LineFault> {
-        let (head, digits) = token.split_once(':').unwrap_or((token, ""));
-        let (word, number) = head.split_once('@').unwrap_or((head, "0"));
-        let Ok(number) = number.parse() else {
-            return Err(LineFault::NoInput);
-        };
-        Ok(Call {
-            word,
-            number,
-            digits,
-        })
-    }
-
-    /// The bytes that it is given.
-    pub fn bytes(self, alloc: Global) -> Result<Vec<u8>, LineFault> {
-        bytes_of(alloc, self.digits)
-    }
-
-    /// The units that it is given.
-    pub fn units(self, alloc: Global) -> Result<Vec<u16>, LineFault> {
-        units_of(alloc, self.digits)
-    }
-
     /// The text that it is given.
-    pub fn text(self, alloc: Global) -> Result<String, LineFault> {
-        match String::from_utf8(self.bytes(alloc)?) {
-            Ok(text) => Ok(text),
+    pub fn string(self) -> Result<&'a str, LineFault> {
+        match str::from_utf8(self.bytes) {
+            Ok(string) => Ok(string),
             Err(_) => Err(LineFault::NoInput),
         }
     }
-}
 
-/// The character that a call is given.
-pub fn first_of(string: &str) -> Result<char, LineFault> {
-    string.chars().next().ok_or(LineFault::NoInput)
+    /// The character that it is given.
+    pub fn first(self) -> Result<char, LineFault> {
+        self.string()?.chars().next().ok_or(LineFault::NoInput)
+    }
 }
 
 /// Adds what the calls of a line answer.
@@ -105,7 +84,18 @@ fn push_played<T: Played>(
     answer: &mut Vec<u8>,
 ) -> Result<(), LineFault> {
     for token in calls.split(' ') {
-        let told = text.play(alloc, Call::of(token)?)?;
+        let (head, digits) = token.split_once(':').unwrap_or((token, ""));
+        let (word, number) = head.split_once('@').unwrap_or((head, "0"));
+        let Ok(number) = number.parse() else {
+            return Err(LineFault::NoInput);
+        };
+        let given = bytes_of(alloc, digits)?;
+        let told = text.play(Call {
+            alloc,
+            word,
+            number,
+            bytes: given.as_slice(),
+        })?;
         answer.extend_from_slice(match text.seen().0 {
             Storage::Inline => b" i:",
             Storage::Heap => b" h:",

@@ -23,10 +23,9 @@ pub fn bytes_of(alloc: Global, digits: &str) -> Result<Vec<u8>, LineFault> {
     Ok(bytes)
 }
 
-/// The units of these digits, four for each.
-pub fn units_of(alloc: Global, digits: &str) -> Result<Vec<u16>, LineFault> {
-    let bytes = bytes_of(alloc, digits)?;
-    let (pairs, odd) = bytes.as_slice().as_chunks::<2>();
+/// The units of these bytes, two for each.
+pub fn units_of(alloc: Global, bytes: &[u8]) -> Result<Vec<u16>, LineFault> {
+    let (pairs, odd) = bytes.as_chunks::<2>();
     if !odd.is_empty() {
         return Err(LineFault::NoInput);
     }

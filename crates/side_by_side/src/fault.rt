@@ -1,5 +1,6 @@
 //! Why lines were not answered, or not to their end.
 
+use inlinable_string::NotEnoughSpaceError;
 use std::alloc::AllocError;
 use std::{fmt, io};
 
@@ -37,6 +38,12 @@ impl fmt::Display for LineFault {
 impl From<AllocError> for LineFault {
     fn from(_error: AllocError) -> LineFault {
         LineFault::NoMemory
+    }
+}
+
+impl From<NotEnoughSpaceError> for LineFault {
+    fn from(_error: NotEnoughSpaceError) -> LineFault {
+        LineFault::NoInput
     }
 }
 

@@ -1,17 +1,16 @@
 //! The calls of `InlineString`.
 
 use crate::calls::views::{
-    RANGE, bytes, changed, character, compare, done_or, edited, is_kept, truth, view,
+    RANGE, bytes, changed, character, compare, done_or, is_kept, made_in, played, put, truth, view,
 };
-use crate::calls::{Answer, Call, Played, first_of};
+use crate::calls::{Answer, Call, Played};
 use crate::fault::LineFault;
 use inlinable_string::{INLINE_STRING_CAPACITY, InlineString, Storage};
-use std::alloc::Global;
 use std::fmt::Write;
 
 impl Played for InlineString {
-    fn play(&mut self, alloc: Global, call: Call) -> Result<Answer, LineFault> {
-        make(alloc, self, call, &call.text(alloc)?)
+    fn play(&mut self, call: Call) -> Result<Answer, LineFault> {
+        make(self, call, call.string()?)
     }
 
     fn seen(&self) -> (Storage, &str) {
@@ -20,126 +19,51 @@ impl Played for InlineString {
 }
 
 /// The calls that make another text, and those that take one.
-fn make(
-    alloc: Global,
-    text: &mut InlineString,
-    call: Call,
-    string: &str,
-) -> Result<Answer, LineFault> {
+fn make(text: &mut InlineString, call: Call, string: &str) -> Result<Answer, LineFault> {
     let made = match call.word {
         "from" | "eq" | "cmp" | "partial_cmp" if string.len() > INLINE_STRING_CAPACITY => {
             return Ok(Answer::Word("too_long"));
         }
-        "eq" | "cmp" | "partial_cmp" => return compare(
-            text,
-            &made_in(string, call.number)?,
-            call.word,
-        ),
-        "new" => InlineString::new(),
-        "default" => InlineString::default(),
-        "clone" => text.clone()?,
-        "copy" => text.copy(),
-        "from" => InlineString::from(string),
-        "from_chars" => match InlineString::from_chars(string.chars()) {
-            Ok(made) => made,
-            Err(_) => return Ok(Answer::Word("full")),
-        },
-        "from_strs" => match InlineString::from_strs(string.split(',')) {
-            Ok(made) => made,
-            Err(_) => return Ok(Answer::Word("full")),
-        },
-        _ => return edit(alloc, text, call, string),
+        "eq" | "cmp" | "partial_cmp" => {
+            let mut other = InlineString::new();
+            made_in!(other, string, call.number, return Err(LineFault::NoInput));
+            return compare(text, &other, call.word);
+        }
+        "new" => Ok(InlineString::new()),
+        "default" => Ok(InlineString::default()),
+        "clone" => Ok(text.clone()?),
+        "copy" => Ok(text.copy()),
+        "from" => Ok(InlineString::from(string)),
+        "from_chars" => InlineString::from_chars(string.chars()),
+        "from_strs" => InlineString::from_strs(string.split(',')),
+        _ => return edit(text, call),
     };
-    *text = made;
-    Ok(Answer::Word("done"))
+    put(text, made, "full")
 }
 
-/// A text that came about in one of three ways, of which nothing may be seen: as it is, with a
-/// character before it that was removed, or with more after it that was cut off.
-fn made_in(string: &str, way: usize) -> Result<InlineString, LineFault> {
-    let mut text = InlineString::new();
-    let mut fits = text.push_str(string).is_ok();
-    match way {
-        0 => {}
-        1 => {
-            fits = fits && text.insert(0, '𝄞').is_ok();
-            if !text.is_empty() {
-                text.remove(0);
-            }
-        }
-        3 => {
-            fits = fits && text.push_str("more").is_ok();
-            if text.is_char_boundary(string.len()) {
-                text.truncate(string.len());
-            }
-        }
-        _ => return Err(LineFault::NoInput),
-    }
-    if fits {
-        Ok(text)
-    } else {
-        Err(LineFault::NoInput)
-    }
+/// The calls that change the text, or look at it.
+fn edit(text: &mut InlineString, call: Call) -> Result<Answer, LineFault> {
+    played!(text, call, "full", change(text, call, call.string()?))
 }
 
-/// The calls that change the text.
-fn edit(
-    alloc: Global,
-    text: &mut InlineString,
-    call: Call,
-    string: &str,
-) -> Result<Answer, LineFault> {
-    edited!(
-        alloc,
-        text,
-        call,
-        string,
-        "full",
-        change(alloc, text, call, string)
-    )
-}
-
-/// The calls of `String` that the traits have not, and those that join.
-fn change(
-    alloc: Global,
-    text: &mut InlineString,
-    call: Call,
-    string: &str,
-) -> Result<Answer, LineFault> {
+/// The calls of `String` that the traits have not, and those of this type alone.
+fn change(text: &mut InlineString, call: Call, string: &str) -> Result<Answer, LineFault> {
     changed!(
         text,
         call,
-        string,
         "full",
         match call.word {
-            "split_off" => bytes(alloc, "bytes", text.split_off(call.number).as_bytes()),
+            "split_off" => bytes(call.alloc, "bytes", text.split_off(call.number).as_bytes()),
             "extend_chars" => done_or(text.extend_chars(string.chars()), "full"),
             "extend_strs" => done_or(text.extend_strs(string.split(',')), "full"),
-            _ => more(alloc, text, call, string),
+            "write_char" => done_or(text.write_char(call.first()?), "write_fault"),
+            "write_str" => done_or(text.write_str(string), "write_fault"),
+            "into_bytes" => {
+                let given = text.clone()?.into_bytes();
+                text.clear();
+                bytes(call.alloc, "bytes", &given)
+            }
+            _ => view(text, call),
         }
     )
-}
-
-/// The calls of this type alone, and those that look at the text.
-fn more(
-    alloc: Global,
-    text: &mut InlineString,
-    call: Call,
-    string: &str,
-) -> Result<Answer, LineFault> {
-    match call.word {
-        "write_char" => done_or(text.write_char(first_of(string)?), "write_fault"),
-        "write_str" => done_or(text.write_str(string), "write_fault"),
-        "into_bytes" => {
-            let given = text.clone()?.into_bytes();
-            text.clear();
-            bytes(alloc, "bytes", &given)
-        }
-        "len" => Ok(Answer::Number(text.len())),
-        "is_empty" => Ok(truth(text.is_empty())),
-        "as_bytes" => bytes(alloc, "bytes", text.as_bytes()),
-        "as_str" => bytes(alloc, "bytes", text.as_str().as_bytes()),
-        "eq_str" => Ok(truth(text.eq_str(string))),
-        _ => view(alloc, text, call),
-    }
 }

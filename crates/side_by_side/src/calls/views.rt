@@ -7,17 +7,18 @@ use std::cmp::Ordering;
 use std::fmt::{Debug, Display};
 use std::hash::{DefaultHasher, Hash, Hasher};
 
-/// What an edit answers, where memory or room that is refused is the fault; else what `others` do.
-macro_rules! edited {
-    ($alloc:ident, $text:ident, $call:ident, $string:ident, $fault:literal, $others:expr) => {
+/// What a call answers that each type has, where memory or room that is refused is the fault; else
+/// what `others` do.
+macro_rules! played {
+    ($text:ident, $call:ident, $fault:literal, $others:expr) => {
         match $call.word {
-            "push" => done_or($text.push(first_of($string)?), $fault),
-            "push_str" => done_or($text.push_str($string), $fault),
+            "push" => done_or($text.push($call.first()?), $fault),
+            "push_str" => done_or($text.push_str($call.string()?), $fault),
             "insert" | "insert_str" | "truncate" if !$text.is_char_boundary($call.number) => {
                 Ok(Answer::Word("bad_place"))
             }
-            "insert" => done_or($text.insert($call.number, first_of($string)?), $fault),
-            "insert_str" => done_or($text.insert_str($call.number, $string), $fault),
+            "insert" => done_or($text.insert($call.number, $call.first()?), $fault),
+            "insert_str" => done_or($text.insert_str($call.number, $call.string()?), $fault),
             "truncate" => {
                 $text.truncate($call.number);
                 Ok(Answer::Word("done"))
@@ -25,22 +26,27 @@ macro_rules! edited {
             "remove" if $call.number >= $text.len() || !$text.is_char_boundary($call.number) => {
                 Ok(Answer::Word("bad_place"))
             }
-            "remove" => character($alloc, Some($text.remove($call.number))),
-            "pop" => character($alloc, $text.pop()),
+            "remove" => character($call.alloc, Some($text.remove($call.number))),
+            "pop" => character($call.alloc, $text.pop()),
             "clear" => {
                 $text.clear();
                 Ok(Answer::Word("done"))
             }
+            "len" => Ok(Answer::Number($text.len())),
+            "is_empty" => Ok(truth($text.is_empty())),
+            "as_bytes" => bytes($call.alloc, "bytes", $text.as_bytes()),
+            "as_str" => bytes($call.alloc, "bytes", $text.as_str().as_bytes()),
+            "eq_str" => Ok(truth($text.eq_str($call.string()?))),
             _ => $others,
         }
     };
 }
 
-pub(crate) use edited;
+pub(crate) use played;
 
 /// What a call answers that `String` has and the traits have not; else what `others` do.
 macro_rules! changed {
-    ($text:ident, $call:ident, $string:ident, $fault:literal, $others:expr) => {
+    ($text:ident, $call:ident, $fault:literal, $others:expr) => {
         match $call.word {
             "retain" => {
                 $text.retain(|ch| is_kept(ch, $call.number));
@@ -59,7 +65,7 @@ macro_rules! changed {
                 if to < from || !$text.is_char_boundary(from) || !$text.is_char_boundary(to) {
                     return Ok(Answer::Word("bad_place"));
                 }
-                done_or($text.replace_range(from..to, $string), $fault)
+                done_or($text.replace_range(from..to, $call.string()?), $fault)
             }
             "split_off" if !$text.is_char_boundary($call.number) => Ok(Answer::Word("bad_place")),
             _ => $others,
@@ -68,6 +74,32 @@ macro_rules! changed {
 }
 
 pub(crate) use changed;
+
+/// Makes a text in one of three ways, of which nothing may be seen: as it is, with a character
+/// before it that was removed, or with more after it that was cut off; else as `others` do.
+macro_rules! made_in {
+    ($text:ident, $string:ident, $way:expr, $others:expr) => {{
+        $text.push_str($string)?;
+        match $way {
+            0 => {}
+            1 => {
+                $text.insert(0, '𝄞')?;
+                if !$text.is_empty() {
+                    $text.remove(0);
+                }
+            }
+            3 => {
+                $text.push_str("more")?;
+                if $text.is_char_boundary($string.len()) {
+                    $text.truncate($string.len());
+                }
+            }
+            _ => $others,
+        }
+    }};
+}
+
+pub(crate) use made_in;
 
 /// The end of a range is the rest of its number by this, and its start is the quotient.
 pub const RANGE: usize = 65_536;
@@ -91,12 +123,8 @@ pub fn compare<T: Ord>(text: &T, other: &T, word: &str) -> Result<Answer, LineFa
 }
 
 /// How a text hashes or prints, by the call's word, in several formats of its number.
-pub fn view<T: Hash + Display + Debug>(
-    alloc: Global,
-    text: &T,
-    call: Call,
-) -> Result<Answer, LineFault> {
-    let number = call.number;
+pub fn view<T: Hash + Display + Debug>(text: &T, call: Call) -> Result<Answer, LineFault> {
+    let (alloc, number) = (call.alloc, call.number);
     let printed = match call.word {
         "hash" => {
             let mut state = DefaultHasher::new();
@@ -126,6 +154,21 @@ pub fn character(alloc: Global, taken: Option<char>) -> Result<Answer, LineFault
     match taken {
         Some(ch) => bytes(alloc, "char", ch.encode_utf8(&mut [0; 4]).as_bytes()),
         None => Ok(Answer::Word("none")),
+    }
+}
+
+/// Replaces the text that is there, if one was made.
+pub fn put<S: Drop, E: Drop>(
+    text: &mut S,
+    made: Result<S, E>,
+    fault: &'static str,
+) -> Result<Answer, LineFault> {
+    match made {
+        Ok(made) => {
+            *text = made;
+            Ok(Answer::Word("done"))
+        }
+        Err(_) => Ok(Answer::Word(fault)),
     }
 }
 
