@@ -105,14 +105,7 @@ size-replaced_range {u = u} r = grind (arith, common_steps, size-append)
 
 pub place_past_range : {t u v : List ℕ} {p q : ℕ} → IsRangeReplaced t p q u v
     → IsPlace v (p + size u)
-place_past_range {u = u} r = (
-  r.front ++ u,
-  r.back,
-  record {
-    joined = r.joined;
-    before = size-append r.front u ∙ ap (λ n. n + size u) r.before.before;
-  },
-)
+place_past_range {u = u} r = search (rules, size-append)
 
 module _ {bs t v : List ℕ} {p q : ℕ} (u : IsUtf8 bs) (r : IsRangeReplaced t p q (chars bs) v) where
   pub size-replaced_str : size v + (q - p) ≡ size t + length bs

@@ -9,7 +9,7 @@ pub record Begins (bs : List ℕ) (c : ℕ) (rest : List ℕ) : Type 0 where
   pub scalar : IsScalar c
   pub joined : bs ≡ encode_utf8 c ++ rest
 
--- UTF-8 that is not empty begins with a character
+-- UTF-8 that is not empty begins with a character, and UTF-8 follows it
 pub first_of : (bs : List ℕ) → 0 < length bs → IsUtf8 bs
     → (c : ℕ) × (rest : List ℕ) × Begins bs c rest × IsUtf8 rest
 first_of bs some ([], (s, e)) = let none = ap length e in absurd (omega arith)

@@ -126,11 +126,7 @@ every_below p (suc n) = p n && every_below p n
 
 below_is : (p : ℕ → Bool) (n i : ℕ) → every_below p n ≡ true → i < n → p i ≡ true
 below_is p zero i all less = absurd (omega (arith, less))
-below_is p (suc n) i all less =
-    let both = and_parts (p n) (every_below p n) all in
-    ⊎_elim (λ lower. below_is p n i both.1 lower)
-    (λ last. let is : n ≡ i = omega (arith, less, last) in subst (λ k. p k ≡ true) is both.0)
-    (cases_lt i n)
+below_is p (suc n) i all less = grind (arith, common_steps, below_is p n i)
 
 -- whether two lists of ranges are the same
 abbrev same : List (ℕ × ℕ) → List (ℕ × ℕ) → Bool
