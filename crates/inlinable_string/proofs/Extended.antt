@@ -68,7 +68,8 @@ left_extended old mid new u g same = record {
 -- what was refused had no room
 above_room : (old mid : TextState) (u v w : List ℕ) (k : ℕ) → Grown old u mid → w ≡ u ++ v
     → k ≡ size v → (HasRoom mid k → false ≡ true) → old.capacity < size old.text + size w
-above_room old mid u v w k g whole counted none = search (rules, false≢true, size_extended, size-append)
+above_room old mid u v w k g whole counted none =
+    search (rules, false≢true, size_extended, size-append)
 
 -- where all fits, nothing is refused
 all_fit : {A S : Type 0} (text_of : List A → List ℕ) (gives : S → Option A → S → Type 0)

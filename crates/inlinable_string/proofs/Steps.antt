@@ -98,7 +98,8 @@ pub insert_refused : (old new : TextState) (p c : ℕ) → IsLawful new → IsPl
     → IsSameText old new
     → (HasInlineRoom old (size (c ∷ [])) → false ≡ true) → new.policy ≡ old.policy
     → IsStep old (Insert p c) NoMemory new
-insert_refused old new p c laws at same out policy = search (rules, refused, insertion_done, false≢true)
+insert_refused old new p c laws at same out policy =
+    search (rules, refused, insertion_done, false≢true)
 
 pub insert_misplaced : (old : TextState) (p c : ℕ) → (IsPlace old.text p → ⊥)
     → IsStep old (Insert p c) BadPlace old
