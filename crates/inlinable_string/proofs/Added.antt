@@ -1,5 +1,5 @@
 -- Texts in an array to which the items of an iterator are added one by one.
-use Rattle.inlinable_string.proofs.Common.{◌≡◌, ℕ, ◌+◌, ◌≤◌, ◌<◌, List, [], ◌∷◌, ◌++◌, sym, ap, ◌∙◌, arith, subst, Option, Some, None, Result, IsOk, OnErr, size}
+use Rattle.inlinable_string.proofs.Common.{common_steps, ◌≡◌, ℕ, ◌+◌, ◌≤◌, ◌<◌, List, [], ◌∷◌, ◌++◌, sym, ◌∙◌, arith, subst, Option, Some, None, Result, IsOk, OnErr, size}
 use Rattle.std.proofs.iter.runs.Made.{run_of_turn, run_of_exit}
 use Rattle.std.specs.Iterator.{Yields}
 use Rattle.std.specs.Iterator.Runs.{SomeRun, WholeRun, EachRunFrom}
@@ -40,15 +40,7 @@ module _ {A S : Type 0} (text_of : List A → List ℕ) (gives : S → Option A 
     last_refused r new v N k x whole counted above same step =
         let run = run_of_turn gives it items here (rw from at led) x rest step in
         let more : N < size old + size (text_of (items ++ x ∷ [])) =
-        omega (
-          arith,
-          ap size whole,
-          size-append (text_of items) v,
-          ap size sum,
-          size-append old (text_of items),
-          counted,
-          above,
-        ) in
+        grind (arith, common_steps, size-append) in
         let last : SomeRun gives it (λ run. IsFull text_of N old new run.items) =
         (run.0, run.1, (items, x, run.2.0, same ∙ sum, rw run.2.0 more)) in
         (refused r last, λ fits. absurd (none_full text_of gives it N old new last fits))

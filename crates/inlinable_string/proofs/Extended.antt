@@ -1,5 +1,6 @@
 -- Texts to which the items of an iterator are added one by one.
 use Rattle.inlinable_string.proofs.Common.{common_steps, ◌≡◌, ℕ, ◌+◌, ◌≤◌, ◌<◌, true, false, List, [], ◌∷◌, ◌++◌, sym, ap, ◌∙◌, arith, subst, append_assoc, Option, Some, None, Result, Ok, Err, IsOk, IfOk, OnErr, OnOk, MatchResult, rules, flat_map_more, map-append, chars, Inline, size, TextState, IsSameText, HasRoom, storage_with_room, storage_when_made, inlinable_policy, inlinable_state, text_of_strs, text_of_char_refs, IsExtended, IsRefusedLast}
+use Rattle.std.proofs.lemmas.Bool.{false≢true}
 use Rattle.std.proofs.iter.runs.Made.{took, run_of_turn, run_of_exit}
 use Rattle.std.specs.Borrow.{Bor}
 use Rattle.std.specs.Result.{IsErr}
@@ -9,9 +10,6 @@ use Rattle.std.specs.Iterator.Runs.{SomeRun, WholeRun, EachRunFrom}
 use Rattle.inlinable_string.specs.declared.inlinable_string.InlinableStringN.{InlinableStringN}
 use Rattle.inlinable_string.specs.declared.inlinable_string.InlinableStringN.TheVariants as variant
 use Rattle.inlinable_string.proofs.Text.{size-append}
-
-clash : false ≡ true → ⊥
-clash e = cc
 
 storage_of_two : (old mid : TextState) (n k : ℕ) → mid.policy ≡ old.policy
     → size mid.text ≡ size old.text + n → mid.storage ≡ storage_with_room old n
@@ -70,7 +68,8 @@ left_extended old mid new u g same = record {
 -- what was refused had no room
 above_room : (old mid : TextState) (u v w : List ℕ) (k : ℕ) → Grown old u mid → w ≡ u ++ v
     → k ≡ size v → (HasRoom mid k → false ≡ true) → old.capacity < size old.text + size w
-above_room old mid u v w k g whole counted none = search (rules, clash, size_extended, size-append)
+above_room old mid u v w k g whole counted none =
+    search (rules, false≢true, size_extended, size-append)
 
 -- where all fits, nothing is refused
 all_fit : {A S : Type 0} (text_of : List A → List ℕ) (gives : S → Option A → S → Type 0)
@@ -86,7 +85,7 @@ refused (Err x) p = p
 
 -- and what one that is refused says of the other end
 pub not_ok : {T E : Type 0} (P : Type 0) (r : Result T E) → IsErr r → OnOk r P
-not_ok P (Ok x) is = absurd (clash is)
+not_ok P (Ok x) is = absurd (false≢true is)
 not_ok P (Err x) is = tt
 
 module _ {A S : Type 0} (text_of : List A → List ℕ) (gives : S → Option A → S → Type 0)

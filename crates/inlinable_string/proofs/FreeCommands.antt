@@ -1,5 +1,5 @@
 -- Commands to which no memory can be refused.
-use Rattle.inlinable_string.proofs.Common.{◌≡◌, ◌≢◌, ℕ, zero, suc, ◌<◌, inl, inr, List, [], ◌∷◌, length, sym, ◌∙◌, arith, Contains, slice_index_or, TextState, edit, reply_of, IsFree, IsLegal, Command, Reply, NoMemory}
+use Rattle.inlinable_string.proofs.Common.{◌≡◌, ◌≢◌, ℕ, zero, suc, inl, inr, List, [], ◌∷◌, sym, ◌∙◌, arith, Contains, TextState, edit, reply_of, IsFree, IsLegal, Command, Reply, NoMemory}
 use Rattle.inlinable_string.proofs.Edits.{never_refused}
 
 -- a free command has the reply of `edit`
@@ -14,15 +14,10 @@ pub not_refused : (t : List ℕ) (command : Command) (reply : Reply)
 not_refused t command reply same refusal = never_refused (edit t command) (sym same ∙ refusal)
 
 -- `NoMemory` is at no place of the replies, where it is not the first and not in the rest
-absent_at : (reply : Reply) (replies : List Reply) (k : ℕ) → reply ≢ NoMemory
-    → ¬ Contains replies NoMemory → k < length (reply ∷ replies)
-    → ¬ (slice_index_or (reply ∷ replies) k NoMemory ≡ NoMemory)
-absent_at reply replies zero here there lt = here
-absent_at reply replies (suc k) here there lt = λ is. there (k, omega (arith, lt), is)
-
 pub absent : (reply : Reply) (replies : List Reply) → reply ≢ NoMemory → ¬ Contains replies NoMemory
     → ¬ Contains (reply ∷ replies) NoMemory
-absent reply replies here there has = absent_at reply replies has.0 here there has.1 has.2
+absent reply replies here there (zero, lt, is) = here is
+absent reply replies here there (suc k, lt, is) = there (k, omega (arith, lt), is)
 
 -- where there is no reply, none refuses
 pub absent_nil : ¬ Contains [] NoMemory

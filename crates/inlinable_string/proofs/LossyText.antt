@@ -1,5 +1,5 @@
 -- The lossy reading of UTF-8 written as bytes: how far it is written, and the room that it takes.
-use Rattle.inlinable_string.proofs.Common.{common_steps, ◌≡◌, ℕ, zero, suc, ◌+◌, ◌-◌, ◌<◌, ◌≤◌, nat_eq, nat_lt, List, [], ◌∷◌, ◌++◌, true, false, length, take, drop, refl, ap, sym, ◌∙◌, arith, subst, ⊎_elim, append_assoc, append-nil, length-take-le, take-append-drop, if◌then◌else◌, cases_Bool, cases_lt, cond-true, cond-false, nat_tests, eqb-true, chars, chars-nil, chars-append, IsUtf8, IsUtf8-append, size, char_len, subpart_len, lossy_utf8_past, lossy_utf8}
+use Rattle.inlinable_string.proofs.Common.{common_steps, ◌≡◌, ℕ, zero, suc, ◌+◌, ◌-◌, ◌<◌, ◌≤◌, nat_eq, nat_lt, List, [], ◌∷◌, ◌++◌, true, false, length, take, drop, refl, ap, sym, ◌∙◌, arith, subst, ⊎_elim, append_assoc, append-nil, take-append-drop, if◌then◌else◌, cases_Bool, cases_lt, cond-true, cond-false, nat_tests, eqb-true, chars, chars-nil, chars-append, IsUtf8, IsUtf8-append, size, char_len, subpart_len, lossy_utf8_past, lossy_utf8}
 use Rattle.std.proofs.lemmas.Str.{IsUtf8-nil}
 use Rattle.inlinable_string.proofs.Text.{size-append, size-chars}
 use Rattle.inlinable_string.proofs.Subparts.{one_more, lossy_valid, no_char, replaced-chars}
@@ -56,26 +56,16 @@ pub run_room : (bs rest made : List ℕ) (end k : ℕ) → Written bs rest made 
     → size (lossy_utf8 bs) ≤ length made → IsUtf8 (take k rest) → k ≤ length rest
     → end + k ≤ length made
 run_room bs rest made end k so room u within =
-    omega (
-      arith,
-      size_left bs rest made end so,
-      ap size (run_read rest k u),
-      size-append (chars (take k rest)) (lossy_utf8 (drop k rest)),
-      size-chars (take k rest) u,
-      length-take-le k rest within,
-    )
+    let sizes = size_left bs rest made end so in
+    grind (arith, common_steps, run_read rest k u, size-append, size-chars (take k rest) u)
 
 -- for U+FFFD too, where none comes
 pub fault_room : (bs rest made : List ℕ) (end : ℕ) → Written bs rest made end
     → size (lossy_utf8 bs) ≤ length made → char_len rest ≡ 0 → 0 < length rest
     → end + 3 ≤ length made
 fault_room bs rest made end so room none some =
-    omega (
-      arith,
-      size_left bs rest made end so,
-      ap size (no_char rest some none),
-      replaced_size (lossy_utf8 (drop (subpart_len rest) rest)),
-    )
+    let sizes = size_left bs rest made end so in
+    grind (arith, common_steps, no_char rest some none, replaced_size)
 
 -- text more
 pub run_written : (bs rest made new : List ℕ) (end k : ℕ) → Written bs rest made end

@@ -4,6 +4,7 @@ use Rattle.std.proofs.lemmas.Str.{IsUtf8-drop}
 use Rattle.std.specs.Char.{is_ascii}
 use Rattle.std.specs.List.{list_all, replace_range}
 use Rattle.inlinable_string.specs.Ranges.{IsRangeReplaced}
+use Rattle.inlinable_string.proofs.Parts.{front_bytes, back_bytes}
 use Rattle.inlinable_string.proofs.Text.{Holds, ascii_chars, bytes_are, boundary, cut_at, nil_from_size, place_within, size-append, size-chars, size_of}
 
 -- of two cuts of a text, the front of the earlier begins that of the later
@@ -71,15 +72,9 @@ module _ {t w u s v : List ℕ} {l m p q : ℕ} (h : Holds t w l) (a : Holds u s
 -- a replaced range is one of the bytes
 pub bytes-replaced : {t u v : List ℕ} {p q : ℕ} → IsRangeReplaced t p q u v
     → bytes_of v ≡ replace_range (bytes_of t) p q (bytes_of u)
-bytes-replaced {t} {u} {v} {p} {q} r =
-    let kept : take p (bytes_of t) ≡ bytes_of r.front =
-    ap (λ x. take p (bytes_of x)) r.before.joined
-    ∙ ap (take p) (encodes-append r.front (r.middle ++ r.back)) ∙ take_at _ _ p r.before.before in
-    let rest : drop q (bytes_of t) ≡ bytes_of r.back =
-    ap (λ x. drop q (bytes_of x)) r.after.joined
-    ∙ ap (drop q) (encodes-append (r.front ++ r.middle) r.back) ∙ drop_at _ _ q r.after.before in
+bytes-replaced {u = u} r =
     ap bytes_of r.joined ∙ encodes-append (r.front ++ u) r.back
-    ∙ rw (encodes-append r.front u, kept, rest) refl
+    ∙ rw (encodes-append r.front u, front_bytes r.before, back_bytes r.after) refl
 
 -- of an empty range, and of the whole text
 pub splice_from_range : {t u v : List ℕ} {p : ℕ} → IsRangeReplaced t p p u v → IsSplice t p u v
@@ -110,14 +105,7 @@ size-replaced_range {u = u} r = grind (arith, common_steps, size-append)
 
 pub place_past_range : {t u v : List ℕ} {p q : ℕ} → IsRangeReplaced t p q u v
     → IsPlace v (p + size u)
-place_past_range {u = u} r = (
-  r.front ++ u,
-  r.back,
-  record {
-    joined = r.joined;
-    before = size-append r.front u ∙ ap (λ n. n + size u) r.before.before;
-  },
-)
+place_past_range {u = u} r = search (rules, size-append)
 
 module _ {bs t v : List ℕ} {p q : ℕ} (u : IsUtf8 bs) (r : IsRangeReplaced t p q (chars bs) v) where
   pub size-replaced_str : size v + (q - p) ≡ size t + length bs

@@ -1,5 +1,5 @@
 -- A loop that moves the characters it keeps to the front.
-use Rattle.inlinable_string.proofs.Common.{◌≡◌, ℕ, ◌+◌, ◌≤◌, Bool, true, false, List, [], ◌∷◌, ◌++◌, length, take, drop, refl, sym, ap, ◌∙◌, arith, append-nil, append_assoc, drop-drop, length-drop, take_at, encode_utf8, chars, chars_from_encodes, chars-append, chars-nil, IsUtf8, IsUtf8-append, IsUtf8-encode, all_scalars, and_parts, scalars-chars, length-append, bytes_of, size}
+use Rattle.inlinable_string.proofs.Common.{common_steps, ◌≡◌, ℕ, ◌+◌, ◌≤◌, Bool, true, false, List, [], ◌∷◌, ◌++◌, length, take, drop, refl, sym, ap, ◌∙◌, arith, append-nil, append_assoc, drop-drop, length-drop, take_at, encode_utf8, chars, chars_from_encodes, chars-append, chars-nil, IsUtf8, IsUtf8-append, IsUtf8-encode, all_scalars, and_parts, scalars-chars, length-append, bytes_of, size}
 use Rattle.std.proofs.lemmas.List.{drop_all}
 use Rattle.std.proofs.lemmas.Str.{IsUtf8-nil, IsUtf8-past_char, chars_past_char}
 use Rattle.std.specs.Fn.{Mut}
@@ -14,9 +14,7 @@ size-kept [] [] = omega arith
 size-kept [] (c ∷ t) = omega arith
 size-kept (b ∷ answers) [] = omega arith
 size-kept (true ∷ answers) (c ∷ t) =
-    let rest = size-kept answers t in
-    let kept = length-append (encode_utf8 c) (bytes_of (items_where_true answers t)) in
-    omega (arith, rest, kept, length-append (encode_utf8 c) (bytes_of t))
+    grind (arith, common_steps, size-kept answers t, length-append)
 size-kept (false ∷ answers) (c ∷ t) =
     omega (arith, size-kept answers t, length-append (encode_utf8 c) (bytes_of t))
 

@@ -1,26 +1,12 @@
 -- A run grows by one command at its end.
 use Rattle.inlinable_string.proofs.Common.{◌≡◌, ℕ, ◌+◌, ◌<◌, ◌≤◌, List, [], ◌∷◌, ◌++◌, length, take, refl, sym, ◌∙◌, arith, subst, get_or, set, rules, take_more, take_more_set, length-take-le, take_all, size, TextState, IsLawful, text_after, state_after, state_after_step, IsLegal, LegalReplies, IsRun, Covers, IsStep, Command, Reply}
+use Rattle.inlinable_string.proofs.RunsJoined.{state_joined, legal_joined}
 
 -- the commands so far
 pub record IsRunSoFar (old : TextState) (commands : List Command) (replies : List Reply)
     (new : TextState) : Type 0 where
   pub legal : LegalReplies old commands replies
   pub next : Covers (state_after old commands replies) new
-
-state_more : (s : TextState) (cs : List Command) (rs : List Reply) (c : Command) (r : Reply)
-    → length cs ≡ length rs
-    → state_after s (cs ++ c ∷ []) (rs ++ r ∷ []) ≡ state_after_step (state_after s cs rs) c r
-state_more s [] [] c r h = refl
-state_more s (x ∷ cs) (y ∷ rs) c r h =
-    state_more (state_after_step s x y) cs rs c r (omega (arith, h))
-state_more s cs rs c r h = absurd (omega (arith, h))
-
-legal_more : (s : TextState) (cs : List Command) (rs : List Reply) (c : Command) (r : Reply)
-    → LegalReplies s cs rs
-    → IsLegal (state_after s cs rs) c r → LegalReplies s (cs ++ c ∷ []) (rs ++ r ∷ [])
-legal_more s [] [] c r h a = (a, tt)
-legal_more s (x ∷ cs) (y ∷ rs) c r h a = (h.0, legal_more (state_after_step s x y) cs rs c r h.1 a)
-legal_more s cs rs c r h a = absurd h
 
 -- the state follows the text and keeps the policy
 pub text_of : (s : TextState) (cs : List Command) (rs : List Reply)
@@ -65,8 +51,9 @@ so_far_more old mid new cs rs i d r long lt laws ran step =
     subst (λ (x : TextState). Covers (state_after_step x c r) new) is
     (step.next s.capacity within ran.next.room) in
     rw (front, back) (record {
-      legal = legal_more old (take i cs) (take i rs) c r ran.legal legal;
-      next = rw (state_more old (take i cs) (take i rs) c r same) next;
+      legal =
+          legal_joined old (take i cs) (c ∷ []) (take i rs) (r ∷ []) ran.legal (legal, tt);
+      next = rw (state_joined old (take i cs) (c ∷ []) (take i rs) (r ∷ []) same) next;
     })
 
 -- the end of a run

@@ -12,7 +12,7 @@ text_joined t (c ∷ first) second (r ∷ replies) others h =
 text_joined t first second replies others h = absurd (omega (arith, h))
 
 -- the state after both
-state_joined : (s : TextState) (first second : List Command) (replies others : List Reply)
+pub state_joined : (s : TextState) (first second : List Command) (replies others : List Reply)
     → length first ≡ length replies
     → state_after s (first ++ second) (replies ++ others)
     ≡ state_after (state_after s first replies) second others

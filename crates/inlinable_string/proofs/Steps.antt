@@ -1,11 +1,9 @@
 -- One step of a value, by its command and its reply.
 use Rattle.inlinable_string.proofs.Common.{common_steps, ◌≡◌, ℕ, ◌+◌, ◌-◌, ◌≤◌, inl, true, false, List, [], ◌∷◌, ◌++◌, length, refl, sym, ap, ◌∙◌, arith, Bor, rules, chars_from_encodes, chars, IsUtf8, bytes_of, size, IsCut, IsPlace, IsSplice, IsRemoval, cut, TextState, IsLawful, IsSameText, HasRoom, HasInlineRoom, storage_with_room, becomes, has_no_place, reply_of, text_left, edit, insertion, text_after_step, need_of, storage_after_step, credit_after_step, AsksMemory, IsMet, IsCounted, IsStep, Command, PushStr, Insert, InsertStr, Truncate, Pop, Remove, ReplaceBytes, Reply, Done, Char, BadPlace, NotUtf8, NoMemory}
+use Rattle.std.proofs.lemmas.Bool.{false≢true}
 use Rattle.inlinable_string.proofs.Text.{size-append, size-chars, nil_from_size}
 use Rattle.inlinable_string.proofs.Cut.{cut_is, no_cut}
 use Rattle.inlinable_string.proofs.Edits.{insertion_is, pop_is, removal_is, replacement_is, not_utf8}
-
-clash : false ≡ true → ⊥
-clash e = cc
 
 -- a command that was answered as `edit` says, after which no credit is certain
 answered : (old new : TextState) (command : Command) (reply : Reply) → IsLawful new
@@ -76,7 +74,7 @@ pub push_str_refused : (old new : TextState) (string : Bor (List ℕ)) → IsUtf
     → (HasInlineRoom old (length string.now) → false ≡ true) → new.policy ≡ old.policy
     → IsStep old (PushStr string) NoMemory new
 push_str_refused old new string u laws same out inline_out policy =
-    search (rules, size-chars, refused, clash)
+    search (rules, size-chars, refused, false≢true)
 
 -- insertions
 
@@ -100,7 +98,8 @@ pub insert_refused : (old new : TextState) (p c : ℕ) → IsLawful new → IsPl
     → IsSameText old new
     → (HasInlineRoom old (size (c ∷ [])) → false ≡ true) → new.policy ≡ old.policy
     → IsStep old (Insert p c) NoMemory new
-insert_refused old new p c laws at same out policy = search (rules, refused, insertion_done, clash)
+insert_refused old new p c laws at same out policy =
+    search (rules, refused, insertion_done, false≢true)
 
 pub insert_misplaced : (old : TextState) (p c : ℕ) → (IsPlace old.text p → ⊥)
     → IsStep old (Insert p c) BadPlace old
@@ -121,7 +120,7 @@ pub insert_str_refused : (old new : TextState) (p : ℕ) (string : Bor (List ℕ
     → (HasInlineRoom old (length string.now) → false ≡ true) → new.policy ≡ old.policy
     → IsStep old (InsertStr p string) NoMemory new
 insert_str_refused old new p string u laws at same out policy =
-    search (rules, refused, insertion_done, clash, size-chars)
+    search (rules, refused, insertion_done, false≢true, size-chars)
 
 pub insert_str_misplaced : (old : TextState) (p : ℕ) (string : Bor (List ℕ))
     → (IsPlace old.text p → ⊥) → IsStep old (InsertStr p string) BadPlace old

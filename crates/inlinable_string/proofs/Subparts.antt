@@ -9,10 +9,13 @@ pub record Begins (bs : List ℕ) (c : ℕ) (rest : List ℕ) : Type 0 where
   pub scalar : IsScalar c
   pub joined : bs ≡ encode_utf8 c ++ rest
 
--- UTF-8 that is not empty begins with a character
-first_of : (bs : List ℕ) → 0 < length bs → IsUtf8 bs → (c : ℕ) × (rest : List ℕ) × Begins bs c rest
+-- UTF-8 that is not empty begins with a character, and UTF-8 follows it
+pub first_of : (bs : List ℕ) → 0 < length bs → IsUtf8 bs
+    → (c : ℕ) × (rest : List ℕ) × Begins bs c rest × IsUtf8 rest
 first_of bs some ([], (s, e)) = let none = ap length e in absurd (omega arith)
-first_of bs some (c ∷ cs, (s, e)) = grind (arith, common_steps)
+first_of bs some (c ∷ cs, (s, e)) =
+    let p = and_parts _ _ s in
+    (c, encode_utf8_all cs, record { scalar = p.0; joined = sym e }, (cs, (p.1, refl)))
 
 -- so does what has UTF-8 at its front, and the character is no longer than that
 front : (bs : List ℕ) (k : ℕ) → 0 < length bs → 0 < k → is_utf8 (take k bs) ≡ true

@@ -255,5 +255,3 @@ pub table_begins : (bs : List ℕ) → 1 < subpart_len bs → BeginsCode (take (
 table_begins [] h = absurd (omega (arith, h))
 table_begins (a ∷ []) h = grind (arith, common_steps)
 table_begins (a ∷ b ∷ bs) h = by_row a b bs h
-
-pub ruleset maximal = (table_begins, table_fits, table_longest)

@@ -318,10 +318,7 @@ text_is_read (c ∷ t) s =
 scalars-append : (a b : List ℕ) → all_scalars a ≡ true → all_scalars b ≡ true
     → all_scalars (a ++ b) ≡ true
 scalars-append [] b p q = q
-scalars-append (c ∷ a) b p q =
-    let first : IsScalar c = (and_parts _ _ p).0 in
-    let rest : all_scalars (a ++ b) ≡ true = scalars-append a b (and_parts _ _ p).1 q in
-    rw (first, rest) refl
+scalars-append (c ∷ a) b p q = grind (arith, common_steps, scalars-append a b)
 
 module _ (v : List ℕ) (fits : (i : ℕ) → slice_index v i < 0x1_0000) where
   unit_scalars : (i : ℕ) → all_scalars (lossy_unit v i) ≡ true

@@ -1,5 +1,5 @@
 -- The states of the test for UTF-8, and the ranges of bytes that each has before it.
-use Rattle.inlinable_string.proofs.Common.{common_steps, ◌≡◌, ◌↔◌, inl, ℕ, zero, suc, ◌+◌, ◌*◌, ◌/◌, ◌<◌, ◌≤◌, Bool, true, false, List, [], ◌∷◌, ◌++◌, length, take, drop, refl, ap, sym, ◌∙◌, arith, subst, ⊎_elim, IsAscii, IsUtf8, IsUtf8-append, IsUtf8-encode, encode_utf8, encode_utf8_all, append-nil, length-append, take_all, take_more, length-encode, len_utf8_bounds, nil_from_length, eqb-true, take-append-drop, drop_at, append_assoc, if◌then◌else◌, nat_lt, nat_eq, cases_lt, cases_Bool, cond-true, cond-false, and_parts, nat_tests, lt-ltb, le-ltb, slice_index, following, count_in, char_len}
+use Rattle.inlinable_string.proofs.Common.{common_steps, ◌≡◌, ◌↔◌, inl, ℕ, zero, suc, ◌+◌, ◌*◌, ◌/◌, ◌<◌, ◌≤◌, Bool, true, false, List, [], ◌∷◌, ◌++◌, length, take, drop, refl, ap, sym, ◌∙◌, arith, subst, ⊎_elim, IsAscii, IsUtf8, IsUtf8-append, IsUtf8-encode, encode_utf8, append-nil, length-append, take_all, take_more, length-encode, len_utf8_bounds, nil_from_length, eqb-true, take-append-drop, drop_at, append_assoc, if◌then◌else◌, nat_lt, nat_eq, cases_lt, cases_Bool, cond-true, cond-false, and_parts, nat_tests, lt-ltb, le-ltb, slice_index, following, count_in, char_len}
 use Rattle.std.specs.Int.{is_in_range}
 use Rattle.std.specs.Prelude.{◌&&◌, ◌^◌, ◌-◌}
 use Rattle.inlinable_string.specs.WellFormed.{Follows, nothing, ranges_of, is_state, state_of, Leads}
@@ -8,7 +8,7 @@ use Rattle.std.proofs.lemmas.List.{drop-append-le, length-drop}
 use Rattle.std.proofs.lemmas.Str.{IsUtf8-nil, IsAscii-drop}
 use Rattle.std.proofs.str.Laws.{one}
 use Rattle.inlinable_string.specs.declared.well_formed.TheConstants.{ROWS}
-use Rattle.inlinable_string.proofs.Subparts.{Begins, len_of_char, one_more}
+use Rattle.inlinable_string.proofs.Subparts.{Begins, first_of, len_of_char, one_more}
 use Rattle.inlinable_string.proofs.Table.{is_scalar, none_in}
 use Rattle.inlinable_string.proofs.Starts.{fills, filled, rowless}
 
@@ -39,14 +39,6 @@ follows [] s all u = u
 follows (r ∷ ranges) [] all u = absurd (omega (arith, all))
 follows (r ∷ ranges) (b ∷ s) all u = grind (arith, common_steps, follows ranges s)
 
--- text that is not empty is a character with text after it
-first : (b : ℕ) (s : List ℕ) → IsUtf8 (b ∷ s)
-    → (c : ℕ) × (rest : List ℕ) × Begins (b ∷ s) c rest × IsUtf8 rest
-first b s ([], (scalars, is)) = let none = ap length is in absurd (omega (arith, none))
-first b s (c ∷ cs, (scalars, is)) =
-    let p = and_parts _ _ scalars in
-    (c, encode_utf8_all cs, record { scalar = p.0; joined = sym is }, (cs, (p.1, refl)))
-
 -- what is after the first byte of a character, by the row of that byte
 behind : (b : ℕ) (s : List ℕ) (c : ℕ) (rest : List ℕ) → Begins (b ∷ s) c rest
     → (count_in (following b) s ≡ length (following b)) × (drop (length (following b)) s ≡ rest)
@@ -60,7 +52,7 @@ behind b s c rest begins =
 
 from_utf8 : (b : ℕ) (s : List ℕ) → IsUtf8 (b ∷ s) → Follows (following b) s
 from_utf8 b s u =
-    let f = first b s u in
+    let f = first_of (b ∷ s) (omega arith) u in
     let r = behind b s f.0 f.1 f.2 in
     follows (following b) s r.0 (subst IsUtf8 (sym r.1) f.3)
 
@@ -86,7 +78,7 @@ char_front b s some f =
 -- a byte that begins none
 no_front : (b : ℕ) (s : List ℕ) → 128 ≤ b → length (following b) ≡ 0 → IsUtf8 (b ∷ s) → ⊥
 no_front b s above none u =
-    let f = first b s u in
+    let f = first_of (b ∷ s) (omega arith) u in
     let len = len_of_char (b ∷ s) f.0 f.1 f.2 in
     let no = rowless (b ∷ s) (omega arith) above (nil_from_length _ none) in
     omega (arith, len, no.0, length-encode f.0, len_utf8_bounds f.0)
@@ -134,11 +126,7 @@ every_below p (suc n) = p n && every_below p n
 
 below_is : (p : ℕ → Bool) (n i : ℕ) → every_below p n ≡ true → i < n → p i ≡ true
 below_is p zero i all less = absurd (omega (arith, less))
-below_is p (suc n) i all less =
-    let both = and_parts (p n) (every_below p n) all in
-    ⊎_elim (λ lower. below_is p n i both.1 lower)
-    (λ last. let is : n ≡ i = omega (arith, less, last) in subst (λ k. p k ≡ true) is both.0)
-    (cases_lt i n)
+below_is p (suc n) i all less = grind (arith, common_steps, below_is p n i)
 
 -- whether two lists of ranges are the same
 abbrev same : List (ℕ × ℕ) → List (ℕ × ℕ) → Bool

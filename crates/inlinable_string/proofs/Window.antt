@@ -9,6 +9,7 @@ use Rattle.std.proofs.lemmas.List.{drop-append-le, drop-take, take_all, drop_all
 use Rattle.std.proofs.lemmas.Str.{IsUtf8-had, IsUtf8-append, IsUtf8-take, IsUtf8-drop, chars-append, encodes-chars, IsUtf8-past_char, chars_past_char, encode_ascii, IsUtf8-encode}
 use Rattle.inlinable_string.specs.Text.{bytes_of, size, IsCut, IsPlace, IsSplice, IsRemoval}
 use Rattle.inlinable_string.specs.declared.inline_string.InlineStringN.TheInside.{Inside}
+use Rattle.inlinable_string.proofs.Ranges.{range-utf8, range-chars, splice_from_range}
 use Rattle.inlinable_string.proofs.Text.{Holds, holds, bytes_are, size_of, boundary, cut_at, popped-chars, place_within, size-pushed, char_size}
 
 -- one character
@@ -40,19 +41,10 @@ module _ {t w : List ℕ} {l : ℕ} (h : Holds t w l) where
   -- the text u put in at p
   pub inserted : {u s v : List ℕ} {m p : ℕ} → Holds u s m → IsPlace t p → v ≡ insert_slice w p s
       → ∥ IsUtf8 v ∥₁ × IsSplice t p u (chars v)
-  inserted {s = s} {p = p} a at e =
-      let b = boundary h at in
-      let front : IsUtf8 (take p w) = IsUtf8-take w p h.utf8 b in
-      let both : IsUtf8 (take p w ++ s) = IsUtf8-append _ _ front a.utf8 in (
-        ∣ rw e (IsUtf8-append _ _ both (IsUtf8-drop w p h.utf8 b)) ∣₁,
-        record {
-          front = chars (take p w);
-          back = chars (drop p w);
-          cut = cut_at h p b;
-          joined = ap chars e ∙ chars-append _ (drop p w) both
-              ∙ rw (chars-append (take p w) s front, a.shown) refl;
-        },
-      )
+  inserted a at e = (
+    ∣ range-utf8 h a at at (omega arith) e ∣₁,
+    splice_from_range (range-chars h a at at (omega arith) e),
+  )
 
   -- the bytes of the character at p taken out
   pub removed : {p : ℕ} (c : ℕ) (rest : List ℕ) {v : List ℕ} → IsPlace t p

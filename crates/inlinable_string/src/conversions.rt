@@ -86,7 +86,6 @@ impl<const N: usize> TryFrom<String> for InlineStringN<N> {
         (λ made. (made ≡ (string_state string).text) × (size (string_state string).text ≤ N))
         (λ back. (back ≡ string) × (N < size (string_state string).text)) };
 
-    #[tactic(auto, using(crate::proofs::Text::sizes))]
     fn try_from(string: String) -> Result<Self, String> {
         if N < string.len() {
             return Err(string);

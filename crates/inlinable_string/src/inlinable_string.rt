@@ -226,7 +226,6 @@ impl<const N: usize> InlinableStringN<N> {
     /// character after an inline text small.
     #[cold]
     #[inline(never)]
-    #[tactic(auto, using(crate::proofs::Window::one_char))]
     fn push_general(&mut self, ch: char) -> Result<(), AllocError>
         ensures text { OnOk result ((inlinable_state N self.new).text
             ≡ (inlinable_state N self.old).text ++ ch ∷ []) }

@@ -219,6 +219,7 @@ impl<const N: usize> InlineStringN<N> {
     /// (`is_char_boundary`). Fails, and changes nothing, exactly where the result would have more
     /// than `N` bytes.
     #[inline]
+    #[tactic(auto, using(crate::proofs::Text::place_within))]
     pub fn insert(&mut self, idx: usize, ch: char) -> Result<(), NotEnoughSpaceError>
         requires { IsPlace self.old idx }
         ensures fits { MatchResult result
@@ -249,6 +250,7 @@ impl<const N: usize> InlineStringN<N> {
     /// Inserts `string` at byte `idx`, which must be a character boundary of the text
     /// (`is_char_boundary`). Fails, and changes nothing, exactly where the result would have more
     /// than `N` bytes.
+    #[tactic(auto, using(crate::proofs::Text::place_within))]
     pub fn insert_str(&mut self, idx: usize, string: &str) -> Result<(), NotEnoughSpaceError>
         requires place { IsPlace self.old idx }
         ensures fits { MatchResult result

@@ -112,6 +112,7 @@ fn execute<S: StringExt>(text: &mut S, command: Command) -> Reply
     execute_body!(text, command, push_str, insert_str)
 }
 
+#[tactic(auto, using(crate::proofs::Steps::push_str_done))]
 fn push_str<S: StringExt>(text: &mut S, string: &str) -> Reply
     ensures { IsLawful (S.state text.new)
         → IsStep (S.state text.old) (Command.PushStr string.entry) result (S.state text.new) }
@@ -119,6 +120,7 @@ fn push_str<S: StringExt>(text: &mut S, string: &str) -> Reply
     push_str_body!(text, string)
 }
 
+#[tactic(auto, using(crate::proofs::Steps::insert_str_done))]
 fn insert_str<S: StringExt>(text: &mut S, idx: usize, string: &str) -> Reply
     ensures { IsLawful (S.state text.new)
         → IsStep (S.state text.old) (Command.InsertStr idx string.entry) result

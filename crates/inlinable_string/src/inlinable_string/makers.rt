@@ -101,6 +101,7 @@ impl<const N: usize> StringMake for InlinableStringN<N> {
         Ok(InlinableStringN::Heap(heap, alloc))
     }
 
+    #[tactic(auto, using(crate::proofs::Makers::bytes_made))]
     fn from_utf8(alloc: Global, vec: Vec<u8>) -> Result<Self, FromUtf8Error> {
         let heap = string_from(vec)?;
         Ok(InlinableStringN::Heap(heap, alloc))

@@ -15,6 +15,7 @@ impl<const N: usize> InlineStringN<N> {
     /// string removes them. Both ends must be character boundaries of the text
     /// (`is_char_boundary`), the start not after the end. Fails, and changes nothing, exactly where
     /// the result would have more than `N` bytes.
+    #[tactic(auto, using(crate::proofs::Text::place_within))]
     pub fn replace_range(
         &mut self,
         range: Range<usize>,

@@ -28,7 +28,6 @@ pub fn lossy_reading_is_by_parts()
 
 /// The table of the bytes that follow has the code of each character, and ends with it. A maximal
 /// subpart of more than one byte begins the code of some character, and no longer prefix does.
-#[tactic(auto, using(crate::proofs::Table::maximal))]
 pub fn subparts_are_maximal()
     ensures character { (c : ℕ) (rest : List ℕ) → IsScalar c
         → subpart_len (encode_utf8 c ++ rest) ≡ length (encode_utf8 c) }

@@ -49,6 +49,7 @@ fn execute_dyn(text: &mut dyn StringExt, command: Command) -> Reply
     execute_body!(text, command, push_str_dyn, insert_str_dyn)
 }
 
+#[tactic(auto, using(crate::proofs::Steps::push_str_done))]
 fn push_str_dyn(text: &mut dyn StringExt, string: &str) -> Reply
     ensures { IsLawful (state text.new)
         → IsStep (state text.old) (Command.PushStr string.entry) result (state text.new) }
@@ -56,6 +57,7 @@ fn push_str_dyn(text: &mut dyn StringExt, string: &str) -> Reply
     push_str_body!(text, string)
 }
 
+#[tactic(auto, using(crate::proofs::Steps::insert_str_done))]
 fn insert_str_dyn(text: &mut dyn StringExt, idx: usize, string: &str) -> Reply
     ensures { IsLawful (state text.new)
         → IsStep (state text.old) (Command.InsertStr idx string.entry) result (state text.new) }

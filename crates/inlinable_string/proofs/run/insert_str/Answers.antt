@@ -1,10 +1,7 @@
 use Rattle.inlinable_string.proofs.Common.{common_steps, rules, arith}
 use Rattle.inlinable_string.proofs.Cut.{not_from_test}
-use Rattle.inlinable_string.proofs.Steps.{insert_str_done, insert_str_refused, insert_str_misplaced}
+use Rattle.inlinable_string.proofs.Steps.{insert_str_refused, insert_str_misplaced}
 use Rattle.inlinable_string.proofs.run.insert_str.Goals as goal
-
-pub returns-in-Ok : goal.returns-in-Ok
-returns-in-Ok g c laws = search (rules, insert_str_done)
 
 pub returns-in-Err : goal.returns-in-Err
 returns-in-Err g c laws = grind (arith, common_steps, insert_str_refused)

@@ -1,10 +1,5 @@
-use Rattle.inlinable_string.proofs.Steps.{push_str_done, push_str_refused}
+use Rattle.inlinable_string.proofs.Steps.{push_str_refused}
 use Rattle.inlinable_string.proofs.run.push_str.Goals as goal
-
-pub returns-in-Ok : goal.returns-in-Ok
-returns-in-Ok g c laws =
-    let e = c.in-Ok.ensures in
-    push_str_done _ _ _ c.utf8.string laws e.text e.storage e.room e.policy
 
 pub returns-in-Err : goal.returns-in-Err
 returns-in-Err g c laws =

@@ -1,13 +1,8 @@
-use Rattle.inlinable_string.proofs.Common.{refl, append_assoc, ◌∙◌, text_of_strs}
+use Rattle.inlinable_string.proofs.Common.{text_of_strs}
 use Rattle.inlinable_string.proofs.Text.{size-chars}
 use Rattle.inlinable_string.proofs.Added.{all_added, last_refused}
 use Rattle.inlinable_string.proofs.Extended.{text_of_strs-more, not_ok}
 use Rattle.inlinable_string.proofs.inline_string.InlineStringN.extend_strs.Goals as goal
-
-pub loop-string-preserved : goal.loop-string-preserved
-loop-string-preserved g c =
-    rw c.assume_utf8_param.ensures.value at c.in_ok-push_str.ensures.ok
-    ∙ rw (c.loop-string.invariant, text_of_strs-more, append_assoc) refl
 
 pub returns-in_err-push_str : goal.returns-in_err-push_str
 returns-in_err-push_str g c =

@@ -20,9 +20,6 @@ invariant_of-self g c =
       (inserted h (holds_chars c.utf8.string) c.requires.place new).0,
     )
 
-pub returns-then-old_len-string-clause-within : goal.returns-then-old_len-string-clause-within
-returns-then-old_len-string-clause-within g c = place_within _ _ c.requires.place
-
 pub returns : goal.returns
 returns g c =
     let h = held c.self.inside c.self.view_is c.self.told c.self.invariant in

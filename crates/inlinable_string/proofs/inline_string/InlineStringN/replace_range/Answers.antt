@@ -20,10 +20,6 @@ returns-then-rest_len-replace_with-clause-fits g c =
     let h = held c.self.inside c.self.view_is c.self.told c.self.invariant in
     omega (arith, c.if-rest_len-replace_with.true, place_within _ _ c.requires.end, size_of h)
 
-pub returns-then-rest_len-replace_with-clause-within :
-    goal.returns-then-rest_len-replace_with-clause-within
-returns-then-rest_len-replace_with-clause-within g c = place_within _ _ c.requires.end
-
 pub insert_in-start-requires-clause-place : goal.insert_in-start-requires-clause-place
 insert_in-start-requires-clause-place g c =
     let h = held c.self.inside c.self.view_is c.self.told c.self.invariant in

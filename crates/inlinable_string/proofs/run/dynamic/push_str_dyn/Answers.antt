@@ -1,9 +1,5 @@
-use Rattle.std.proofs.Common.{rules}
-use Rattle.inlinable_string.proofs.Steps.{push_str_done, push_str_refused}
+use Rattle.inlinable_string.proofs.Steps.{push_str_refused}
 use Rattle.inlinable_string.proofs.run.dynamic.push_str_dyn.Goals as goal
-
-pub returns-in-Ok : goal.returns-in-Ok
-returns-in-Ok g c laws = search (rules, push_str_done)
 
 pub returns-in-Err : goal.returns-in-Err
 returns-in-Err g c laws =
