@@ -18,6 +18,7 @@ pub mod makers;
 pub mod makes;
 pub mod replacements;
 pub mod room;
+mod sizes;
 pub mod splits;
 pub mod takes;
 pub mod views;
