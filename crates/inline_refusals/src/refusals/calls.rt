@@ -5,15 +5,12 @@ use super::row::Call::{
     self, Add, Case, Chars, Clone, From, FromChars, FromJson, FromStr, FromStrs, FromUtf8Lossy,
     FromUtf16, FromUtf16Lossy, InsertFirst, InsertStrFirst, IntoArray, IntoBytes, IntoString, Push,
     PushStr, ReplaceRange, Reserve, ReserveExact, Retain, ShrinkToFit, SplitOff, Strs,
-    ThroughString, ToLimit8, ToLimit300, Unpaired, WriteChar, WriteFormatted, WriteStr,
+    ThroughString, ToLimit8, ToLimit300, WriteChar, WriteFormatted, WriteStr,
 };
 use super::row::Way::{Own, Refs, Std};
 use super::row::{Row, Text};
-use inlinable_string::InlineStringN;
 use inlinable_string::Storage::{Heap, Inline};
-use std::fmt::Write;
 use std::test::Fail;
-use test_support::Refusals;
 
 const A29: &str = "aaaaaaaaaaaaaaaaaaaaaaaaaaaaa";
 
@@ -109,13 +106,6 @@ fn units_are_read(rt: HostRuntime) -> Result<(), Fail> {
     assert_rows(&rt, rt.alloc(), &read(FromUtf16(&[0x61]), 1, "a"))
 }
 
-#[test]
-fn an_unpaired_unit_is_found(rt: HostRuntime) -> Result<(), Fail> {
-    let [a, b, c, d] = read(Unpaired(&[0xD800]), 0, "");
-    let [e, f, g, h] = read(Unpaired(&[0x61, 0xDC00]), 0, "");
-    assert_rows(&rt, rt.alloc(), &[a, b, c, d, e, f, g, h])
-}
-
 const LONE: &[u16] = &[0xD800, 0xD834, 0xDD1E];
 
 #[test]
@@ -128,11 +118,6 @@ const CUT: &[u8] = &[0xE2, 0x82, 0x41];
 #[test]
 fn bytes_are_read_with_signs(rt: HostRuntime) -> Result<(), Fail> {
     assert_rows(&rt, rt.alloc(), &read(FromUtf8Lossy(CUT), 1, "�A"))
-}
-
-#[test]
-fn bytes_are_borrowed(rt: HostRuntime) -> Result<(), Fail> {
-    assert_rows(&rt, rt.alloc(), &read(FromUtf8Lossy(b"he"), 0, "he"))
 }
 
 const MADE: &[Row] = &[
@@ -243,6 +228,9 @@ const ADDED: &[Row] = &[
     (N30, (0, A29), Add("b"), 0, "", "b", Inline),
     (N30, (0, A29), Add("bc"), 1, "", "bc", Heap),
     (N30, (31, A31), Add("bc"), 1, "", "bc", Heap),
+    (N30, (0, A29), WriteChar('b'), 0, "", "b", Inline),
+    (N30, (0, A30), WriteChar('é'), 1, "", "é", Heap),
+    (N30, (31, A31), WriteChar('b'), 1, "", "b", Heap),
 ];
 
 #[test]
@@ -261,17 +249,6 @@ const WRITTEN: &[Row] = &[
 #[test]
 fn a_write_into_a_text(rt: HostRuntime) -> Result<(), Fail> {
     assert_rows(&rt, rt.alloc(), WRITTEN)
-}
-
-const WRITTEN_CHARS: &[Row] = &[
-    (N30, (0, A29), WriteChar('b'), 0, "", "b", Inline),
-    (N30, (0, A30), WriteChar('é'), 1, "", "é", Heap),
-    (N30, (31, A31), WriteChar('b'), 1, "", "b", Heap),
-];
-
-#[test]
-fn a_character_is_written_into_a_text(rt: HostRuntime) -> Result<(), Fail> {
-    assert_rows(&rt, rt.alloc(), WRITTEN_CHARS)
 }
 
 /// The range is the first character: what replaces it ends with one.
@@ -301,14 +278,6 @@ const SPLIT: &[Row] = &[
     (N30, (31, A30), SplitOff, 0, "", "", Inline),
     (N30, (0, A30), SplitOff, 0, "", "", Inline),
     (N8, (31, "123456789"), SplitOff, 1, "", "", Heap),
-];
-
-#[test]
-fn a_text_is_split(rt: HostRuntime) -> Result<(), Fail> {
-    assert_rows(&rt, rt.alloc(), SPLIT)
-}
-
-const KEPT: &[Row] = &[
     (N30, (31, A31), Retain, 0, "", "", Heap),
     (N30, (0, A30), Retain, 0, "", "", Inline),
     (N30, (31, A31), Case, 0, "", "", Heap),
@@ -316,8 +285,8 @@ const KEPT: &[Row] = &[
 ];
 
 #[test]
-fn characters_are_kept_and_change_their_case(rt: HostRuntime) -> Result<(), Fail> {
-    assert_rows(&rt, rt.alloc(), KEPT)
+fn a_text_is_split_kept_and_in_another_case(rt: HostRuntime) -> Result<(), Fail> {
+    assert_rows(&rt, rt.alloc(), SPLIT)
 }
 
 const STRINGS: &[Row] = &[
@@ -333,27 +302,4 @@ const STRINGS: &[Row] = &[
 #[test]
 fn a_text_becomes_a_string_and_is_made_of_one(rt: HostRuntime) -> Result<(), Fail> {
     assert_rows(&rt, rt.alloc(), STRINGS)
-}
-
-#[test]
-fn edits_of_an_array_request_nothing(rt: HostRuntime) -> Result<(), Fail> {
-    let mut text = InlineStringN::<8>::from("aéb1");
-    let copy = text.copy();
-    assert!(&rt; text.is_char_boundary(1) && text.is_char_boundary(3));
-    assert!(&rt; text.replace_range(1..3, "€").is_ok() && text.as_str() == "a€b1");
-    text.retain(|ch| !ch.is_ascii_digit());
-    text.make_ascii_uppercase();
-    assert!(&rt; text.is_char_boundary(1));
-    let rest = text.split_off(1);
-    assert!(&rt; text.as_str() == "A" && rest.as_str() == "€B" && copy.as_str() == "aéb1");
-    super::tell(&rt, rt.alloc(), &Refusals::none(), (0, 0))
-}
-
-#[test]
-fn a_write_into_an_array(rt: HostRuntime) -> Result<(), Fail> {
-    let mut text = InlineStringN::<8>::new();
-    assert!(&rt; text.write_char('é').is_ok() && write!(text, "{}{}", "abc", 1).is_ok());
-    assert!(&rt; text.write_char('€').is_err() && write!(text, "d{}", "ef").is_err());
-    assert!(&rt; text.as_str() == "éabc1d");
-    super::tell(&rt, rt.alloc(), &Refusals::none(), (0, 0))
 }

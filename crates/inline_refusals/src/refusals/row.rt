@@ -29,8 +29,6 @@ pub enum Call {
     ReserveExact(usize),
     ShrinkToFit,
     FromUtf16(&'static [u16]),
-    /// Fails for units that are no text.
-    Unpaired(&'static [u16]),
     FromUtf16Lossy(&'static [u16]),
     FromUtf8Lossy(&'static [u8]),
     /// And makes a text of them again.
@@ -183,11 +181,6 @@ pub fn outcome<S: StringMake + Drop>(alloc: Global, text: S, row: &Row) -> Outco
         Call::FromUtf16(units) => match S::from_utf16(alloc, units) {
             Ok(made) => Ok(wrong_made(made.as_str(), made.storage(), row)),
             Err(Utf16Error::Unpaired) => Ok(Some(Wrong::Answer)),
-            Err(Utf16Error::NoMemory) => Err(text),
-        },
-        Call::Unpaired(units) => match S::from_utf16(alloc, units) {
-            Ok(_) => Ok(Some(Wrong::Answer)),
-            Err(Utf16Error::Unpaired) => Ok(None),
             Err(Utf16Error::NoMemory) => Err(text),
         },
         Call::FromUtf8Lossy(bytes) => match S::from_utf8_lossy(alloc, bytes) {
