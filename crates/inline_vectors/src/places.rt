@@ -73,7 +73,6 @@ fn each_place_is_taken_and_no_other_offset(rt: HostRuntime) {
 #[test]
 fn places_are_the_same_at_each_limit(rt: HostRuntime) {
     assert_places(&rt, rt.alloc(), within(10), OUTGROWN);
-    assert_places(&rt, rt.alloc(), within(13), INSERTED);
     assert_places(&rt, rt.alloc(), within(300), INSERTED);
 }
 

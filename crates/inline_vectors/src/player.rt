@@ -267,7 +267,6 @@ fn play_made(rt: &impl Abort, alloc: Global, made: Made, way: Way, row: Row) -> 
         4 => play_within::<4>(rt, alloc, made, way, row),
         8 => play_within::<8>(rt, alloc, made, way, row),
         10 => play_within::<10>(rt, alloc, made, way, row),
-        13 => play_within::<13>(rt, alloc, made, way, row),
         30 => play_within::<30>(rt, alloc, made, way, row),
         39 => play_within::<39>(rt, alloc, made, way, row),
         limit => {
