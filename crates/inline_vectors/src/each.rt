@@ -43,7 +43,7 @@ fn boxed(rt: &impl Abort, alloc: Global, kind: Kind, room: Option<usize>, start:
             let text: ArrayText<8> = text_of(rt, alloc, room, start);
             Box::new(alloc, text).expect(rt, "memory")
         }
-        Kind::Own | Kind::Unshrinkable => {
+        Kind::Own => {
             let text: HeapText = text_of(rt, alloc, room, start);
             Box::new(alloc, text).expect(rt, "memory")
         }

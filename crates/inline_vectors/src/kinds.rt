@@ -1,5 +1,5 @@
-//! The kinds of text that tables are played on, as data: one function instantiates each type.
-ghost use Rattle.std.specs.Prelude.{◌≡◌, ◌≤◌, length};
+//! The kinds of text that tables are played on, as data, and texts that get their commands.
+ghost use Rattle.std.specs.Prelude.{◌≡◌, length};
 
 use crate::steps::reply_by_call;
 use crate::texts::is_text;
@@ -37,8 +37,6 @@ pub enum Kind {
     String,
     /// `HeapText`, a user-defined type.
     Own,
-    /// A `HeapText` that fails to shrink.
-    Unshrinkable,
 }
 
 /// How a text is made.
@@ -55,7 +53,7 @@ pub struct Made {
 pub fn policy_of(made: Made) -> Policy {
     match made.kind {
         Kind::Array | Kind::Inlinable | Kind::Boxable => inlinable(made.limit),
-        Kind::String | Kind::Own | Kind::Unshrinkable => HEAP,
+        Kind::String | Kind::Own => HEAP,
     }
 }
 
@@ -71,73 +69,26 @@ pub trait Played {
     fn is_text(&self, content: &str) -> bool;
 }
 
-/// A text of any kind, with a limit of `N`.
+/// A text that gets commands as what it is.
 #[derive(Drop)]
-pub enum Text<const N: usize> {
-    Array(ArrayText<N>),
-    Inlinable(InlinableStringN<N>),
-    Boxable(BoxableString),
-    String(String),
-    Own(HeapText),
+pub struct TypedText<S> {
+    pub text: S,
 }
 
-/// The same expression of the text, whatever its type.
-macro_rules! of_each {
-    ($text:expr, $held:ident => $value:expr) => {
-        match $text {
-            Text::Array($held) => $value,
-            Text::Inlinable($held) => $value,
-            Text::Boxable($held) => $value,
-            Text::String($held) => $value,
-            Text::Own($held) => $value,
-        }
-    };
-}
-
-fn empty<S: EmptyText>(rt: &impl Abort, alloc: Global, room: Option<usize>) -> S {
-    S::empty(alloc, room).expect(rt, "memory for a text")
-}
-
-fn own(rt: &impl Abort, alloc: Global, made: Made) -> HeapText {
-    HeapText {
-        string: empty(rt, alloc, made.room),
-        can_shrink: match made.kind {
-            Kind::Unshrinkable => false,
-            _ => true,
-        },
-    }
-}
-
-impl<const N: usize> Text<N> {
-    /// The empty text made so.
-    pub fn empty(rt: &impl Abort, alloc: Global, made: Made) -> Self
-        requires { N ≤ 300 }
-    {
-        let room = made.room;
-        match made.kind {
-            Kind::Array => Text::Array(empty(rt, alloc, room)),
-            Kind::Inlinable => Text::Inlinable(empty(rt, alloc, room)),
-            Kind::Boxable => Text::Boxable(BoxableString(empty(rt, alloc, room))),
-            Kind::String => Text::String(empty(rt, alloc, room)),
-            Kind::Own | Kind::Unshrinkable => Text::Own(own(rt, alloc, made)),
-        }
-    }
-}
-
-impl<const N: usize> Played for Text<N> {
+impl<S: StringExt> Played for TypedText<S> {
     fn give(&mut self, way: Way, commands: &[Command], replies: &mut [Reply]) {
         match way {
-            Way::Call => of_each!(self, text => give_by_calls(text, commands, replies)),
-            _ => of_each!(self, text => run(text, commands, replies)),
+            Way::Call => give_by_calls(&mut self.text, commands, replies),
+            _ => run(&mut self.text, commands, replies),
         }
     }
 
     fn seen(&self) -> Seen<'_> {
-        of_each!(self, text => seen_of(text))
+        seen_of(&self.text)
     }
 
     fn is_text(&self, content: &str) -> bool {
-        of_each!(self, text => is_text(text, content))
+        is_text(&self.text, content)
     }
 }
 
@@ -175,6 +126,10 @@ macro_rules! of_each_dyn {
     };
 }
 
+fn empty<S: EmptyText>(rt: &impl Abort, alloc: Global, room: Option<usize>) -> S {
+    S::empty(alloc, room).expect(rt, "memory for a text")
+}
+
 impl DynText {
     /// The empty text made so; `None` at limits other than 0 and 30.
     pub fn empty(rt: &impl Abort, alloc: Global, made: Made) -> Option<Self> {
@@ -187,7 +142,7 @@ impl DynText {
             (Kind::Array | Kind::Inlinable, _) => return None,
             (Kind::Boxable, _) => DynText::Boxable(BoxableString(empty(rt, alloc, room))),
             (Kind::String, _) => DynText::String(empty(rt, alloc, room)),
-            (Kind::Own | Kind::Unshrinkable, _) => DynText::Own(own(rt, alloc, made)),
+            (Kind::Own, _) => DynText::Own(empty(rt, alloc, room)),
         })
     }
 }

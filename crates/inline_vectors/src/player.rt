@@ -10,14 +10,16 @@ use crate::beside::{is_agreed, plain_start};
 use crate::held::Memory::{self, Ample, Held};
 use crate::held::hold;
 use crate::kinds::Kind::{self, Array, Boxable, Inlinable, Own, String as OfString};
-use crate::kinds::{DynText, Made, Played, Text, Way, policy_of};
+use crate::kinds::{DynText, Made, Played, TypedText, Way, policy_of};
 use crate::steps::Where::{AsMade, OnHeap};
 use crate::steps::{List, Step, Where, has_inline_room, has_room, storage_of, where_at};
 use crate::texts::whole_of;
 use inlinable_string::run::Command::{self, PushStr};
 use inlinable_string::run::Reply::{self, BadPlace, Done, NoMemory};
+use inlinable_string::{BoxableString, InlinableString, InlinableStringN};
 use std::alloc::Global;
 use std::process::Abort;
+use test_support::{ArrayText, EmptyText, HeapText};
 
 pub const EACH_WAY: &[Way] = &[Way::Call, Way::Run, Way::Dyn, Way::RunOfAll, Way::DynOfAll];
 
@@ -244,7 +246,25 @@ fn play_row<T: Played + Drop>(
     Ok(count)
 }
 
-/// Makes a text of this limit and plays a row on it.
+/// Makes a text of this type and plays a row on it.
+fn play_typed<S: EmptyText + Drop>(
+    rt: &impl Abort,
+    alloc: Global,
+    made: Made,
+    way: Way,
+    row: Row,
+) -> RowTally {
+    let text = S::empty(alloc, made.room).expect(rt, "memory for a text");
+    play_row(rt, alloc, TypedText { text }, made, way, row)
+}
+
+fn play_boxable(rt: &impl Abort, alloc: Global, made: Made, way: Way, row: Row) -> RowTally {
+    let text: InlinableString = EmptyText::empty(alloc, made.room).expect(rt, "memory for a text");
+    let text = BoxableString(text);
+    play_row(rt, alloc, TypedText { text }, made, way, row)
+}
+
+/// Makes a text of this limit and plays a row on it: the one place where a kind becomes a type.
 fn play_within<const N: usize>(
     rt: &impl Abort,
     alloc: Global,
@@ -254,8 +274,13 @@ fn play_within<const N: usize>(
 ) -> RowTally
     requires { N ≤ 300 }
 {
-    let text: Text<N> = Text::empty(rt, alloc, made);
-    play_row(rt, alloc, text, made, way, row)
+    match made.kind {
+        Array => play_typed::<ArrayText<N>>(rt, alloc, made, way, row),
+        Inlinable => play_typed::<InlinableStringN<N>>(rt, alloc, made, way, row),
+        Boxable => play_boxable(rt, alloc, made, way, row),
+        OfString => play_typed::<String>(rt, alloc, made, way, row),
+        Own => play_typed::<HeapText>(rt, alloc, made, way, row),
+    }
 }
 
 /// The one place where a limit becomes a type.

@@ -37,7 +37,7 @@ pub fn one_step<'a>(
 /// The storage of a text made so.
 pub fn storage_of(made: Made, place: Where) -> Storage {
     match (made.kind, place) {
-        (Kind::String | Kind::Own | Kind::Unshrinkable, _) | (_, Where::OnHeap) => Storage::Heap,
+        (Kind::String | Kind::Own, _) | (_, Where::OnHeap) => Storage::Heap,
         (_, Where::AsMade) if made.limit < made.room.unwrap_or(0) => Storage::Heap,
         _ => Storage::Inline,
     }
