@@ -6,19 +6,22 @@ use crate::beside::{is_agreed, plain_start};
 use crate::held::Memory::{self, Ample, Held};
 use crate::held::hold;
 use crate::kinds::Kind::{self, Array, Boxable, Own, String as OfString};
-use crate::kinds::{Boxed, Made, boxed, policy_of};
+use crate::kinds::{Made, policy_of};
 use crate::player::Wrong;
 use crate::texts::{assert_text, text_of};
 use Storage::{Heap, Inline};
 use inlinable_string::run::Command::{self, Pop, Push, PushStr, Remove, Truncate};
 use inlinable_string::run::Reply::{self, BadPlace, Char, Done, NoChar, NoMemory, NotUtf8};
 use inlinable_string::run::run_each;
-use inlinable_string::{InlinableString, Storage, StringExt};
+use inlinable_string::{BoxableString, InlinableString, Storage, StringExt};
 use inline_model::plain::room::PlainText;
 use inline_model::verdict::seen_of_dyn;
 use std::alloc::Global;
 use std::process::Abort;
 use test_support::letters::{LETTERS_29 as A29, LETTERS_30 as A30};
+use test_support::{ArrayText, HeapText};
+
+type Boxed = Box<dyn StringExt + Drop>;
 
 /// A boxed text: its kind, the capacity that it is made with or `None` where it is new, its start,
 /// and for each list its replies, its text and its storage then.
@@ -30,11 +33,25 @@ type End<'a> = (&'a [Reply], &'a str, Storage);
 /// What memory is left to a list, and its commands.
 pub type Given<'a> = (Memory, &'a [Command<'a>]);
 
-fn started(rt: &impl Abort, alloc: Global, row: &BoxedRow) -> Boxed {
-    let empty = boxed(alloc, made_of(row)).expect(rt, "memory");
-    let mut text = empty.expect(rt, "a limit of boxed texts");
-    text.push_str(row.2).expect(rt, "memory");
-    text
+fn boxed(rt: &impl Abort, alloc: Global, kind: Kind, room: Option<usize>, start: &str) -> Boxed {
+    match kind {
+        Kind::String => {
+            let text: String = text_of(rt, alloc, room, start);
+            Box::new(alloc, text).expect(rt, "memory")
+        }
+        Kind::Array => {
+            let text: ArrayText<8> = text_of(rt, alloc, room, start);
+            Box::new(alloc, text).expect(rt, "memory")
+        }
+        Kind::Own => {
+            let text: HeapText = text_of(rt, alloc, room, start);
+            Box::new(alloc, text).expect(rt, "memory")
+        }
+        Kind::Inlinable | Kind::Boxable => {
+            let text: InlinableString = text_of(rt, alloc, room, start);
+            Box::new(alloc, BoxableString(text)).expect(rt, "memory")
+        }
+    }
 }
 
 fn made_of(row: &BoxedRow) -> Made {
@@ -59,7 +76,9 @@ pub fn wrong_list(
 ) -> Option<(usize, Wrong)> {
     let mut texts: Vec<Boxed> = Vec::new(alloc);
     for row in rows {
-        texts.push(started(rt, alloc, row)).expect(rt, "memory");
+        texts
+            .push(boxed(rt, alloc, row.0, row.1, row.2))
+            .expect(rt, "memory");
     }
     for (i, &(memory, commands)) in lists.iter().enumerate() {
         if let Some(wrong) = wrong_after(rt, alloc, &mut texts, rows, i, memory, commands) {

@@ -6,7 +6,8 @@ use crate::texts::is_text;
 use inlinable_string::run::{Command, Reply, run, run_dyn};
 use inlinable_string::{BoxableString, InlinableString, InlinableStringN, StringExt};
 use inline_model::verdict::{HEAP, Policy, Seen, inlinable, seen_of, seen_of_dyn};
-use std::alloc::{AllocError, Global};
+use std::alloc::Global;
+use std::process::Abort;
 use test_support::{ArrayText, EmptyText, HeapText};
 
 /// How commands are given to a text.
@@ -98,41 +99,65 @@ fn give_by_calls<S: StringExt>(text: &mut S, commands: &[Command], replies: &mut
     }
 }
 
-pub type Boxed = Box<dyn StringExt + Drop>;
-
-/// The empty text made so, in a box; `None` at limits other than 0, 8 and 30.
-pub fn boxed(alloc: Global, made: Made) -> Result<Option<Boxed>, AllocError> {
-    let room = made.room;
-    let text: Boxed = match (made.kind, made.limit) {
-        (Kind::Array, 0) => Box::new(alloc, ArrayText::<0>::empty(alloc, room)?)?,
-        (Kind::Array, 8) => Box::new(alloc, ArrayText::<8>::empty(alloc, room)?)?,
-        (Kind::Array, 30) => Box::new(alloc, ArrayText::<30>::empty(alloc, room)?)?,
-        (Kind::Inlinable, 0) => Box::new(alloc, InlinableStringN::<0>::empty(alloc, room)?)?,
-        (Kind::Inlinable, 8) => Box::new(alloc, InlinableStringN::<8>::empty(alloc, room)?)?,
-        (Kind::Inlinable, 30) => Box::new(alloc, InlinableString::empty(alloc, room)?)?,
-        (Kind::Array | Kind::Inlinable, _) => return Ok(None),
-        (Kind::Boxable, _) => Box::new(alloc, BoxableString(EmptyText::empty(alloc, room)?))?,
-        (Kind::String, _) => Box::new(alloc, <String as EmptyText>::empty(alloc, room)?)?,
-        (Kind::Own, _) => Box::new(alloc, HeapText::empty(alloc, room)?)?,
-    };
-    Ok(Some(text))
+/// A text that gets commands through a `dyn`. The borrow checker makes a `dyn` of a type without
+/// parameters alone.
+#[derive(Drop)]
+pub enum DynText {
+    Array0(ArrayText<0>),
+    Array30(ArrayText<30>),
+    Inlinable0(InlinableStringN<0>),
+    Inlinable30(InlinableString),
+    Boxable(BoxableString),
+    String(String),
+    Own(HeapText),
 }
 
-/// A text that gets commands through a `dyn`.
-#[derive(Drop)]
-pub struct DynText(pub Boxed);
+macro_rules! of_each_dyn {
+    ($text:expr, $held:ident => $value:expr) => {
+        match $text {
+            DynText::Array0($held) => $value,
+            DynText::Array30($held) => $value,
+            DynText::Inlinable0($held) => $value,
+            DynText::Inlinable30($held) => $value,
+            DynText::Boxable($held) => $value,
+            DynText::String($held) => $value,
+            DynText::Own($held) => $value,
+        }
+    };
+}
+
+fn empty<S: EmptyText>(rt: &impl Abort, alloc: Global, room: Option<usize>) -> S {
+    S::empty(alloc, room).expect(rt, "memory for a text")
+}
+
+impl DynText {
+    /// The empty text made so; `None` at limits other than 0 and 30.
+    pub fn empty(rt: &impl Abort, alloc: Global, made: Made) -> Option<Self> {
+        let room = made.room;
+        Some(match (made.kind, made.limit) {
+            (Kind::Array, 0) => DynText::Array0(empty(rt, alloc, room)),
+            (Kind::Array, 30) => DynText::Array30(empty(rt, alloc, room)),
+            (Kind::Inlinable, 0) => DynText::Inlinable0(empty(rt, alloc, room)),
+            (Kind::Inlinable, 30) => DynText::Inlinable30(empty(rt, alloc, room)),
+            (Kind::Array | Kind::Inlinable, _) => return None,
+            (Kind::Boxable, _) => DynText::Boxable(BoxableString(empty(rt, alloc, room))),
+            (Kind::String, _) => DynText::String(empty(rt, alloc, room)),
+            (Kind::Own, _) => DynText::Own(empty(rt, alloc, room)),
+        })
+    }
+}
 
 impl Played for DynText {
     fn give(&mut self, _: Way, commands: &[Command], replies: &mut [Reply]) {
-        run_dyn(&mut *self.0, commands, replies)
+        of_each_dyn!(self, text => run_dyn(text, commands, replies))
     }
 
     fn seen(&self) -> Seen<'_> {
-        seen_of_dyn(&*self.0)
+        of_each_dyn!(self, text => seen_of_dyn(text))
     }
 
     fn is_text(&self, content: &str) -> bool {
-        is_text_dyn(&*self.0, content)
+        of_each_dyn!(self, text => is_text_dyn(text, content))
     }
 }
 

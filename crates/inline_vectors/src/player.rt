@@ -10,7 +10,7 @@ use crate::beside::{is_agreed, plain_start};
 use crate::held::Memory::{self, Ample, Held};
 use crate::held::hold;
 use crate::kinds::Kind::{self, Array, Boxable, Inlinable, Own, String as OfString};
-use crate::kinds::{DynText, Made, Played, TypedText, Way, boxed, policy_of};
+use crate::kinds::{DynText, Made, Played, TypedText, Way, policy_of};
 use crate::steps::Where::{AsMade, OnHeap};
 use crate::steps::{List, Step, Where, has_inline_room, has_room, storage_of, where_at};
 use crate::texts::whole_of;
@@ -303,8 +303,8 @@ fn play_made(rt: &impl Abort, alloc: Global, made: Made, way: Way, row: Row) -> 
 
 /// The same through a `dyn`, if the type has one.
 fn play_made_dyn(rt: &impl Abort, alloc: Global, made: Made, way: Way, row: Row) -> RowTally {
-    match boxed(alloc, made).expect(rt, "memory for a text") {
-        Some(text) => play_row(rt, alloc, DynText(text), made, way, row),
+    match DynText::empty(rt, alloc, made) {
+        Some(text) => play_row(rt, alloc, text, made, way, row),
         None => Ok(0),
     }
 }
