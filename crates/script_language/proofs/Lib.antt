@@ -1,5 +1,5 @@
 mod Pieces
-mod Fronts
+pub mod Fronts
 mod PrintedLines
 mod Cuts
 mod Gathered

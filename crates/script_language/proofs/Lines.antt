@@ -1,23 +1,13 @@
 -- Lines, their words and what follows them.
-use Rattle.std.proofs.Common.{◌≡◌, refl, sym, subst, ◌∙◌, ℕ, List, [], ◌∷◌, ◌++◌, ◌⊎◌, inl, inr}
+use Rattle.std.proofs.Common.{◌≡◌, refl, sym, subst, ◌∙◌, ℕ, List, [], ◌∷◌, ◌++◌, inl, inr}
 use Rattle.std.specs.Str.Iter.{LacksByte}
 use Rattle.std.proofs.lemmas.List.{append-nil}
 use Rattle.inlinable_string.specs.declared.run.Command.{Command}
 use Rattle.script_language.specs.Line.{Arguments, nothing, character, text, number, number_and_character, number_and_text, bytes, arguments_of, IsCharText, IsFirstCut, IsLine, IsNumberText, IsTail, space, word_of}
-use Rattle.script_language.proofs.Cuts.{digits_lack_space, head-lacks, same_cut, tail-lacks}
+use Rattle.script_language.proofs.Cuts.{digits_lack_space, one_split, same_cut, StartsApart}
 use Rattle.script_language.proofs.Words.{form, word_lacks_space}
 
--- what follows a word: nothing, or a space and more
-abbrev pub StartsApart : List ℕ → Type 0
-StartsApart tail = (tail ≡ []) ⊎ ((rest : List ℕ) × (tail ≡ space ∷ rest))
-
--- no other byte
-not_apart : (b : ℕ) (word rest tail : List ℕ) → LacksByte space (b ∷ word) → StartsApart tail
-    → tail ≡ b ∷ word ++ rest → ⊥
-not_apart b word rest tail lacks (inl none) same = cc
-not_apart b word rest tail lacks (inr (more, some)) same =
-    head-lacks space b word lacks (search (sym same ∙ some))
-
+-- a line ends with its word, or goes on with a space
 pub tail_forms : (args : Arguments) (tail : List ℕ) → IsTail args tail → StartsApart tail
 tail_forms nothing tail is = inl is
 tail_forms (character c) tail is = inr (is.0, is.1)
@@ -26,20 +16,6 @@ tail_forms (number n) tail is = inr (is.0, is.1)
 tail_forms (number_and_character n c) tail is = inr (_, is.2)
 tail_forms (number_and_text n t) tail is = inr (_, is.1)
 tail_forms (bytes bs) tail is = inr (is.0, is.1)
-
--- such a line falls into its word and what follows in one way
-one_split : (one other tail rest : List ℕ) → LacksByte space one → LacksByte space other
-    → StartsApart tail → StartsApart rest → one ++ tail ≡ other ++ rest
-    → (one ≡ other) × (tail ≡ rest)
-one_split [] [] tail rest lacks lacks' apart apart' same = (refl, same)
-one_split [] (b ∷ other) tail rest lacks lacks' apart apart' same =
-    absurd (not_apart b other rest tail lacks' apart same)
-one_split (b ∷ one) [] tail rest lacks lacks' apart apart' same =
-    absurd (not_apart b one tail rest lacks apart' (sym same))
-one_split (b ∷ one) (d ∷ other) tail rest lacks lacks' apart apart' same =
-    let parts = one_split one other tail rest (tail-lacks space b one lacks)
-    (tail-lacks space d other lacks') apart apart' (search same) in
-    (cc, parts.1)
 
 -- a line with this word and this tail is that of commands with this word alone
 pub parts_of_line : (word tail : List ℕ) (command : Command) → LacksByte space word
@@ -72,7 +48,7 @@ pub no_character_behind : (rest digits behind : List ℕ) (place : ℕ)
     → form args ≡ number_and_character 0 0 → ¬ (IsTail args (space ∷ rest))
 no_character_behind rest digits behind place parts written none (number_and_character n c) is
     (digits', behind', at, written', char) =
-    let cuts = same_cut space digits digits' behind behind'
+    let cuts = same_cut digits digits' behind behind'
     (digits_lack_space digits written.numeral.1) (digits_lack_space digits' written'.numeral.1)
     (sym parts ∙ search at) in
     none c (subst (λ b. IsCharText b c) (sym cuts.1) char)

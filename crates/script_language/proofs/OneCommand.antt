@@ -38,7 +38,7 @@ same_parts : (digits digits' behind behind' : List ℕ) (m n : ℕ) → IsNumber
     → IsNumberText digits' n → digits ++ space ∷ behind ≡ digits' ++ space ∷ behind'
     → (digits ≡ digits') × (behind ≡ behind')
 same_parts digits digits' behind behind' m n written other =
-    same_cut space digits digits' behind behind' (digits_lack_space digits written.numeral.1)
+    same_cut digits digits' behind behind' (digits_lack_space digits written.numeral.1)
     (digits_lack_space digits' other.numeral.1)
 
 -- a tail is written for one list of arguments of a form

@@ -57,6 +57,7 @@ fn print_state<S: StringExt, W: Write>(
 }
 
 #[inline]
+#[tactic(auto, using(crate::proofs::Fronts::front_of_more, crate::proofs::Fronts::of_any_error))]
 fn print_reply<W: Write>(out: &mut W, buffer: &mut Buffer, reply: Reply) -> Result<(), ScriptFault>
     ensures gathered { OnOk result (IsGathered (W.contents out.old) (W.contents out.new)
         buffer.old (reply_line reply) buffer.new) }

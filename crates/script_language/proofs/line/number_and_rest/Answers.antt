@@ -14,6 +14,6 @@ returns-in_err-number_of-clause-none c =
     let cut = c.in_ok-digits.ensures.some in
     rw c.from_residual-in_err-number_of.ensures (λ digits behind is number written.
     let lacks = digits_lack_space digits written.numeral.1 in
-    let same = same_cut space _ _ _ _ cut.first lacks (sym cut.joined ∙ is) in
+    let same = same_cut _ _ _ _ cut.first lacks (sym cut.joined ∙ is) in
     c.in_err-number_of.ensures.none number
     (subst (λ d. IsNumberText d number) (sym same.0) written))
