@@ -159,7 +159,7 @@ parted_at key keys at sorted is =
           grind (arith, more, equal),
     )
 
--- the entries that pass a test of their keys, where these stand together
+-- the entries that pass a test of their keys, where these are next to each other
 pub run : {X : Type 0} (test : List ℕ → Bool) (es : List (List ℕ × X)) (i n : ℕ)
     → ((k : ℕ) → k < i → k < length es → test (get_or (keys_of es) k []) ≡ false)
     → ((k : ℕ) → i ≤ k → k < i + n → k < length es → test (get_or (keys_of es) k []) ≡ true)

@@ -1,5 +1,5 @@
 -- What the contracts of a store cite: its whole state is a list of keys with their values, each as
--- its bytes, in which each key stands once, in the order of the keys.
+-- its bytes, in which each key occurs once, in the order of the keys.
 use Rattle.std.specs.Prelude.{◌&&◌, not, ℕ, List, [], Option, Some, map, filter, option_and_then}
 use Rattle.std.specs.Ordering.{is_gt}
 use Rattle.std.specs.List.Sorted.{IsStrictlySortedBy}
@@ -37,7 +37,7 @@ abbrev pub entries_between : Entries → List ℕ → List ℕ → Entries
 entries_between entries from to = filter
     (λ e. not (is_gt (key_order from e.0)) && is_gt (key_order to e.0)) entries
 
--- a key with its value, which lie anywhere
+-- a key with its value, each inline or on the heap
 abbrev pub entry_of : InlinableStringN 30 × InlinableStringN 30 → List ℕ × List ℕ
 entry_of entry = (bytes_at entry.0, bytes_at entry.1)
 

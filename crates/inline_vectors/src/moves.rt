@@ -15,7 +15,7 @@ use std::process::Abort;
 use test_support::letters::{LETTERS_30, LETTERS_31};
 
 /// The limits before the move and after it, a text and the capacity that it is made with, the
-/// memory that is left, and where the text is after the move, or in the value that is handed back.
+/// memory that is left, and where the text is after the move, or in the value that is returned.
 pub type MoveRow<'a> = (
     usize,
     usize,
@@ -46,7 +46,7 @@ const MOVES: &[MoveRow] = &[
     (8, 30, LETTERS_31, HEAP_ROOM, Held, Ok(Heap)),
 ];
 
-/// Whether the text is moved, or handed back with its capacity, as the row says. One that is on the
+/// Whether the text is moved, or returned with its capacity, as the row says. One that is on the
 /// heap before and after keeps its capacity.
 fn is_moved<const N: usize, const M: usize>(rt: &impl Abort, alloc: Global, row: &MoveRow) -> bool
     requires from { N ≤ 300 }

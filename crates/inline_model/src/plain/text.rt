@@ -29,7 +29,7 @@ pub fn chars_of(alloc: Global, string: &str) -> Result<Vec<char>, AllocError>
     string.chars().collect(alloc)
 }
 
-/// How many characters stand before a place, which is a number of bytes. `None`: that number is no
+/// How many characters are before a place, which is a number of bytes. `None`: that number is no
 /// place of the text.
 #[tactic(auto, using(crate::proofs::Fronts::cut_after, crate::proofs::Fronts::cut_nowhere))]
 pub fn chars_before(text: &[char], place: usize) -> Option<usize>

@@ -1,4 +1,4 @@
-//! Where texts lie, for how many bytes they have room, and which commands need no memory.
+//! Where texts are stored, for how many bytes they have room, and which commands need no memory.
 ghost use Rattle.std.specs.Prelude.{◌≡◌, List, ℕ};
 ghost use Rattle.std.specs.Str.{chars};
 ghost use Rattle.inlinable_string.specs.Text.{size};
@@ -62,7 +62,7 @@ pub fn five_bytes_are_not_free(string: &str)
         → ¬ IsLegal (inline_text t 30) (Command.PushStr string.entry) Reply.BadPlace }
 {}
 
-/// Of 30 bytes that lie inline at most 26 are taken: five put in go to the heap.
+/// Of 30 inline bytes at most 26 are taken: five put in go to the heap.
 pub fn five_bytes_put_in_go_to_the_heap(string: &str)
     requires { size (chars string.now) ≡ 5 }
     ensures { (t : List ℕ) → (p : ℕ) → size t ≡ 26

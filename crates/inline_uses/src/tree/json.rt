@@ -69,8 +69,8 @@ impl Tree {
         self.object(alloc, None, LEVELS - 1)
     }
 
-    /// The object of a place, in which `below` more stand one in another at most. It goes over the
-    /// nodes under the place alone.
+    /// The object of a place, which nests at most `below` others. It goes over the nodes under the
+    /// place alone.
     fn object(&self, alloc: Global, place: Option<usize>, below: usize) -> Result<Value, Fault>
         requires { IsPlaceOf self.now place }
         ensures readable { IfOk result (λ value. IsReadable (suc below) (view value)) }
