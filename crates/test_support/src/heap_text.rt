@@ -10,8 +10,6 @@ use std::string::FromUtf8Error;
 #[derive(Drop)]
 pub struct HeapText {
     pub string: String,
-    /// Whether it can be shrunk: where it can't, that returns `AllocError`.
-    pub can_shrink: bool,
 }
 
 impl StringExt for HeapText {
@@ -42,11 +40,7 @@ impl StringExt for HeapText {
     }
 
     fn shrink_to_fit(&mut self) -> Result<(), AllocError> {
-        if self.can_shrink {
-            StringExt::shrink_to_fit(&mut self.string)
-        } else {
-            Err(AllocError)
-        }
+        StringExt::shrink_to_fit(&mut self.string)
     }
 
     fn truncate(&mut self, new_len: usize) {
@@ -92,36 +86,28 @@ impl StringMake for HeapText {
     fn new(alloc: Global) -> Self {
         HeapText {
             string: StringMake::new(alloc),
-            can_shrink: true,
         }
     }
 
     fn with_capacity(alloc: Global, capacity: usize) -> Result<Self, AllocError> {
         Ok(HeapText {
             string: StringMake::with_capacity(alloc, capacity)?,
-            can_shrink: true,
         })
     }
 
     fn from_utf8(alloc: Global, vec: Vec<u8>) -> Result<Self, FromUtf8Error> {
         Ok(HeapText {
             string: StringMake::from_utf8(alloc, vec)?,
-            can_shrink: true,
         })
     }
 
     unsafe fn from_utf8_unchecked(alloc: Global, bytes: Vec<u8>) -> Self {
         HeapText {
             string: unsafe { StringMake::from_utf8_unchecked(alloc, bytes) },
-            can_shrink: true,
         }
     }
 
     fn into_bytes(self) -> Result<Vec<u8>, Self> {
-        let HeapText { string, can_shrink } = self;
-        match StringMake::into_bytes(string) {
-            Ok(bytes) => Ok(bytes),
-            Err(string) => Err(HeapText { string, can_shrink }),
-        }
+        StringMake::into_bytes(self.string).map_err(|string| HeapText { string })
     }
 }
