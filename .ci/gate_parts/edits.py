@@ -135,7 +135,7 @@ def groups_of(crate, edits):
     groups = [[] for _ in range(max(uses.values(), default=0))]
     # first those that are hardest to place
     for edit in sorted((edit for edit in edits if edit not in alone),
-                       key=lambda edit: (not edit.touches, -len(edit.functions()))):
+                       key=lambda edit: (stays_in_its_functions(crate, edit), -len(edit.functions()))):
         able = [group for group in groups if all(are_apart(edit, other) for other in group)]
         if not able:
             groups.append([])
