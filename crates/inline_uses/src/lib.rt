@@ -5,8 +5,6 @@
 pub mod editor;
 pub mod store;
 pub mod symbols;
-#[cfg(test)]
-mod tests;
 pub mod tokens;
 pub mod tree;
 pub mod worked;

@@ -1,7 +1,7 @@
 //! Stores as bytes, and read back.
-use crate::store::Store;
-use crate::store::json::{ReadError, copied};
-use crate::tests::store::{has_values, put_all};
+use super::{has_values, put_all};
+use inline_uses::store::Store;
+use inline_uses::store::json::{ReadError, copied};
 use std::alloc::AllocError;
 use std::test::Fail;
 use test_support::letters::LETTERS_31;

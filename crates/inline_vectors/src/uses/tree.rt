@@ -1,7 +1,7 @@
 //! Trees, and the JSON of trees.
-use crate::tree::json::copied;
-use crate::tree::{Fault, LEVELS, Tree};
 use inlinable_string::StringExt;
+use inline_uses::tree::json::copied;
+use inline_uses::tree::{Fault, LEVELS, Tree};
 use serde_json::{Map, Value};
 use std::alloc::{AllocError, Global};
 use std::test::Fail;

@@ -1,7 +1,7 @@
 //! The tokens of a source.
-use crate::tokens::Kind::{BlockComment, LineComment, Mark, Number, Space, Text, Word};
-use crate::tokens::{Fault, Kind, Position, count_tokens, next_token};
 use inlinable_string::InlineStringN;
+use inline_uses::tokens::Kind::{BlockComment, LineComment, Mark, Number, Space, Text, Word};
+use inline_uses::tokens::{Fault, Kind, Position, count_tokens, next_token};
 use std::test::Fail;
 
 /// Lines of a file that keeps a short text in an array.

@@ -1,5 +1,5 @@
 //! Texts and their ids.
-use crate::symbols::{Symbols, have_same_id};
+use inline_uses::symbols::{Symbols, have_same_id};
 use std::alloc::{AllocError, Global};
 use std::test::Fail;
 use test_support::letters::LETTERS_31;

@@ -1,6 +1,6 @@
 //! Stores of keys and values, in memory and with all of it held.
-use crate::store::{Entry, Store};
 use inlinable_string::StringExt;
+use inline_uses::store::{Entry, Store};
 use std::alloc::AllocError;
 use std::test::Fail;
 use test_support::letters::LETTERS_31;

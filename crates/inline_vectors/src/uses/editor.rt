@@ -1,5 +1,5 @@
 //! A line that is typed and mended, key by key.
-use crate::editor::Line;
+use inline_uses::editor::Line;
 
 #[test]
 fn a_line_is_typed_and_mended(rt: HostRuntime) {
