@@ -1,36 +1,25 @@
 -- How many commands lines ask for, and what stands before a bad one.
-use Rattle.std.proofs.Common.{◌≡◌, Bool, true, refl, sym, ap, subst, ◌∙◌, ℕ, suc, ◌+◌, ◌≤◌, List, [], ◌∷◌, ◌++◌, length, nat_lt, arith}
-use Rattle.std.specs.List.{count_by, filter}
+use Rattle.std.proofs.Common.{◌≡◌, Bool, refl, sym, ap, subst, ℕ, ◌+◌, ◌≤◌, List, [], ◌∷◌, ◌++◌, length, nat_lt, arith}
+use Rattle.std.specs.List.{count_by}
 use Rattle.std.proofs.lemmas.Bool.{lt-ltb}
-use Rattle.std.proofs.lemmas.List.Sums.{length-filter}
+use Rattle.std.proofs.lemmas.List.Sums.{sum_by-cons}
 use mathlib.Core.Bool.{cond}
 use Rattle.inlinable_string.specs.declared.run.Command.{Command}
 use Rattle.script_language.specs.Line.{IsLine}
 use Rattle.script_language.specs.Script.{LinesAskFor, IsFirstBad}
 
--- whether a line has a byte
-abbrev has_byte : List ℕ → Bool
-has_byte line = nat_lt 0 (length line)
-
-with_first_byte : (b : ℕ) (line : List ℕ) → has_byte (b ∷ line) ≡ true
-with_first_byte b line = lt-ltb 0 (length (b ∷ line)) (omega arith)
-
 -- each line that has a byte asks for one command
-as_many_kept : (lines : List (List ℕ)) (commands : List Command) → LinesAskFor lines commands
-    → length commands ≡ length (filter has_byte lines)
-as_many_kept [] [] asked = refl
-as_many_kept [] (command ∷ commands) asked = absurd asked
-as_many_kept ([] ∷ lines) commands asked = as_many_kept lines commands asked
-as_many_kept ((b ∷ line) ∷ lines) [] asked = absurd asked
-as_many_kept ((b ∷ line) ∷ lines) (command ∷ commands) asked =
-    ap suc (as_many_kept lines commands asked.1)
-    ∙ ap (λ t. length (cond t ((b ∷ line) ∷ filter has_byte lines) (filter has_byte lines)))
-    (sym (with_first_byte b line))
-
 pub as_many_commands : (lines : List (List ℕ)) (commands : List Command)
     → LinesAskFor lines commands → length commands ≡ count_by (λ line. nat_lt 0 (length line)) lines
-as_many_commands lines commands asked =
-    as_many_kept lines commands asked ∙ length-filter has_byte lines
+as_many_commands [] [] asked = refl
+as_many_commands [] (command ∷ commands) asked = absurd asked
+as_many_commands ([] ∷ lines) commands asked = as_many_commands lines commands asked
+as_many_commands ((b ∷ line) ∷ lines) [] asked = absurd asked
+as_many_commands ((b ∷ line) ∷ lines) (command ∷ commands) asked =
+    let has_byte : List ℕ → Bool = λ l. nat_lt 0 (length l) in
+    let one = ap {B = ℕ} (λ t. cond t 1 0) (lt-ltb 0 (length (b ∷ line)) (omega arith)) in
+    let more = sum_by-cons {X = List ℕ} (λ l. cond (has_byte l) 1 0) (b ∷ line) lines in
+    omega (arith, as_many_commands lines commands asked.1, one, more)
 
 -- lines of which one asks for nothing ask for nothing
 pub bad_among : (before behind : List (List ℕ)) (line : List ℕ) (commands : List Command)

@@ -1,11 +1,11 @@
 -- Texts that are cut at a mark.
-use Rattle.std.proofs.Common.{◌≡◌, ◌≢◌, refl, sym, subst, ◌∙◌, ℕ, ◌<◌, ◌==◌, suc, zero, List, [], ◌∷◌, ◌++◌, ◌⊎◌, inl, inr, length, arith}
+use Rattle.std.proofs.Common.{◌≡◌, ◌≢◌, refl, sym, ◌∙◌, ℕ, ◌==◌, suc, List, [], ◌∷◌, ◌++◌, ◌⊎◌, inl, inr, length, arith}
 use Rattle.std.specs.List.{position_or_len}
 use Rattle.std.specs.Str.Iter.{LacksByte}
 use Rattle.std.specs.Str.Parse.{AllDigits}
 use Rattle.std.proofs.lemmas.List.Sums.{fails_before_first}
 use Rattle.std.proofs.lemmas.Bool.{eqb-false}
-use Rattle.std.specs.Char.{digit_value}
+use Rattle.std.proofs.lemmas.Str.Parse.{digit_at}
 use Rattle.script_language.specs.Line.{space}
 
 head-lacks : (m b : ℕ) (bs : List ℕ) → LacksByte m (b ∷ bs) → b ≢ m
@@ -56,11 +56,7 @@ same_cut front front' behind behind' lacks lacks' same =
 
 -- no digit is a space
 pub digits_lack_space : (digits : List ℕ) → AllDigits 10 digits → LacksByte space digits
-digits_lack_space [] all k below = absurd (omega arith)
-digits_lack_space (b ∷ digits) all zero below = λ is.
-    let low = subst (λ d. digit_value d < 10) is all.0 in absurd (omega (arith, low))
-digits_lack_space (b ∷ digits) all (suc k) below =
-    digits_lack_space digits all.1 k (omega arith)
+digits_lack_space digits all k below is = absurd (omega (arith, digit_at digits k all below, is))
 
 -- a text in which the mark is at no place lacks it
 pub lacks-from_position : (m : ℕ) (bs : List ℕ)

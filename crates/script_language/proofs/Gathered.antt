@@ -3,6 +3,7 @@ use Rattle.std.proofs.Common.{◌≡◌, ℕ, List, [], ◌++◌, sym, ap, subst
 use Rattle.std.specs.Io.KnownBytes.{Appends}
 use Rattle.std.proofs.KnownBytes.{Appends-nil, Appends-trans}
 use Rattle.script_language.specs.Output.{IsGathered, WritesFront}
+use Rattle.script_language.proofs.Fronts.{front_after, front_of_more}
 
 -- nothing was written
 pub gathered_in : (a : Option (List ℕ)) (w bytes : List ℕ) {x : List ℕ} → x ≡ w ++ bytes
@@ -16,15 +17,6 @@ gathered_out a b c w bytes {x} before e written = record {
   front = w ++ bytes;
   split = sym (append-nil (w ++ bytes)) ∙ ap (λ l. (w ++ bytes) ++ l) (sym e);
   written = Appends-trans a b c w bytes before written;
-}
-
--- the same bytes were
-pub gathered_is : {a b : Option (List ℕ)} {w bytes x same : List ℕ} → IsGathered a b w bytes x
-    → bytes ≡ same → IsGathered a b w same x
-gathered_is {w = w} g e = record {
-  front = g.front;
-  split = ap (λ l. w ++ l) (sym e) ∙ g.split;
-  written = g.written;
 }
 
 -- the start of what was gathered, and what follows
@@ -48,24 +40,15 @@ gathered_more {a} {b} {c} {w} {bytes} {x} {more} {y} g h = record {
 pub front_after_gathered : {a b c : Option (List ℕ)} {w bytes x : List ℕ} (more : List ℕ)
     → IsGathered a b w bytes x → WritesFront b c (x ++ more)
     → WritesFront a c (w ++ (bytes ++ more))
-front_after_gathered {a} {b} {c} {w} {bytes} {x} more g f = record {
-  front = g.front ++ f.front;
-  behind = f.behind;
-  split = regroup w bytes more g.front x g.split
-      ∙ ap (λ l. g.front ++ l) f.split
-      ∙ sym (append_assoc g.front f.front f.behind);
-  written = Appends-trans a b c g.front f.front g.written f.written;
-}
+front_after_gathered {a} {b} {c} {w} {bytes} {x} more g f =
+    subst (WritesFront a c) (sym (regroup w bytes more g.front x g.split))
+    (front_after a b c g.front (x ++ more) g.written f)
 
 -- a front of these is one of more
 pub front_of_longer : {a b : Option (List ℕ)} (w bytes more : List ℕ)
     → WritesFront a b (w ++ bytes) → WritesFront a b (w ++ (bytes ++ more))
-front_of_longer w bytes more f = record {
-  front = f.front;
-  behind = f.behind ++ more;
-  split = regroup w bytes more f.front f.behind f.split;
-  written = f.written;
-}
+front_of_longer {a} {b} w bytes more f =
+    subst (WritesFront a b) (append_assoc w bytes more) (front_of_more a b (w ++ bytes) more f)
 
 -- what waits is written at the end
 pub gathered_and_flushed : {a b : Option (List ℕ)} (c : Option (List ℕ)) {w bytes x : List ℕ}
@@ -76,10 +59,5 @@ gathered_and_flushed {a} {b} c {w} {bytes} {x} g h =
 -- or a front of it
 pub front_of_flushed : {a b c : Option (List ℕ)} {w bytes x : List ℕ}
     → IsGathered a b w bytes x → WritesFront b c x → WritesFront a c (w ++ bytes)
-front_of_flushed {a} {b} {c} {w} {bytes} {x} g f = record {
-  front = g.front ++ f.front;
-  behind = f.behind;
-  split = g.split ∙ ap (λ l. g.front ++ l) f.split
-      ∙ sym (append_assoc g.front f.front f.behind);
-  written = Appends-trans a b c g.front f.front g.written f.written;
-}
+front_of_flushed {a} {b} {c} {w} {bytes} {x} g f =
+    subst (WritesFront a c) (sym g.split) (front_after a b c g.front x g.written f)

@@ -1,7 +1,7 @@
 -- Digits that are written for bytes, two for each.
 use Rattle.std.proofs.Common.{◌≡◌, ap, sym, subst, ◌∙◌, ℕ, zero, suc, ◌+◌, ◌*◌, ◌<◌, ◌≤◌, List, [], ◌∷◌, ◌++◌, All, length, map, take, set, get_or, length-set, arith}
 use Rattle.std.proofs.lemmas.List.{map-append, take_all, take_more, take_more_set}
-use Rattle.std.proofs.lemmas.List.Elements.{All-nil, All-cons, All-get_or, All-head, All-push, All-tail}
+use Rattle.std.proofs.lemmas.List.Elements.{All-head, All-push, All-tail}
 use Rattle.std.specs.Simd.{first_chunks}
 use Rattle.std.specs.Str.Parse.{AllDigits, digits_value}
 use Rattle.script_language.specs.Line.{IsHexText}
@@ -18,18 +18,17 @@ digits-from_pairs (suc n) (a ∷ b ∷ digits) even all =
     let rest = All-tail (AllDigits 16) (a ∷ b ∷ []) (first_chunks 2 n digits) all in
     (pair.0, (pair.1.0, digits-from_pairs n digits (omega (arith, even)) rest))
 
--- and pairs of digits are digits
-pub pairs-from_digits : (n : ℕ) (digits : List ℕ) → AllDigits 16 digits
-    → All (AllDigits 16) (first_chunks 2 n digits)
-pairs-from_digits zero digits all = All-nil (AllDigits 16)
-pairs-from_digits (suc n) [] all =
-    All-cons (AllDigits 16) [] (first_chunks 2 n []) tt (pairs-from_digits n [] tt)
-pairs-from_digits (suc n) (a ∷ []) all =
-    All-cons (AllDigits 16) (a ∷ []) (first_chunks 2 n []) all (pairs-from_digits n [] tt)
-pairs-from_digits (suc n) (a ∷ b ∷ digits) all =
-    let pair : AllDigits 16 (a ∷ b ∷ []) = (all.0, (all.1.0, tt)) in
-    let rest = pairs-from_digits n digits all.1.1 in
-    All-cons (AllDigits 16) (a ∷ b ∷ []) (first_chunks 2 n digits) pair rest
+-- and the pair at i is of digits
+pub pair_at : (digits : List ℕ) (n i : ℕ) → AllDigits 16 digits
+    → AllDigits 16 (get_or (first_chunks 2 n digits) i [])
+pair_at digits zero zero all = tt
+pair_at digits zero (suc i) all = tt
+pair_at [] (suc n) zero all = tt
+pair_at (a ∷ []) (suc n) zero all = all
+pair_at (a ∷ b ∷ digits) (suc n) zero all = (all.0, (all.1.0, tt))
+pair_at [] (suc n) (suc i) all = pair_at [] n i tt
+pair_at (a ∷ []) (suc n) (suc i) all = pair_at [] n i tt
+pair_at (a ∷ b ∷ digits) (suc n) (suc i) all = pair_at digits n i all.1.1
 
 -- the bytes so far are those of the pairs so far, which are of digits
 pub record AreBytesTo (pairs : List (List ℕ)) (bytes : List ℕ) (i : ℕ) : Type 0 where
@@ -71,10 +70,3 @@ hex_text-from_bytes digits bytes n i even size all done =
           ∙ ap (map (digits_value 16)) whole
           ∙ ap (λ m. map (digits_value 16) (first_chunks 2 m digits)) count;
     }
-
--- digits are hexadecimal at each pair
-pub pair-from_hex_text : (digits bytes : List ℕ) (n i : ℕ) → i < length (first_chunks 2 n digits)
-    → IsHexText digits bytes → AllDigits 16 (get_or (first_chunks 2 n digits) i [])
-pair-from_hex_text digits bytes n i within text =
-    let all = pairs-from_digits n digits text.hexadecimal in
-    All-get_or (AllDigits 16) (first_chunks 2 n digits) i [] within all

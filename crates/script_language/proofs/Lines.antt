@@ -1,7 +1,6 @@
 -- Lines, their words and what follows them.
-use Rattle.std.proofs.Common.{◌≡◌, refl, sym, subst, ◌∙◌, ℕ, List, [], ◌∷◌, ◌++◌, inl, inr}
+use Rattle.std.proofs.Common.{◌≡◌, refl, sym, subst, ◌∙◌, ℕ, List, ◌∷◌, ◌++◌, inl, inr}
 use Rattle.std.specs.Str.Iter.{LacksByte}
-use Rattle.std.proofs.lemmas.List.{append-nil}
 use Rattle.inlinable_string.specs.declared.run.Command.{Command}
 use Rattle.script_language.specs.Line.{Arguments, nothing, character, text, number, number_and_character, number_and_text, bytes, arguments_of, IsCharText, IsFirstCut, IsLine, IsNumberText, IsTail, space, word_of}
 use Rattle.script_language.proofs.Cuts.{digits_lack_space, one_split, same_cut, StartsApart}
@@ -26,13 +25,6 @@ parts_of_line word tail command lacks apart (rest, is, ends) =
     (tail_forms (arguments_of command) rest ends) is in
     (parts.0, subst (IsTail (arguments_of command)) (sym parts.1) ends)
 
--- a line without a space is the word alone
-pub line_of_word : (line : List ℕ) (command : Command) → LacksByte space line
-    → IsLine line command → (line ≡ word_of command) × IsTail (arguments_of command) []
-line_of_word line command lacks asked =
-    parts_of_line line [] command lacks (inl refl)
-    (subst (λ l. IsLine l command) (sym (append-nil line)) asked)
-
 -- a line with a space is the word, the space and what follows it
 pub line_with_word : (line word rest : List ℕ) (command : Command)
     → IsFirstCut space line word rest → IsLine line command
@@ -41,6 +33,14 @@ line_with_word line word rest command cut asked =
     parts_of_line word (space ∷ rest) command cut.first (inr (rest, refl))
     (subst (λ l. IsLine l command) cut.joined asked)
 
+-- a number, a space and more are cut at that space
+pub same_parts : (digits digits' behind behind' : List ℕ) (m n : ℕ) → IsNumberText digits m
+    → IsNumberText digits' n → digits ++ space ∷ behind ≡ digits' ++ space ∷ behind'
+    → (digits ≡ digits') × (behind ≡ behind')
+same_parts digits digits' behind behind' m n written other =
+    same_cut digits digits' behind behind' (digits_lack_space digits written.numeral.1)
+    (digits_lack_space digits' other.numeral.1)
+
 -- arguments whose number is followed by no character
 pub no_character_behind : (rest digits behind : List ℕ) (place : ℕ)
     → rest ≡ digits ++ space ∷ behind → IsNumberText digits place
@@ -48,8 +48,7 @@ pub no_character_behind : (rest digits behind : List ℕ) (place : ℕ)
     → form args ≡ number_and_character 0 0 → ¬ (IsTail args (space ∷ rest))
 no_character_behind rest digits behind place parts written none (number_and_character n c) is
     (digits', behind', at, written', char) =
-    let cuts = same_cut digits digits' behind behind'
-    (digits_lack_space digits written.numeral.1) (digits_lack_space digits' written'.numeral.1)
+    let cuts = same_parts digits digits' behind behind' place n written written'
     (sym parts ∙ search at) in
     none c (subst (λ b. IsCharText b c) (sym cuts.1) char)
 no_character_behind rest digits behind place parts written none args is tail = cc

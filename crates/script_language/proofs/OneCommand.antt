@@ -2,19 +2,18 @@
 use Rattle.std.proofs.Common.{arith, map, ◌≡◌, refl, sym, ap, subst, ◌∙◌, ℕ, List, [], ◌∷◌, ◌++◌, length}
 use Rattle.std.proofs.lemmas.Str.{IsUtf8-encode}
 use Rattle.std.specs.Simd.{first_chunks}
-use Rattle.std.specs.Str.{IsUtf8}
+use Rattle.std.specs.Str.{chars, IsUtf8}
 use Rattle.std.specs.Str.Parse.{digits_value}
 use Rattle.inlinable_string.proofs.Window.{chars_one}
 use Rattle.inlinable_string.specs.declared.run.Command.{Command}
 use Rattle.script_language.specs.Line.{Arguments, nothing, character, text, number, number_and_character, number_and_text, bytes, arguments_of, IsCharText, IsHexText, IsLine, IsNumberText, IsTail, space, word_of}
-use Rattle.script_language.proofs.Cuts.{digits_lack_space, same_cut}
-use Rattle.script_language.proofs.Lines.{parts_of_line, tail_forms}
+use Rattle.script_language.proofs.Lines.{parts_of_line, same_parts, tail_forms}
 use Rattle.script_language.proofs.Words.{form, form_of_word, word_lacks_space}
 
-one_char : (bs : List ℕ) (c d : ℕ) → IsCharText bs c → IsCharText bs d → c ∷ [] ≡ d ∷ []
-one_char bs c d char other =
-    let utf8 : IsUtf8 bs = subst IsUtf8 (sym char.encoded) (IsUtf8-encode c char.scalar) in
-    sym (chars_one c bs utf8 char.encoded) ∙ chars_one d bs utf8 other.encoded
+-- a character's text has that character alone
+pub one_character : (bs : List ℕ) (c : ℕ) → IsCharText bs c → chars bs ≡ c ∷ []
+one_character bs c char =
+    chars_one c bs (subst IsUtf8 (sym char.encoded) (IsUtf8-encode c char.scalar)) char.encoded
 
 -- digits of the same number are written for the same number of bytes, and for these bytes
 one_hex_text : (digits bs cs : List ℕ) → IsHexText digits bs → IsHexText digits cs → bs ≡ cs
@@ -27,19 +26,11 @@ one_hex_text digits bs cs written other =
 -- a character that is written in two equal texts
 same_char : (bs cs : List ℕ) (c d : ℕ) → bs ≡ cs → IsCharText bs c → IsCharText cs d → c ≡ d
 same_char bs cs c d same char other =
-    search (one_char cs c d (subst (λ b. IsCharText b c) same char) other)
+    search (sym (one_character bs c char) ∙ ap chars same ∙ one_character cs d other)
 
 same_number : (bs cs : List ℕ) (m n : ℕ) → bs ≡ cs → IsNumberText bs m → IsNumberText cs n → m ≡ n
 same_number bs cs m n same written other =
     written.value ∙ ap (digits_value 10) same ∙ sym other.value
-
--- a number, a space and more are cut at that space
-same_parts : (digits digits' behind behind' : List ℕ) (m n : ℕ) → IsNumberText digits m
-    → IsNumberText digits' n → digits ++ space ∷ behind ≡ digits' ++ space ∷ behind'
-    → (digits ≡ digits') × (behind ≡ behind')
-same_parts digits digits' behind behind' m n written other =
-    same_cut digits digits' behind behind' (digits_lack_space digits written.numeral.1)
-    (digits_lack_space digits' other.numeral.1)
 
 -- a tail is written for one list of arguments of a form
 same_arguments : (tail : List ℕ) (one other : Arguments) → form one ≡ form other

@@ -11,10 +11,10 @@ use Rattle.inlinable_string.specs.declared.run.Reply.{Reply}
 use Rattle.inlinable_string.proofs.RefusalsDecide.{same_replies, same_storage}
 use Rattle.inlinable_string.proofs.Runs.{text_of}
 use Rattle.script_language.specs.Output.{printed}
-use Rattle.script_language.specs.Script.{LinesAskFor, IsNamed, Prints, PrintsFrom, lines_of, policy_of, room_of, word_of_start}
+use Rattle.script_language.specs.Script.{IsNamed, Prints, PrintsFrom, policy_of, room_of, word_of_start}
 use Rattle.script_language.specs.declared.start.Start.{Start}
 use Rattle.script_language.specs.declared.start.Start.TheVariants as start
-use Rattle.script_language.proofs.PlainCommands.{plain, plain_asked, plain_legal, plain_state}
+use Rattle.script_language.proofs.PlainCommands.{plain, plain_legal, plain_state}
 
 -- the start of a word
 abbrev start_of_word : List ℕ → Start
@@ -81,7 +81,7 @@ same_output s t one other output as_well first second text storage policy same r
     ∙ sym second.shown
 
 -- the same from one start
-from_same_start : (start begun : Start) (one other : List Command) (output as_well : List ℕ)
+pub from_same_start : (start begun : Start) (one other : List Command) (output as_well : List ℕ)
     → start ≡ begun
     → (first : PrintsFrom start one output) (second : PrintsFrom begun other as_well)
     → map plain one ≡ map plain other
@@ -93,19 +93,3 @@ from_same_start start begun one other output as_well is first second same refusa
     ∙ sym second.begun.storage)
     (first.begun.policy ∙ ap policy_of is ∙ sym second.begun.policy)
     same refusals
-
-pub one_output : {Z : Type 0} (words : List (String Z)) (input output as_well : List ℕ)
-    (start begun : Start) (one other : List Command) → IsNamed words start → IsNamed words begun
-    → LinesAskFor (lines_of input) one → LinesAskFor (lines_of input) other
-    → (first : PrintsFrom start one output) (second : PrintsFrom begun other as_well)
-    → map is_refusal first.run.replies ≡ map is_refusal second.run.replies → output ≡ as_well
-one_output words input output as_well start begun one other named also asked too first second
-    refusals =
-    from_same_start start begun one other output as_well (one_start words start begun named also)
-    first second (plain_asked (lines_of input) one other asked too) refusals
-
-pub one_output_of_start : (start : Start) (commands : List Command) (output as_well : List ℕ)
-    (first : PrintsFrom start commands output) (second : PrintsFrom start commands as_well)
-    → map is_refusal first.run.replies ≡ map is_refusal second.run.replies → output ≡ as_well
-one_output_of_start start commands output as_well first second refusals =
-    from_same_start start start commands commands output as_well refl first second refl refusals

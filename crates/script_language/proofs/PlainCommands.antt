@@ -38,7 +38,7 @@ plain_reply s Pop reply legal = legal
 plain_reply s command reply legal = record { answer = legal.answer; counted = legal.counted }
 
 -- one word and one list of arguments make one plain command
-one_plain : (one other : Command) → word_of one ≡ word_of other
+pub one_plain : (one other : Command) → word_of one ≡ word_of other
     → arguments_of one ≡ arguments_of other → plain one ≡ plain other
 one_plain one other words args =
     ap (λ w. plain_of w (arguments_of one)) words ∙ ap (plain_of (word_of other)) args
@@ -75,31 +75,18 @@ plain_state s (c ∷ commands) (r ∷ replies) =
     ∙ ap (λ u. state_after u (map plain commands) replies) (plain_step s c r)
 
 -- lines ask for one list of whatever is read from a command's word and its arguments
-asked : {A : Type 0} (read : Command → A)
+pub asked_alike : {A : Type 0} (read : Command → A)
     → ((one other : Command) → word_of one ≡ word_of other
     → arguments_of one ≡ arguments_of other → read one ≡ read other)
     → (lines : List (List ℕ)) (one other : List Command) → LinesAskFor lines one
     → LinesAskFor lines other → map read one ≡ map read other
-asked read same [] [] [] a b = refl
-asked read same [] [] (d ∷ other) a b = absurd b
-asked read same [] (c ∷ one) other a b = absurd a
-asked read same ([] ∷ lines) one other a b = asked read same lines one other a b
-asked read same ((x ∷ line) ∷ lines) [] other a b = absurd a
-asked read same ((x ∷ line) ∷ lines) (c ∷ one) [] a b = absurd b
-asked read same ((x ∷ line) ∷ lines) (c ∷ one) (d ∷ other) a b =
+asked_alike read same [] [] [] a b = refl
+asked_alike read same [] [] (d ∷ other) a b = absurd b
+asked_alike read same [] (c ∷ one) other a b = absurd a
+asked_alike read same ([] ∷ lines) one other a b = asked_alike read same lines one other a b
+asked_alike read same ((x ∷ line) ∷ lines) [] other a b = absurd a
+asked_alike read same ((x ∷ line) ∷ lines) (c ∷ one) [] a b = absurd b
+asked_alike read same ((x ∷ line) ∷ lines) (c ∷ one) (d ∷ other) a b =
     let alike = one_command (x ∷ line) c d a.0 b.0 in
     ap (λ y. y ∷ map read one) (same c d alike.0 alike.1)
-    ∙ ap (λ ys. read d ∷ ys) (asked read same lines one other a.1 b.1)
-
-pub asked_words : (lines : List (List ℕ)) (one other : List Command) → LinesAskFor lines one
-    → LinesAskFor lines other → map word_of one ≡ map word_of other
-asked_words = asked word_of (λ c d words args. words)
-
-pub asked_arguments : (lines : List (List ℕ)) (one other : List Command) → LinesAskFor lines one
-    → LinesAskFor lines other → map arguments_of one ≡ map arguments_of other
-asked_arguments = asked arguments_of (λ c d words args. args)
-
--- and so of plain commands
-pub plain_asked : (lines : List (List ℕ)) (one other : List Command) → LinesAskFor lines one
-    → LinesAskFor lines other → map plain one ≡ map plain other
-plain_asked = asked plain one_plain
+    ∙ ap (λ ys. read d ∷ ys) (asked_alike read same lines one other a.1 b.1)

@@ -1,14 +1,13 @@
 -- The lines of an input, and what they ask for, one after the other.
-use Rattle.std.proofs.Common.{◌≡◌, refl, sym, ap, subst, ◌∙◌, ℕ, suc, ◌+◌, ◌*◌, ◌≤◌, List, [], ◌∷◌, ◌++◌, length, append_assoc, All, ◌==◌, false, arith, length-append, Option, Some, None, Bor}
+use Rattle.std.proofs.Common.{◌≡◌, refl, sym, ap, ◌∙◌, ℕ, suc, ◌+◌, ◌*◌, ◌≤◌, List, [], ◌∷◌, ◌++◌, length, append_assoc, All, ◌==◌, false, arith, length-append, Option, Some, Bor}
 use Rattle.std.specs.Str.Iter.{LacksByte}
 use Rattle.std.proofs.lemmas.Bool.{ne_eqb}
-use Rattle.std.proofs.lemmas.List.{append-nil}
 use Rattle.std.proofs.lemmas.List.Elements.{All-nil, All-cons}
 use Rattle.std.proofs.lemmas.List.Splits.{slice_split_none, slice_split_at}
 use Rattle.inlinable_string.specs.declared.run.Command.{Command}
 use Rattle.script_language.specs.Line.{IsFirstCut, IsLine}
 use Rattle.script_language.specs.declared.input.TheConstants.{MOST_BYTES}
-use Rattle.script_language.specs.Script.{LinesAskFor, IsFirstBad, bytes_left, lines_left, lines_of}
+use Rattle.script_language.specs.Script.{LinesAskFor, bytes_left, lines_left, lines_of}
 
 all-lack : (m : ℕ) (bytes : List ℕ) → LacksByte m bytes → All (λ b. (b == m) ≡ false) bytes
 all-lack m [] lacks = All-nil (λ b. (b == m) ≡ false)
@@ -76,10 +75,6 @@ split_on : (lines done : List (List ℕ)) (rest more : Option (Bor (List ℕ))) 
 split_on lines done rest more line split next =
     split ∙ ap (λ r. done ++ lines_left r) next.is ∙ ap (λ l. done ++ l) next.first
 
-size_on : (rest more : Option (Bor (List ℕ))) (line : List ℕ) → IsNextLine rest more line
-    → bytes_left rest ≡ 1 + length line + bytes_left more
-size_on rest more line next = ap bytes_left next.is ∙ omega (arith, next.size)
-
 -- a line that asks for nothing, or for a command, is read
 pub read_line : (lines : List (List ℕ)) (rest more : Option (Bor (List ℕ)))
     (commands commands' : List Command) (number room room' : ℕ) (line : List ℕ)
@@ -87,37 +82,13 @@ pub read_line : (lines : List (List ℕ)) (rest more : Option (Bor (List ℕ)))
     → LinesAskFor (before.done ++ line ∷ []) commands' → 2 * room ≤ 2 * room' + length line
     → IsReadTo lines more commands' (number + 1) room'
 read_line lines rest more commands commands' number room room' line before next asked fits =
-    let size = size_on rest more line next in
+    let size : bytes_left rest ≡ 1 + length next.text.now = ap bytes_left next.is in
     record {
       done = before.done ++ line ∷ [];
       split = split_on lines before.done rest more line before.split next
           ∙ sym (append_assoc before.done (line ∷ []) (lines_left more));
       asked = asked;
       counted = omega (arith, before.counted, length-append before.done (line ∷ []));
-      roomy = omega (arith, before.roomy, size, fits);
-      bounded = omega (arith, before.bounded, size);
+      roomy = omega (arith, before.roomy, size, next.size, fits);
+      bounded = omega (arith, before.bounded, size, next.size);
     }
-
--- a line that asks for nothing and has a byte is the first bad one
-pub first_bad : (lines : List (List ℕ)) (rest more : Option (Bor (List ℕ)))
-    (commands : List Command) (number room : ℕ) (line : List ℕ)
-    → IsReadTo lines rest commands number room → IsNextLine rest more line → ¬ (line ≡ [])
-    → ((command : Command) → ¬ (IsLine line command)) → IsFirstBad lines number
-first_bad lines rest more commands number room line before next bytes rejected = record {
-  before = before.done;
-  line = line;
-  behind = lines_left more;
-  split = split_on lines before.done rest more line before.split next;
-  counted = before.counted;
-  commands = commands;
-  accepted = before.asked;
-  has_bytes = bytes;
-  rejected = rejected;
-}
-
--- once nothing is left, all lines are read
-pub all_read : (lines : List (List ℕ)) (commands : List Command) (number room : ℕ)
-    → IsReadTo lines None commands number room → LinesAskFor lines commands
-all_read lines commands number room before =
-    let whole : lines ≡ before.done = before.split ∙ append-nil before.done in
-    subst (λ l. LinesAskFor l commands) (sym whole) before.asked

@@ -22,38 +22,30 @@ form (bytes bs) = bytes []
 abbrev borrowed : List ℕ → Bor (List ℕ)
 borrowed bs = record { ref_ptr = (0, 0); now = bs }
 
--- what is written of each kind, if anything is
-abbrev number_in : Arguments → ℕ
-number_in (number n) = n
-number_in (number_and_character n c) = n
-number_in (number_and_text n t) = n
-number_in args = 0
-
-abbrev character_in : Arguments → ℕ
-character_in (character c) = c
-character_in (number_and_character n c) = c
-character_in args = 0
-
-abbrev bytes_in : Arguments → Bor (List ℕ)
-bytes_in (text t) = borrowed t
-bytes_in (number_and_text n t) = borrowed t
-bytes_in (bytes bs) = borrowed bs
-bytes_in args = borrowed []
+-- the number, the character and the bytes that are written, if any are
+abbrev parts_in : Arguments → ℕ × ℕ × Bor (List ℕ)
+parts_in nothing = (0, 0, borrowed [])
+parts_in (character c) = (0, c, borrowed [])
+parts_in (text t) = (0, 0, borrowed t)
+parts_in (number n) = (n, 0, borrowed [])
+parts_in (number_and_character n c) = (n, c, borrowed [])
+parts_in (number_and_text n t) = (n, 0, borrowed t)
+parts_in (bytes bs) = (0, 0, borrowed bs)
 
 -- the command of a word and its arguments
 abbrev pub plain_of : List ℕ → Arguments → Command
 plain_of word args =
-    if bytes_eq word (codes "push") then make.Push (character_in args) else
-    if bytes_eq word (codes "push_str") then make.PushStr (bytes_in args) else
-    if bytes_eq word (codes "insert") then make.Insert (number_in args) (character_in args) else
-    if bytes_eq word (codes "insert_str") then make.InsertStr (number_in args) (bytes_in args) else
-    if bytes_eq word (codes "truncate") then make.Truncate (number_in args) else
+    if bytes_eq word (codes "push") then make.Push (parts_in args).1 else
+    if bytes_eq word (codes "push_str") then make.PushStr (parts_in args).2 else
+    if bytes_eq word (codes "insert") then make.Insert (parts_in args).0 (parts_in args).1 else
+    if bytes_eq word (codes "insert_str") then make.InsertStr (parts_in args).0 (parts_in args).2 else
+    if bytes_eq word (codes "truncate") then make.Truncate (parts_in args).0 else
     if bytes_eq word (codes "pop") then make.Pop else
-    if bytes_eq word (codes "remove") then make.Remove (number_in args) else
+    if bytes_eq word (codes "remove") then make.Remove (parts_in args).0 else
     if bytes_eq word (codes "clear") then make.Clear else
-    if bytes_eq word (codes "replace_bytes") then make.ReplaceBytes (bytes_in args) else
-    if bytes_eq word (codes "reserve") then make.Reserve (number_in args) else
-    if bytes_eq word (codes "reserve_exact") then make.ReserveExact (number_in args) else
+    if bytes_eq word (codes "replace_bytes") then make.ReplaceBytes (parts_in args).2 else
+    if bytes_eq word (codes "reserve") then make.Reserve (parts_in args).0 else
+    if bytes_eq word (codes "reserve_exact") then make.ReserveExact (parts_in args).0 else
     make.ShrinkToFit
 
 -- the form that follows a word

@@ -13,7 +13,7 @@ use Rattle.script_language.specs.Output.{printed}
 use Rattle.script_language.specs.Script.{LinesAskFor, IsMade, IsNamed, lines_of}
 use Rattle.script_language.specs.declared.start.Start.{Start}
 use Rattle.script_language.specs.declared.start.Start.TheVariants as start
-use Rattle.script_language.proofs.PlainCommands.{plain, plain_asked, plain_legal}
+use Rattle.script_language.proofs.PlainCommands.{asked_alike, one_plain, plain, plain_legal}
 use Rattle.script_language.proofs.Outputs.{one_start, printed_plain}
 
 -- the text has room for it inline, so that it cannot be refused
@@ -50,7 +50,7 @@ push_prints words input output {begun} {asked} {old} {new} {replies} named asks 
     known lines =
     let cs = Push 97 ∷ [] in
     let made = subst (λ b. IsMade b old) (one_start words begun start.Inline named known) made_so in
-    let same : map plain asked ≡ cs = plain_asked (lines_of input) asked cs asks lines in
+    let same : map plain asked ≡ cs = asked_alike plain one_plain (lines_of input) asked cs asks lines in
     let legal = subst (λ l. LegalReplies old l replies) same
     (plain_legal old asked replies ran.legal) in
     shown

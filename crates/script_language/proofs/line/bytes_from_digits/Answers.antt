@@ -1,7 +1,7 @@
-use Rattle.std.proofs.Common.{rules, ◌≡◌, ◌/◌, ◌<◌, [], ap, get_or, length, subst, sym, ◌∙◌}
+use Rattle.std.proofs.Common.{rules, ◌≡◌, ◌/◌, [], ap, get_or, length, subst, sym, ◌∙◌}
 use Rattle.std.specs.Simd.{first_chunks}
 use Rattle.std.specs.Str.Parse.{AllDigits}
-use Rattle.script_language.proofs.HexTexts.{AreBytesTo, bytes_to_next, hex_text-from_bytes, pair-from_hex_text}
+use Rattle.script_language.proofs.HexTexts.{AreBytesTo, bytes_to_next, hex_text-from_bytes, pair_at}
 use Rattle.script_language.proofs.line.bytes_from_digits.Goals as goal
 
 pub returns-in_err-bytes-clause-none : goal.returns-in_err-bytes-clause-none
@@ -10,10 +10,9 @@ returns-in_err-bytes-clause-none c =
     let n = length digits / 2 in
     let i = c.loop-index.index in
     let pairs : c.as_chunks.result.0.now ≡ first_chunks 2 n digits = search rules in
-    let within = subst (λ l. i < length l) pairs c.loop-index-test.true in
     rw c.from_residual.ensures (λ bytes text.
-    let pair = pair-from_hex_text digits bytes n i within text in
-    c.in_err-bytes.ensures (subst (λ l. AllDigits 16 (get_or l i [])) (sym pairs) pair))
+    c.in_err-bytes.ensures (subst (λ l. AllDigits 16 (get_or l i [])) (sym pairs)
+    (pair_at digits n i text.hexadecimal)))
 
 pub loop-index-preserved : goal.loop-index-preserved
 loop-index-preserved c =
