@@ -1,5 +1,5 @@
 -- Texts of which ASCII alone is changed, byte by byte.
-use Rattle.inlinable_string.proofs.Common.{◌≡◌, ℕ, ◌<◌, ◌≤◌, true, List, [], ◌∷◌, length, map, get_or, suc, refl, sym, ap, ◌∙◌, arith, subst, append-nil, map-append, ⊎_elim, cases_lt, and_parts, encode_utf8, all_scalars, IsUtf8, IsUtf8-append, IsUtf8-encode, IsUtf8-from_ascii, scalars-chars, chars, length-map, bytes_of, size}
+use Rattle.inlinable_string.proofs.Common.{common_steps, ◌≡◌, ℕ, ◌<◌, ◌≤◌, true, List, [], ◌∷◌, length, map, get_or, suc, refl, sym, ap, ◌∙◌, arith, subst, append-nil, map-append, ⊎_elim, cases_lt, and_parts, encode_utf8, all_scalars, IsUtf8, IsUtf8-append, IsUtf8-encode, IsUtf8-from_ascii, scalars-chars, chars, length-map, bytes_of, size}
 use Rattle.std.specs.Char.{to_ascii_lowercase, to_ascii_uppercase}
 use Rattle.std.proofs.lemmas.Str.{IsUtf8-nil, encode_ascii, inside_one}
 use Rattle.std.proofs.lemmas.Str.Ascii.{IsAscii-nil, IsAscii-cons, lowercase_ascii, lowercase_is, uppercase_ascii, uppercase_is}
@@ -27,11 +27,7 @@ module _ (f : ℕ → ℕ) (low : (b : ℕ) → b < 128 → f b < 128)
   kept_char c h = kept (encode_utf8 c) (λ k within. past_ascii c k h within)
 
   char_changed : (c : ℕ) → map f (encode_utf8 c) ≡ encode_utf8 (f c)
-  char_changed c =
-      ⊎_elim
-      (λ h. ap (map f) (encode_ascii c h) ∙ sym (encode_ascii (f c) (low c h)))
-      (λ h. kept_char c h ∙ ap encode_utf8 (sym (high c h)))
-      (cases_lt c 128)
+  char_changed c = grind (arith, common_steps, encode_ascii, kept_char)
 
   utf8_char : (c : ℕ) → IsUtf8 (encode_utf8 c) → IsUtf8 (map f (encode_utf8 c))
   utf8_char c u =
