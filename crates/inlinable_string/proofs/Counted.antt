@@ -37,10 +37,6 @@ Counts begun high low ended u next =
     owed begun low + size (given ((high && not ended) || (low && not begun)) high low u next)
     ≡ unit_len u + mismatch begun low + owed high ended
 
-plain_counts : (begun ended : Bool) (u next : ℕ) → u < 0x1_0000 → is_high_surrogate u ≡ false
-    → is_low_surrogate u ≡ false → Counts begun false false ended u next
-plain_counts begun ended u next f h l = grind (arith, common_steps, size_char u)
-
 high_len : (u : ℕ) → is_high_surrogate u ≡ true → unit_len u ≡ 2
 high_len u h = let r = high_range u h in grind (arith, common_steps)
 
@@ -53,21 +49,14 @@ pair_size u next = grind (arith, common_steps, size_char (surrogate_pair_char u 
 replaced_size : size (0xFFFD ∷ []) ≡ 3
 replaced_size = size_char 0xFFFD
 
-high_counts : (begun ended : Bool) (u next : ℕ) → is_high_surrogate u ≡ true
-    → Counts begun true false ended u next
-high_counts begun ended u next h =
-    grind (arith, common_steps, high_len u h, pair_size u next, replaced_size)
-
-low_counts : (begun ended : Bool) (u next : ℕ) → is_low_surrogate u ≡ true
-    → Counts begun false true ended u next
-low_counts begun ended u next l = grind (arith, common_steps, low_len u l, replaced_size)
-
 counts_by : (begun high low ended : Bool) (u next : ℕ) → u < 0x1_0000
     → is_high_surrogate u ≡ high → is_low_surrogate u ≡ low → Counts begun high low ended u next
 counts_by begun true true ended u next f h l = absurd (clash l (high_is_not_low u h))
-counts_by begun true false ended u next f h l = high_counts begun ended u next h
-counts_by begun false true ended u next f h l = low_counts begun ended u next l
-counts_by begun false false ended u next f h l = plain_counts begun ended u next f h l
+counts_by begun true false ended u next f h l =
+    grind (arith, common_steps, high_len u h, pair_size u next, replaced_size)
+counts_by begun false true ended u next f h l =
+    grind (arith, common_steps, low_len u l, replaced_size)
+counts_by begun false false ended u next f h l = grind (arith, common_steps, size_char u)
 
 module _ (v : List ℕ) (fits : (i : ℕ) → slice_index v i < 0x1_0000) where
   abbrev owed_at : ℕ → ℕ

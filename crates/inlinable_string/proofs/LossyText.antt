@@ -70,12 +70,7 @@ pub run_written : (bs rest made new : List ℕ) (end k : ℕ) → Written bs res
 run_written bs rest made new end k so u within front = record {
   within = within;
   utf8 = subst IsUtf8 (sym front) (IsUtf8-append _ _ so.utf8 u);
-  text = ap (λ f. chars f ++ lossy_utf8 (drop k rest)) front
-      ∙ ap (λ t. t ++ lossy_utf8 (drop k rest))
-      (chars-append (take end made) (take k rest) so.utf8)
-      ∙ append_assoc (chars (take end made)) (chars (take k rest)) (lossy_utf8 (drop k rest))
-      ∙ ap (λ t. chars (take end made) ++ t) (sym (run_read rest k u))
-      ∙ so.text;
+  text = grind (arith, common_steps, chars-append, run_read);
 }
 
 -- a maximal subpart more
