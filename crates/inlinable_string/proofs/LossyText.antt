@@ -80,15 +80,9 @@ pub fault_written : (bs rest made new : List ℕ) (end k : ℕ) → Written bs r
     → Written bs (drop k rest) new (end + 3)
 fault_written bs rest made new end k so none is some within front =
     let u = subst IsUtf8 (sym front) (IsUtf8-append _ _ so.utf8 replacement) in
-    let more = lossy_utf8 (drop k rest) in record {
-      within = within;
-      utf8 = u;
-      text = ap (λ t. t ++ more) (replaced-chars _ _ u so.utf8 front)
-          ∙ append_assoc (chars (take end made)) (0xFFFD ∷ []) more
-          ∙ ap (λ t. chars (take end made) ++ t)
-          (ap (λ n. 0xFFFD ∷ lossy_utf8 (drop n rest)) (sym is) ∙ sym (no_char rest some none))
-          ∙ so.text;
-    }
+    let more = replaced-chars _ _ u so.utf8 front in
+    let fault = no_char rest some none in
+    record { within = within; utf8 = u; text = grind (arith, append_assoc, more, fault) }
 
 -- the most bytes that the text can have: each byte that is not ASCII may be replaced
 abbrev pub most : List ℕ → ℕ

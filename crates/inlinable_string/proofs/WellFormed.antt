@@ -1,5 +1,5 @@
 -- The states of the test for UTF-8, and the ranges of bytes that each has before it.
-use Rattle.inlinable_string.proofs.Common.{common_steps, ◌≡◌, ◌↔◌, inl, ℕ, zero, suc, ◌+◌, ◌*◌, ◌/◌, ◌<◌, ◌≤◌, Bool, true, false, List, [], ◌∷◌, ◌++◌, length, take, drop, refl, ap, sym, ◌∙◌, arith, subst, ⊎_elim, IsAscii, IsUtf8, IsUtf8-append, IsUtf8-encode, encode_utf8, length-append, take_all, length-encode, len_utf8_bounds, nil_from_length, eqb-true, take-append-drop, drop_at, append_assoc, if◌then◌else◌, nat_lt, nat_eq, cases_lt, cases_Bool, cond-true, cond-false, and_parts, nat_tests, lt-ltb, le-ltb, slice_index, following, count_in, char_len}
+use Rattle.inlinable_string.proofs.Common.{common_steps, ◌≡◌, ◌↔◌, inl, ℕ, zero, suc, ◌+◌, ◌*◌, ◌/◌, ◌<◌, ◌≤◌, Bool, true, false, List, [], ◌∷◌, ◌++◌, length, take, drop, refl, ap, sym, ◌∙◌, arith, subst, IsAscii, IsUtf8, IsUtf8-append, IsUtf8-encode, encode_utf8, length-append, take_all, length-encode, len_utf8_bounds, nil_from_length, eqb-true, take-append-drop, drop_at, append_assoc, if◌then◌else◌, nat_lt, nat_eq, and_parts, nat_tests, slice_index, following, count_in, char_len}
 use Rattle.std.specs.Int.{is_in_range}
 use Rattle.std.specs.Prelude.{◌&&◌, ◌^◌, ◌-◌}
 use Rattle.inlinable_string.specs.WellFormed.{Follows, nothing, ranges_of, is_state, state_of, Leads}
@@ -80,35 +80,19 @@ no_front b s above none u =
     let no = rowless (b ∷ s) (omega arith) above (nil_from_length _ none) in
     omega (arith, len, no.0, length-encode f.0, len_utf8_bounds f.0)
 
-positive : (n : ℕ) → nat_eq n 0 ≡ false → 0 < n
-positive n is = grind (arith, nat_tests, is)
+-- by the row of its first byte, as variables
+by_row : (row : List (ℕ × ℕ)) (b : ℕ) (s : List ℕ) → (b < 128 → IsUtf8 s → IsUtf8 (b ∷ s))
+    → (0 < length row → Follows row s → IsUtf8 (b ∷ s))
+    → Follows (if nat_lt b 128 then [] else (if nat_eq (length row) 0 then nothing else row)) s
+    → IsUtf8 (b ∷ s)
+by_row row b s ascii more f = grind (arith, common_steps, none_follows)
 
 -- what begins a text, and what has to follow it
 pub begins : (b : ℕ) (s : List ℕ) → IsUtf8 (b ∷ s) ↔ Follows (next [] b) s
-begins b s =
-    ⊎_elim
-    (λ below.
-    let is : next [] b ≡ [] = cond-true _ _ _ (lt-ltb _ _ below) in
-    let row = none_in b (omega (arith, below)) in (
-      (λ u. subst (λ n. Follows n s) (sym is)
-          (subst (λ n. Follows n s) row (from_utf8 b s u))),
-      (λ f. ascii_front b s below (subst (λ n. Follows n s) is f)),
-    ))
-    (λ above.
-    let big : nat_lt b 128 ≡ false = le-ltb _ _ above in
-    ⊎_elim
-    (λ none.
-    let is : next [] b ≡ nothing = cond-false _ _ _ big ∙ cond-true _ _ _ none in (
-      (λ u. absurd (no_front b s above (eqb-true _ _ none) u)),
-      (λ f. absurd (none_follows s (subst (λ n. Follows n s) is f))),
-    ))
-    (λ some.
-    let is : next [] b ≡ following b = cond-false _ _ _ big ∙ cond-false _ _ _ some in (
-      (λ u. subst (λ n. Follows n s) (sym is) (from_utf8 b s u)),
-      (λ f. char_front b s (positive (length (following b)) some) (subst (λ n. Follows n s) is f)),
-    ))
-    (cases_Bool (nat_eq (length (following b)) 0)))
-    (cases_lt b 128)
+begins b s = (
+  λ u. grind (arith, common_steps, from_utf8 b s u, no_front b s, none_in b),
+  by_row (following b) b s (ascii_front b s) (char_front b s),
+)
 
 -- one byte more
 pub step : (ranges : List (ℕ × ℕ)) (b : ℕ) (s : List ℕ)
@@ -208,15 +192,10 @@ read_to_end bs rest from to (front, is, read) last =
 ascii_leads : (bs : List ℕ) → IsAscii bs → Leads 0 bs 0
 ascii_leads [] is = record { known = refl; rest = λ s. ((λ f. f), (λ f. f)) }
 ascii_leads (b ∷ bs) is =
-    let rest = ascii_leads bs (λ i. is (suc i)) in
-    let none : next [] b ≡ [] = cond-true _ _ _ (lt-ltb _ _ (is 0)) in record {
+    let low : b < 128 = is 0 in
+    let rest = ascii_leads bs (λ i. is (suc i)) in record {
       known = refl;
-      rest = λ s.
-          let both = step [] b (bs ++ s) in (
-            (λ u. (rest.rest s).0 (subst (λ ranges. Follows ranges (bs ++ s)) none (both.0 u))),
-            (λ f. both.1
-                (subst (λ ranges. Follows ranges (bs ++ s)) (sym none) ((rest.rest s).1 f))),
-          );
+      rest = λ s. grind (arith, common_steps, step [] b (bs ++ s), rest.rest s);
     }
 
 pub ascii_block : (bs : List ℕ) (n : ℕ) → n ≡ 0 → IsAscii bs → Leads n bs n
