@@ -1,8 +1,8 @@
 -- Texts of which ASCII alone is changed, byte by byte.
-use Rattle.inlinable_string.proofs.Common.{◌≡◌, ℕ, ◌<◌, ◌≤◌, true, List, [], ◌∷◌, length, map, get_or, suc, refl, sym, ap, ◌∙◌, arith, subst, append-nil, map-append, ⊎_elim, cases_lt, and_parts, encode_utf8, all_scalars, IsUtf8, IsUtf8-append, IsUtf8-encode, IsUtf8-from_ascii, scalars-chars, chars, length-map, bytes_of, size}
+use Rattle.inlinable_string.proofs.Common.{common_steps, ◌≡◌, ℕ, ◌<◌, ◌≤◌, true, List, [], ◌∷◌, length, map, get_or, suc, refl, sym, ap, ◌∙◌, arith, append-nil, map-append, ⊎_elim, cases_lt, encode_utf8, all_scalars, IsUtf8, scalars-chars, chars, length-map, bytes_of, size}
 use Rattle.std.specs.Char.{to_ascii_lowercase, to_ascii_uppercase}
-use Rattle.std.proofs.lemmas.Str.{IsUtf8-nil, encode_ascii, inside_one}
-use Rattle.std.proofs.lemmas.Str.Ascii.{IsAscii-nil, IsAscii-cons, lowercase_ascii, lowercase_is, uppercase_ascii, uppercase_is}
+use Rattle.std.proofs.lemmas.Str.{encode_ascii, inside_one}
+use Rattle.std.proofs.lemmas.Str.Ascii.{lowercase_ascii, lowercase_is, uppercase_ascii, uppercase_is}
 use Rattle.inlinable_string.proofs.Text.{Holds, holds, bytes_are}
 
 -- a character past ASCII has no byte of ASCII
@@ -27,39 +27,23 @@ module _ (f : ℕ → ℕ) (low : (b : ℕ) → b < 128 → f b < 128)
   kept_char c h = kept (encode_utf8 c) (λ k within. past_ascii c k h within)
 
   char_changed : (c : ℕ) → map f (encode_utf8 c) ≡ encode_utf8 (f c)
-  char_changed c =
-      ⊎_elim
-      (λ h. ap (map f) (encode_ascii c h) ∙ sym (encode_ascii (f c) (low c h)))
-      (λ h. kept_char c h ∙ ap encode_utf8 (sym (high c h)))
-      (cases_lt c 128)
-
-  utf8_char : (c : ℕ) → IsUtf8 (encode_utf8 c) → IsUtf8 (map f (encode_utf8 c))
-  utf8_char c u =
-      ⊎_elim
-      (λ h. rw (encode_ascii c h)
-      (IsUtf8-from_ascii (f c ∷ []) (IsAscii-cons (f c) [] (low c h) IsAscii-nil)))
-      (λ h. rw (kept_char c h) u)
-      (cases_lt c 128)
+  char_changed c = grind (arith, common_steps, encode_ascii, kept_char)
 
   bytes_changed : (t : List ℕ) → map f (bytes_of t) ≡ bytes_of (map f t)
   bytes_changed [] = refl
   bytes_changed (c ∷ t) =
       map-append f (encode_utf8 c) (bytes_of t) ∙ rw (char_changed c, bytes_changed t) refl
 
-  utf8_changed : (t : List ℕ) → all_scalars t ≡ true → IsUtf8 (map f (bytes_of t))
-  utf8_changed [] are = IsUtf8-nil
-  utf8_changed (c ∷ t) are =
-      let both = and_parts _ _ are in
-      subst IsUtf8 (sym (map-append f (encode_utf8 c) (bytes_of t)))
-      (IsUtf8-append _ _ (utf8_char c (IsUtf8-encode c both.0))
-      (utf8_changed t both.1))
+  scalars_changed : (t : List ℕ) → all_scalars t ≡ true → all_scalars (map f t) ≡ true
+  scalars_changed [] are = refl
+  scalars_changed (c ∷ t) are = grind (arith, common_steps, low, high, cases_lt, scalars_changed t)
 
   -- the changed bytes are those of the changed characters
   changed : {t w : List ℕ} {l : ℕ} → Holds t w l → Holds (map f t) (map f w) (length (map f w))
   changed {t} h =
       let are : all_scalars t ≡ true = ap all_scalars (sym h.shown) ∙ scalars-chars _ h.utf8 in
-      let same = ap (map f) (bytes_are h) in
-      holds (subst IsUtf8 (sym same) (utf8_changed t are)) (same ∙ bytes_changed t)
+      let same = ap (map f) (bytes_are h) ∙ bytes_changed t in
+      holds (map f t, (scalars_changed t are, sym same)) same
 
   -- the text of changed bytes
   cased : {t w v : List ℕ} {l : ℕ} → Holds t w l → v ≡ map f w

@@ -1,5 +1,5 @@
 -- Equality and order, which go by the bytes.
-use Rattle.inlinable_string.proofs.Common.{on_total, nat_list_cmp_total, ◌≡◌, ◌↔◌, ℕ, List, true, IsTrue, refl, sym, ap, ◌∙◌, nat_eq, all_scalars, pointwise, slice_cmp, texts_ties, bytes_decides, bytes_of}
+use Rattle.inlinable_string.proofs.Common.{common_steps, arith, on_total, nat_list_cmp_total, ◌≡◌, ◌↔◌, ℕ, List, true, IsTrue, refl, sym, ap, ◌∙◌, nat_eq, all_scalars, pointwise, slice_cmp, texts_ties, bytes_decides, bytes_of}
 use Rattle.std.specs.Ordering.{is_eq, nat_cmp}
 use Rattle.std.specs.declared.cmp.Ordering.{Ordering}
 use Rattle.std.specs.declared.cmp.Ordering.TheVariants.{Less, Equal, Greater}
@@ -8,10 +8,7 @@ use Rattle.inlinable_string.proofs.Text.{same_bytes}
 -- texts whose bytes are equal have the same characters
 pub same_characters : (t u : List ℕ) → all_scalars t ≡ true
     → IsTrue (pointwise nat_eq (bytes_of t) (bytes_of u)) ↔ (t ≡ u)
-same_characters t u are = (
-  λ yes. same_bytes t u are ((bytes_decides (bytes_of t) (bytes_of u)).0 yes),
-  λ same. (bytes_decides (bytes_of t) (bytes_of u)).1 (ap bytes_of same),
-)
+same_characters t u are = grind (arith, common_steps, bytes_decides, same_bytes)
 
 equal_from_test : (r : Ordering) → is_eq r ≡ true → r ≡ Equal
 equal_from_test Less h = cc

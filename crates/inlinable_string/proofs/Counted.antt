@@ -1,5 +1,5 @@
 -- The length of the text of UTF-16, and whether a unit is unpaired, counted unit by unit.
-use Rattle.inlinable_string.proofs.Common.{common_steps, ◌≡◌, ℕ, zero, suc, ◌+◌, ◌-◌, ◌<◌, ◌≤◌, Bool, true, false, not, ◌&&◌, ◌||◌, ◌↔◌, List, [], ◌∷◌, length, refl, ap, sym, ◌∙◌, arith, add-one, ⊎_elim, cases_Bool, cases_lt, subst, if◌then◌else◌, slice_index, get_or_past, len_utf8, length-encode, size, is_high_at, is_low_at, is_high_before, HasUnpaired, lossy_unit, lossy_utf16_before, lossy_utf16}
+use Rattle.inlinable_string.proofs.Common.{rules, common_steps, ◌≡◌, ℕ, zero, suc, ◌+◌, ◌-◌, ◌<◌, ◌≤◌, Bool, true, false, not, ◌&&◌, ◌||◌, ◌↔◌, List, [], ◌∷◌, length, refl, ap, sym, ◌∙◌, arith, add-one, ⊎_elim, cases_Bool, cases_lt, subst, if◌then◌else◌, slice_index, get_or_past, len_utf8, length-encode, size, is_high_at, is_low_at, is_high_before, HasUnpaired, lossy_unit, lossy_utf16_before, lossy_utf16}
 use Rattle.std.specs.Char.Utf16.{is_high_surrogate, is_low_surrogate, surrogate_pair_char}
 use mir.Val.{bool_byte}
 use Rattle.inlinable_string.specs.Utf16Count.{unit_len, mismatch, len_before, mismatches_before}
@@ -37,10 +37,6 @@ Counts begun high low ended u next =
     owed begun low + size (given ((high && not ended) || (low && not begun)) high low u next)
     ≡ unit_len u + mismatch begun low + owed high ended
 
-plain_counts : (begun ended : Bool) (u next : ℕ) → u < 0x1_0000 → is_high_surrogate u ≡ false
-    → is_low_surrogate u ≡ false → Counts begun false false ended u next
-plain_counts begun ended u next f h l = grind (arith, common_steps, size_char u)
-
 high_len : (u : ℕ) → is_high_surrogate u ≡ true → unit_len u ≡ 2
 high_len u h = let r = high_range u h in grind (arith, common_steps)
 
@@ -53,21 +49,14 @@ pair_size u next = grind (arith, common_steps, size_char (surrogate_pair_char u 
 replaced_size : size (0xFFFD ∷ []) ≡ 3
 replaced_size = size_char 0xFFFD
 
-high_counts : (begun ended : Bool) (u next : ℕ) → is_high_surrogate u ≡ true
-    → Counts begun true false ended u next
-high_counts begun ended u next h =
-    grind (arith, common_steps, high_len u h, pair_size u next, replaced_size)
-
-low_counts : (begun ended : Bool) (u next : ℕ) → is_low_surrogate u ≡ true
-    → Counts begun false true ended u next
-low_counts begun ended u next l = grind (arith, common_steps, low_len u l, replaced_size)
-
 counts_by : (begun high low ended : Bool) (u next : ℕ) → u < 0x1_0000
     → is_high_surrogate u ≡ high → is_low_surrogate u ≡ low → Counts begun high low ended u next
 counts_by begun true true ended u next f h l = absurd (clash l (high_is_not_low u h))
-counts_by begun true false ended u next f h l = high_counts begun ended u next h
-counts_by begun false true ended u next f h l = low_counts begun ended u next l
-counts_by begun false false ended u next f h l = plain_counts begun ended u next f h l
+counts_by begun true false ended u next f h l =
+    grind (arith, common_steps, high_len u h, pair_size u next, replaced_size)
+counts_by begun false true ended u next f h l =
+    grind (arith, common_steps, low_len u l, replaced_size)
+counts_by begun false false ended u next f h l = grind (arith, common_steps, size_char u)
 
 module _ (v : List ℕ) (fits : (i : ℕ) → slice_index v i < 0x1_0000) where
   abbrev owed_at : ℕ → ℕ
@@ -76,27 +65,17 @@ module _ (v : List ℕ) (fits : (i : ℕ) → slice_index v i < 0x1_0000) where
   one_counts : (n : ℕ) → owed_at n + size (lossy_unit v n)
       ≡ unit_len (slice_index v n) + mismatch (is_high_before v n) (is_low_at v n)
       + owed_at (suc n)
-  one_counts n =
-      counts_by (is_high_before v n) (is_high_at v n) (is_low_at v n) (is_low_at v (n + 1))
-      (slice_index v n) (slice_index v (n + 1)) (fits n) refl refl
-      ∙ ap (λ k. unit_len (slice_index v n) + mismatch (is_high_before v n) (is_low_at v n)
-      + owed (is_high_at v n) (is_low_at v k)) (add-one n)
+  one_counts n = search (rules, add-one, counts_by)
 
   counts : (n : ℕ) → size (lossy_utf16_before v n)
       ≡ len_before v n + mismatches_before v n + owed_at n
   counts zero = refl
-  counts (suc n) =
-      let more = size-append (lossy_utf16_before v n) (lossy_unit v n) in
-      omega (arith, more, counts n, one_counts n)
+  counts (suc n) = grind (arith, common_steps, one_counts, size-append, counts n)
 
   -- at the end a pair that is begun is not ended
   pub counted : (n : ℕ) → n ≡ length v → size (lossy_utf16 v)
       ≡ len_before v n + mismatches_before v n + (if is_high_before v n then 1 else 0)
-  counted n e =
-      let past : is_low_at v n ≡ false =
-      ap is_low_surrogate (get_or_past v n 0 (omega arith)) in
-      ap (λ k. size (lossy_utf16_before v k)) (sym e) ∙ counts n
-      ∙ ap (λ b. len_before v n + mismatches_before v n + owed (is_high_before v n) b) past
+  counted n e = grind (arith, common_steps, counts, get_or_past)
 
 -- a unit that does not match the one before it, or that one, is unpaired
 begun_alone : (v : List ℕ) (n : ℕ) → is_high_before v n ≡ true → is_low_at v n ≡ false
@@ -176,12 +155,7 @@ last_counts v m n b e h some = e ∙ ap bool_byte (h ∙ sym (last_before v n so
 module _ (v : List ℕ) (n m : ℕ) (e : n ≡ length v)
     (all : m ≡ mismatches_before v n + (if is_high_before v n then 1 else 0)) where
   found : 0 < m → HasUnpaired v
-  found some =
-      ⊎_elim
-      (λ (h : is_high_before v n ≡ true). last_unpaired v n e h)
-      (λ (h : is_high_before v n ≡ false).
-      let none = rw h at all in mismatch_unpaired v n (omega (arith, none)))
-      (cases_Bool (is_high_before v n))
+  found some = search (rules, cases_Bool, last_unpaired, mismatch_unpaired)
 
   counted_one : HasUnpaired v → 0 < m
   counted_one some = grind (arith, common_steps, matched_paired v n e)

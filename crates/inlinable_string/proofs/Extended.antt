@@ -41,29 +41,13 @@ pub grown_more : (old mid new : TextState) (u v w : List ℕ) (k : ℕ) → Grow
     → w ≡ u ++ v → k ≡ size v → new.text ≡ mid.text ++ v
     → new.storage ≡ storage_with_room mid k → mid.capacity ≤ new.capacity
     → new.policy ≡ mid.policy → Grown old w new
-grown_more old mid new u v w k g whole counted text storage room policy = record {
-  extended = record {
-    text = text ∙ ap (λ t. t ++ v) g.extended.text ∙ append_assoc old.text u v
-        ∙ ap (λ t. old.text ++ t) (sym whole);
-    storage = storage
-        ∙ storage_of_two old mid (size u) k g.policy (size_extended old mid u g.extended)
-        g.extended.storage
-        ∙ ap (storage_with_room old) sized;
-  };
-  room = omega (arith, g.room, room);
-  policy = policy ∙ g.policy;
-}
-  where
-    sized : size u + k ≡ size w
-    sized = omega (arith, size-append u v, ap size whole, counted)
+grown_more old mid new u v w k g whole counted text storage room policy =
+    grind (arith, common_steps, append_assoc, size-append, size_extended, storage_of_two)
 
 -- a refusal leaves what had been added
 pub left_extended : (old mid new : TextState) (u : List ℕ) → Grown old u mid → IsSameText mid new
     → IsExtended old u new
-left_extended old mid new u g same = record {
-  text = same.text ∙ g.extended.text;
-  storage = same.storage ∙ g.extended.storage;
-}
+left_extended old mid new u g same = grind (arith, common_steps)
 
 -- what was refused had no room
 above_room : (old mid : TextState) (u v w : List ℕ) (k : ℕ) → Grown old u mid → w ≡ u ++ v

@@ -1,5 +1,5 @@
 -- The lossy reading of UTF-8 written as bytes: how far it is written, and the room that it takes.
-use Rattle.inlinable_string.proofs.Common.{common_steps, ◌≡◌, ℕ, zero, suc, ◌+◌, ◌-◌, ◌<◌, ◌≤◌, nat_eq, nat_lt, List, [], ◌∷◌, ◌++◌, true, false, length, take, drop, refl, ap, sym, ◌∙◌, arith, subst, ⊎_elim, append_assoc, append-nil, take-append-drop, if◌then◌else◌, cases_Bool, cases_lt, cond-true, cond-false, nat_tests, eqb-true, chars, chars-nil, chars-append, IsUtf8, IsUtf8-append, size, char_len, subpart_len, lossy_utf8_past, lossy_utf8}
+use Rattle.inlinable_string.proofs.Common.{common_steps, ◌≡◌, ℕ, zero, suc, ◌+◌, ◌-◌, ◌<◌, ◌≤◌, nat_eq, nat_lt, List, [], ◌∷◌, ◌++◌, true, false, length, take, drop, refl, ap, sym, ◌∙◌, arith, subst, ⊎_elim, append_assoc, append-nil, take-append-drop, if◌then◌else◌, cases_Bool, cases_lt, cond-true, nat_tests, eqb-true, chars, chars-nil, chars-append, IsUtf8, IsUtf8-append, size, char_len, subpart_len, lossy_utf8_past, lossy_utf8}
 use Rattle.std.proofs.lemmas.Str.{IsUtf8-nil}
 use Rattle.inlinable_string.proofs.Text.{size-append, size-chars}
 use Rattle.inlinable_string.proofs.Subparts.{one_more, lossy_valid, no_char, replaced-chars}
@@ -34,11 +34,7 @@ pub record Written (bs rest made : List ℕ) (end : ℕ) : Type 0 where
 
 -- nothing is written
 pub at_start : (bs made : List ℕ) → Written bs bs made 0
-at_start bs made = record {
-  within = omega arith;
-  utf8 = IsUtf8-nil;
-  text = ap (λ t. t ++ lossy_utf8 bs) chars-nil;
-}
+at_start bs made = grind (arith, common_steps, chars-nil)
 
 -- all is
 pub at_end : (bs rest made : List ℕ) (end : ℕ) → Written bs rest made end → length rest ≤ 0
@@ -74,12 +70,7 @@ pub run_written : (bs rest made new : List ℕ) (end k : ℕ) → Written bs res
 run_written bs rest made new end k so u within front = record {
   within = within;
   utf8 = subst IsUtf8 (sym front) (IsUtf8-append _ _ so.utf8 u);
-  text = ap (λ f. chars f ++ lossy_utf8 (drop k rest)) front
-      ∙ ap (λ t. t ++ lossy_utf8 (drop k rest))
-      (chars-append (take end made) (take k rest) so.utf8)
-      ∙ append_assoc (chars (take end made)) (chars (take k rest)) (lossy_utf8 (drop k rest))
-      ∙ ap (λ t. chars (take end made) ++ t) (sym (run_read rest k u))
-      ∙ so.text;
+  text = grind (arith, common_steps, chars-append, run_read);
 }
 
 -- a maximal subpart more
@@ -89,15 +80,9 @@ pub fault_written : (bs rest made new : List ℕ) (end k : ℕ) → Written bs r
     → Written bs (drop k rest) new (end + 3)
 fault_written bs rest made new end k so none is some within front =
     let u = subst IsUtf8 (sym front) (IsUtf8-append _ _ so.utf8 replacement) in
-    let more = lossy_utf8 (drop k rest) in record {
-      within = within;
-      utf8 = u;
-      text = ap (λ t. t ++ more) (replaced-chars _ _ u so.utf8 front)
-          ∙ append_assoc (chars (take end made)) (0xFFFD ∷ []) more
-          ∙ ap (λ t. chars (take end made) ++ t)
-          (ap (λ n. 0xFFFD ∷ lossy_utf8 (drop n rest)) (sym is) ∙ sym (no_char rest some none))
-          ∙ so.text;
-    }
+    let more = replaced-chars _ _ u so.utf8 front in
+    let fault = no_char rest some none in
+    record { within = within; utf8 = u; text = grind (arith, append_assoc, more, fault) }
 
 -- the most bytes that the text can have: each byte that is not ASCII may be replaced
 abbrev pub most : List ℕ → ℕ
@@ -134,22 +119,7 @@ char_within : (b : ℕ) (bs : List ℕ) → nat_eq (char_len (b ∷ bs)) 0 ≡ f
     → size (lossy_utf8_past (char_len (b ∷ bs) - 1) bs) ≤ most (drop (char_len (b ∷ bs) - 1) bs)
     → size (lossy_utf8 (b ∷ bs)) ≤ most (b ∷ bs)
 char_within b bs some past =
-    let k = char_len (b ∷ bs) in
-    let is : lossy_utf8 (b ∷ bs) ≡ chars (take k (b ∷ bs)) ++ lossy_utf8_past (k - 1) bs =
-    cond-false _ _ _ some in
-    let one : 0 < k = grind (arith, nat_tests, some) in
-    let front : take k (b ∷ bs) ≡ b ∷ take (k - 1) bs =
-    ap (λ n. take n (b ∷ bs)) (the_suc k one) in
-    omega (
-      arith,
-      ap size is,
-      size-append (chars (take k (b ∷ bs))) (lossy_utf8_past (k - 1) bs),
-      size-chars (take k (b ∷ bs)) (char_front (b ∷ bs) k refl one),
-      ap length front,
-      past,
-      most_front (k - 1) bs,
-      at_least b bs,
-    )
+    grind (arith, common_steps, at_least, char_front, most_front, size-append, size-chars, the_suc)
 
 past_most : (n : ℕ) (bs : List ℕ) → size (lossy_utf8_past n bs) ≤ most (drop n bs)
 past_most n [] = omega arith

@@ -25,19 +25,7 @@ nested (x ∷ a) b (y ∷ c) d e le =
 -- what stands between two cuts replaced
 replaced_between : {t u v a b c d : List ℕ} {p q : ℕ} → IsCut t p a b → IsCut t q c d → p ≤ q
     → v ≡ a ++ u ++ d → IsRangeReplaced t p q u v
-replaced_between {a = a} {b} {c} {d} x y order e =
-    let m = nested a b c d (sym x.joined ∙ y.joined) (omega (arith, order, x.before, y.before)) in
-    record {
-      front = a;
-      middle = m.0;
-      back = d;
-      before = record { joined = x.joined ∙ ap (λ l. a ++ l) m.2; before = x.before };
-      after = record {
-        joined = y.joined ∙ ap (λ l. l ++ d) m.1;
-        before = sym (ap size m.1) ∙ y.before;
-      };
-      joined = e;
-    }
+replaced_between {a = a} {b} {c} {d} x y order e = grind (arith, common_steps, nested)
 
 -- bytes of a text taken out between two places, and others put in there
 pub cut_then_put : {t w v : List ℕ} {l p : ℕ} (s : List ℕ) (q : ℕ) → Holds t w l → IsPlace t p
@@ -72,25 +60,11 @@ module _ {t w u s v : List ℕ} {l m p q : ℕ} (h : Holds t w l) (a : Holds u s
 -- a replaced range is one of the bytes
 pub bytes-replaced : {t u v : List ℕ} {p q : ℕ} → IsRangeReplaced t p q u v
     → bytes_of v ≡ replace_range (bytes_of t) p q (bytes_of u)
-bytes-replaced {u = u} r =
-    ap bytes_of r.joined ∙ encodes-append (r.front ++ u) r.back
-    ∙ rw (encodes-append r.front u, front_bytes r.before, back_bytes r.after) refl
+bytes-replaced {u = u} r = grind (arith, common_steps, back_bytes, encodes-append, front_bytes)
 
 -- of an empty range, and of the whole text
 pub splice_from_range : {t u v : List ℕ} {p : ℕ} → IsRangeReplaced t p p u v → IsSplice t p u v
-splice_from_range r =
-    let sum = size-append r.front r.middle in
-    let none : r.middle ≡ [] =
-    nil_from_size r.middle (omega (arith, sum, r.before.before, r.after.before)) in
-    record {
-      front = r.front;
-      back = r.back;
-      cut = record {
-        joined = r.before.joined ∙ ap (λ m. r.front ++ (m ++ r.back)) none;
-        before = r.before.before;
-      };
-      joined = r.joined;
-    }
+splice_from_range r = grind (arith, common_steps, nil_from_size, size-append)
 
 pub range_from_splice : {t u v : List ℕ} {p : ℕ} → IsSplice t p u v → IsRangeReplaced t p p u v
 range_from_splice s = replaced_between s.cut s.cut (omega arith) s.joined

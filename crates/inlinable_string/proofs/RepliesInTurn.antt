@@ -1,5 +1,5 @@
 -- A run, read one reply at a time, and many runs, read one text at a time.
-use Rattle.inlinable_string.proofs.Common.{common_steps, ◌≡◌, ℕ, zero, suc, ◌+◌, ◌*◌, ◌<◌, List, [], ◌∷◌, length, take, drop, refl, ap, ◌∙◌, arith, subst, Some, slice_get, rules, drop-drop, TextState, IsLegal, LegalReplies, IsRun, EachRun, state_after, state_after_step, Command, Reply}
+use Rattle.inlinable_string.proofs.Common.{common_steps, ◌≡◌, ℕ, zero, suc, ◌+◌, ◌*◌, ◌<◌, List, [], ◌∷◌, length, take, drop, refl, ap, arith, Some, slice_get, rules, TextState, IsLegal, LegalReplies, IsRun, EachRun, state_after, state_after_step, Command, Reply}
 
 -- legal replies have the length of the commands
 pub as_many_replies : (s : TextState) (commands : List Command) (replies : List Reply)
@@ -29,11 +29,8 @@ run_at [] news commands replies i old new h a b = cc
 run_at (x ∷ olds) [] commands replies i old new h a b = absurd h
 run_at (x ∷ olds) (y ∷ news) commands replies zero old new h a b = grind (arith, common_steps)
 run_at (x ∷ olds) (y ∷ news) commands replies (suc i) old new h a b =
-    let n = length commands in
-    let further : drop (i * n) (drop n replies) ≡ drop (suc i * n) replies =
-    drop-drop (i * n) n replies ∙ ap (λ k. drop k replies) (grind arith) in
-    subst (λ rs. IsRun old commands (take n rs) new) further
-    (run_at olds news commands (drop n replies) i old new h.1 a b)
+    let later = run_at olds news commands (drop (length commands) replies) i old new h.1 a b in
+    grind (arith, common_steps, later)
 
 -- what is read of a front, and of a rest
 taken_at : (replies : List Reply) (n j : ℕ) → j < n

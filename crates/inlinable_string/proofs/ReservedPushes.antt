@@ -1,5 +1,5 @@
 -- Pushes within room that was reserved: no memory can be refused to them.
-use Rattle.inlinable_string.proofs.Common.{◌≡◌, ℕ, ◌+◌, ◌-◌, ◌≤◌, inr, List, [], ◌∷◌, length, refl, sym, ap, ◌∙◌, arith, subst, Contains, ◌++◌, rules, size, TextState, edit, reply_of, at_end, need_of, credit, credit_when_met, credit_after_step, state_after_step, IsMet, LegalReplies, state_after, PushesWithin, Command, Push, PushStr, Reply, Done, NoMemory}
+use Rattle.inlinable_string.proofs.Common.{common_steps, ◌≡◌, ℕ, ◌+◌, ◌-◌, ◌≤◌, inr, List, [], ◌∷◌, length, refl, sym, ap, ◌∙◌, arith, subst, Contains, ◌++◌, rules, size, TextState, edit, reply_of, at_end, need_of, credit, credit_when_met, credit_after_step, state_after_step, IsMet, LegalReplies, state_after, PushesWithin, Command, Push, PushStr, Reply, Done, NoMemory}
 use Rattle.inlinable_string.proofs.RunsJoined.{legal_parted}
 use Rattle.inlinable_string.proofs.FreeCommands.{granted, not_refused, absent, absent_nil}
 
@@ -40,9 +40,7 @@ module _ (k : ℕ) (reserve : Command)
   pub pushes_behind : (s : TextState) (commands : List Command) (replies : List Reply)
       → PushesWithin k commands
       → LegalReplies s (reserve ∷ commands) (Done ∷ replies) → ¬ Contains replies NoMemory
-  pushes_behind s commands replies within legal =
-      pushes_within_credit (state_after_step s reserve Done) k commands replies within (leaves s)
-      legal.1
+  pushes_behind s commands replies within legal = grind (arith, common_steps, pushes_within_credit)
 
   pub pushes_between : (s : TextState) (before added behind : List Command)
       (first replies last : List Reply) → PushesWithin k added

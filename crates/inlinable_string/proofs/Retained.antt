@@ -1,7 +1,7 @@
 -- A loop that moves the characters it keeps to the front.
 use Rattle.inlinable_string.proofs.Common.{common_steps, ◌≡◌, ℕ, ◌+◌, ◌≤◌, Bool, true, false, List, [], ◌∷◌, ◌++◌, length, take, drop, refl, sym, ap, ◌∙◌, arith, append-nil, append_assoc, drop-drop, length-drop, take_at, encode_utf8, chars, chars_from_encodes, chars-append, chars-nil, IsUtf8, IsUtf8-append, IsUtf8-encode, all_scalars, and_parts, scalars-chars, length-append, bytes_of, size}
 use Rattle.std.proofs.lemmas.List.{drop_all}
-use Rattle.std.proofs.lemmas.Str.{IsUtf8-nil, IsUtf8-past_char, chars_past_char}
+use Rattle.std.proofs.lemmas.Str.{IsUtf8-past_char, chars_past_char}
 use Rattle.std.specs.Fn.{Mut}
 use Rattle.std.specs.List.{items_where_true}
 use Rattle.std.specs.List.Retain.{IsFiltered}
@@ -33,13 +33,7 @@ module _ {F : Type 0} (R : F → ℕ → Bool → F → Type 0) where
 
   pub none_read : (f : F) (cells : List ℕ) → IsUtf8 cells
       → RetainsSoFar f (chars cells) f cells 0 0
-  none_read f cells u = record {
-    order = omega arith;
-    within = omega arith;
-    front = IsUtf8-nil;
-    rest = u;
-    onward = λ v h. rw chars-nil h;
-  }
+  none_read f cells u = grind (arith, common_steps, chars-nil)
 
   -- one call more
   pub kept_first : (f g : F) (c : ℕ) (t v : List ℕ) → R f c true g → IsFiltered R g t v
@@ -127,8 +121,4 @@ module _ {F : Type 0} (R : F → ℕ → Bool → F → Type 0) where
 pub retained-chars : {F : Type 0} (g : Mut F (ℕ × Unit {0}) Bool) (f : F) {old new : List ℕ}
     → IsUtf8 old → IsUtf8 new → RetainsChars g f old new
     → IsRetained g f (chars old) (chars new)
-retained-chars g f {old} {new} u v r =
-    rw (
-      ← chars_from_encodes r.all old u r.spell,
-      ← chars_from_encodes r.kept new v (sym r.stay),
-    ) r.chosen
+retained-chars g f {old} {new} u v r = grind (arith, common_steps, chars_from_encodes)

@@ -1,5 +1,5 @@
 -- A run grows by one command at its end.
-use Rattle.inlinable_string.proofs.Common.{◌≡◌, ℕ, ◌+◌, ◌<◌, ◌≤◌, List, [], ◌∷◌, ◌++◌, length, take, refl, sym, ◌∙◌, arith, subst, get_or, set, rules, take_more, take_more_set, length-take-le, take_all, size, TextState, IsLawful, text_after, state_after, state_after_step, IsLegal, LegalReplies, IsRun, Covers, IsStep, Command, Reply}
+use Rattle.inlinable_string.proofs.Common.{common_steps, ◌≡◌, ℕ, ◌+◌, ◌<◌, ◌≤◌, List, [], ◌∷◌, ◌++◌, length, take, refl, arith, get_or, set, rules, take_more, take_more_set, take_all, size, TextState, IsLawful, text_after, state_after, state_after_step, LegalReplies, IsRun, Covers, IsStep, Command, Reply}
 use Rattle.inlinable_string.proofs.RunsJoined.{state_joined, legal_joined}
 
 -- the commands so far
@@ -40,21 +40,12 @@ so_far_more old mid new cs rs i d r long lt laws ran step =
     let front : take (i + 1) cs ≡ take i cs ++ c ∷ [] = take_more cs i d lt in
     let back : take (i + 1) (set rs i r) ≡ take i rs ++ r ∷ [] =
     take_more_set rs i r (omega (arith, long, lt)) in
-    let same : length (take i cs) ≡ length (take i rs) =
-    length-take-le i cs (omega (arith, lt)) ∙ sym (length-take-le i rs (omega (arith, lt, long))) in
     let within : size mid.text ≤ s.capacity =
     rw (ran.next.text) (fits_in old (take i cs) (take i rs) laws.within) in
     let is : record mid { capacity = s.capacity } ≡ s = covered s mid ran.next in
-    let legal : IsLegal s c r =
-    subst (λ (x : TextState). IsLegal x c r) is (step.legal s.capacity within ran.next.room) in
-    let next : Covers (state_after_step s c r) new =
-    subst (λ (x : TextState). Covers (state_after_step x c r) new) is
-    (step.next s.capacity within ran.next.room) in
-    rw (front, back) (record {
-      legal =
-          legal_joined old (take i cs) (c ∷ []) (take i rs) (r ∷ []) ran.legal (legal, tt);
-      next = rw (state_joined old (take i cs) (c ∷ []) (take i rs) (r ∷ []) same) next;
-    })
+    let legal = step.legal s.capacity within ran.next.room in
+    let next = step.next s.capacity within ran.next.room in
+    grind (arith, common_steps, legal_joined, state_joined)
 
 -- the end of a run
 pub run_whole : (old new : TextState) (cs : List Command) (rs : List Reply) (i : ℕ)

@@ -1,5 +1,5 @@
 -- Two runs, the second from the state that the first left.
-use Rattle.inlinable_string.proofs.Common.{◌≡◌, ℕ, List, [], ◌∷◌, ◌++◌, length, refl, arith, rules, TextState, text_after, text_after_step, LegalReplies, state_after, state_after_step, storage_after, credit_after, Command, Reply}
+use Rattle.inlinable_string.proofs.Common.{common_steps, ◌≡◌, ℕ, List, [], ◌∷◌, ◌++◌, length, refl, arith, TextState, text_after, text_after_step, LegalReplies, state_after, state_after_step, Command, Reply}
 
 -- the text after both
 pub text_joined : (t : List ℕ) (first second : List Command) (replies others : List Reply)
@@ -21,19 +21,6 @@ state_joined s (c ∷ first) second (r ∷ replies) others h =
     state_joined (state_after_step s c r) first second replies others (omega (arith, h))
 state_joined s first second replies others h = absurd (omega (arith, h))
 
--- and so its storage and its credit
-pub storage_joined : (s : TextState) (first second : List Command) (replies others : List Reply)
-    → length first ≡ length replies
-    → storage_after s (first ++ second) (replies ++ others)
-    ≡ storage_after (state_after s first replies) second others
-storage_joined s first second replies others h = search (rules, state_joined)
-
-pub credit_joined : (s : TextState) (first second : List Command) (replies others : List Reply)
-    → length first ≡ length replies
-    → credit_after s (first ++ second) (replies ++ others)
-    ≡ credit_after (state_after s first replies) second others
-credit_joined s first second replies others h = search (rules, state_joined)
-
 -- the replies of both are legal where those of each are
 pub legal_joined : (s : TextState) (first second : List Command) (replies others : List Reply)
     → LegalReplies s first replies → LegalReplies (state_after s first replies) second others
@@ -50,9 +37,7 @@ pub legal_parted : (s : TextState) (first second : List Command) (replies others
     → LegalReplies s first replies × LegalReplies (state_after s first replies) second others
 legal_parted s [] second [] others h k = (tt, k)
 legal_parted s (c ∷ first) second (r ∷ replies) others h k =
-    let rest =
-    legal_parted (state_after_step s c r) first second replies others (omega (arith, h)) k.1 in
-    ((k.0, rest.0), rest.1)
+    grind (arith, common_steps, legal_parted (state_after_step s c r) first second replies others)
 legal_parted s first second replies others h k = absurd (omega (arith, h))
 
-pub ruleset joined = (text_joined, storage_joined, credit_joined, legal_joined, legal_parted)
+pub ruleset joined = (text_joined, state_joined, legal_joined, legal_parted)

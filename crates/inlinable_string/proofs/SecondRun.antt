@@ -1,8 +1,8 @@
 -- One run after another of one value. The value may have more credit than is certain.
-use Rattle.inlinable_string.proofs.Common.{common_steps, ◌≡◌, ◌≤◌, List, [], ◌∷◌, ◌++◌, length, sym, ap, ◌∙◌, arith, TextState, text_after, credit, credit_after, state_after, state_after_step, IsLegal, LegalReplies, IsRun, Command, Reply}
+use Rattle.inlinable_string.proofs.Common.{common_steps, ◌≡◌, ◌≤◌, List, [], ◌∷◌, ◌++◌, arith, TextState, credit, credit_after, state_after, state_after_step, IsLegal, LegalReplies, IsRun, Command, Reply}
 use Rattle.inlinable_string.proofs.Runs.{text_of, policy_of}
 use Rattle.inlinable_string.proofs.RepliesInTurn.{as_many_replies}
-use Rattle.inlinable_string.proofs.RunsJoined.{text_joined, storage_joined, credit_joined, legal_joined}
+use Rattle.inlinable_string.proofs.RunsJoined.{joined}
 use Rattle.inlinable_string.proofs.RefusalsDecide.{same_storage}
 
 -- the same text in the same place, with at least the credit
@@ -42,12 +42,9 @@ all_legal_poorer s v commands replies h legal = absurd legal
 -- what a run leaves is what its replies determine, with at least that credit
 run_richer : (old new : TextState) (commands : List Command) (replies : List Reply)
     → IsRun old commands replies new → IsRicher (state_after old commands replies) new
-run_richer old new commands replies run = record {
-  text = text_of old commands replies ∙ sym run.text;
-  storage = sym run.storage;
-  policy = policy_of old commands replies ∙ sym run.policy;
-  credit = omega (arith, run.credit);
-}
+run_richer old new commands replies run = grind (arith, common_steps, policy_of, text_of)
+
+ruleset richer = (all_legal_poorer, credit_richer, run_richer)
 
 -- one run after another of one value is a run of both
 pub runs_follow : (old mid new : TextState) (first second : List Command)
@@ -55,26 +52,4 @@ pub runs_follow : (old mid new : TextState) (first second : List Command)
     → IsRun old first replies mid → IsRun mid second others new
     → IsRun old (first ++ second) (replies ++ others) new
 runs_follow old mid new first second replies others a b =
-    let s : TextState = state_after old first replies in
-    let same : length first ≡ length replies = sym (as_many_replies old first replies a.legal) in
-    let richer : IsRicher s mid = run_richer old mid first replies a in
-    let storage = same_storage s mid second others richer.text richer.storage richer.policy in
-    record {
-      text =
-          b.text ∙ ap (λ t. text_after t second others) a.text
-          ∙ sym (text_joined old.text first second replies others same);
-      storage =
-          b.storage ∙ sym storage
-          ∙ sym (storage_joined old first second replies others same);
-      legal =
-          legal_joined old first second replies others a.legal
-          (all_legal_poorer s mid second others richer b.legal);
-      credit =
-          omega (
-            arith,
-            b.credit,
-            credit_richer s mid second others richer,
-            credit_joined old first second replies others same,
-          );
-      policy = b.policy ∙ a.policy;
-    }
+    grind (arith, common_steps, richer, joined, as_many_replies, same_storage)

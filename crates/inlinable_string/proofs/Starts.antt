@@ -1,5 +1,5 @@
 -- What bytes begin with, by the row of the table of well-formed UTF-8 for the first of them.
-use Rattle.inlinable_string.proofs.Common.{common_steps, ◌≡◌, inl, ℕ, suc, ◌+◌, ◌-◌, ◌<◌, ◌≤◌, List, [], ◌∷◌, ◌++◌, length, take, drop, refl, ap, sym, ◌∙◌, arith, subst, ⊎_elim, append-nil, length-append, length-take-le, drop-drop, take-append-drop, nil_from_length, slice_index, cases_lt, encode_utf8, IsScalar, scalar_cases, following, count_in, subpart_len, char_len}
+use Rattle.inlinable_string.proofs.Common.{common_steps, ◌≡◌, inl, ℕ, suc, ◌+◌, ◌-◌, ◌<◌, ◌≤◌, List, [], ◌∷◌, ◌++◌, length, take, drop, refl, ap, sym, ◌∙◌, arith, subst, ⊎_elim, drop-drop, slice_index, cases_lt, encode_utf8, IsScalar, scalar_cases, following, count_in, subpart_len, char_len}
 use Rattle.std.specs.Prelude.{replicate}
 use Rattle.std.proofs.str.Laws.{Shape, of1, of2, of3, of4, shape, one}
 use Rattle.inlinable_string.proofs.Subparts.{Begins, len_of_char, len_of_none}
@@ -26,13 +26,10 @@ subpart_within (b ∷ bs) = omega (arith, count_within (following b) bs)
 len_by_row : (c : ℕ) (rest : List ℕ) → IsScalar c → Shape c
     → length (encode_utf8 c) ≡ 1 + length (row (encode_utf8 c ++ rest))
 len_by_row c rest s (of1 l e) = grind (arith, common_steps, none_in)
-len_by_row c rest s (of2 a b l h f n e) =
-    let fit = table_fits c rest s in
-    grind (arith, common_steps, none_in, row_two)
+len_by_row c rest s (of2 a b l h f n e) = grind (arith, common_steps, none_in, row_two, table_fits)
 len_by_row c rest s (of3 a b d l h f g n e) = grind (arith, common_steps, row_three)
 len_by_row c rest s (of4 a b d x l h f g k n e) =
-    let fit = table_fits c rest s in
-    grind (arith, common_steps, none_above, row_four)
+    grind (arith, common_steps, none_above, row_four, table_fits)
 
 -- where a character begins the bytes, it fills the row
 pub fills : (bs : List ℕ) (c : ℕ) (rest : List ℕ) → Begins bs c rest
@@ -52,23 +49,13 @@ unfilled bs some less = len_of_none bs some
 -- so is one whose code begins with these bytes
 len_of_code : (x : ℕ) (xs : List ℕ) (code : BeginsCode (x ∷ xs))
     → length (encode_utf8 code.0) ≡ 1 + length (following x)
-len_of_code x xs (c, rest, s, is) =
-    len_by_row c [] s (shape c (scalar_cases c s))
-    ∙ ap (λ bs. 1 + length (row bs)) (append-nil (encode_utf8 c) ∙ is)
+len_of_code x xs (c, rest, s, is) = grind (arith, common_steps, len_by_row, scalar_cases, shape)
 
 -- bytes that begin a code of no more bytes are that code
 begun : (bs : List ℕ) (n c : ℕ) (rest : List ℕ) → n ≤ length bs → IsScalar c
     → encode_utf8 c ≡ take n bs ++ rest → length (encode_utf8 c) ≡ n → Begins bs c (drop n bs)
 begun bs n c rest within s is long =
-    let front = length-take-le n bs within in
-    let none : rest ≡ [] = nil_from_length rest
-    (omega (arith, long, front, ap length is, length-append (take n bs) rest)) in
-    let whole : encode_utf8 c ≡ take n bs = is ∙ ap (λ r. take n bs ++ r) none
-    ∙ append-nil (take n bs) in
-    record {
-      scalar = s;
-      joined = sym (take-append-drop n bs) ∙ ap (λ f. f ++ drop n bs) (sym whole);
-    }
+    grind (arith, common_steps)
 
 -- a row of more than one byte that is filled is a character
 pub filled : (bs : List ℕ) → 0 < length bs → 0 < length (row bs)
@@ -167,11 +154,7 @@ pub record Reached (bs : List ℕ) (n : ℕ) (left : List (ℕ × ℕ)) : Type 0
   pub long : length (row bs) ≡ n + length left
 
 at_first : (bs : List ℕ) (left : List (ℕ × ℕ)) → 0 < length bs → row bs ≡ left → Reached bs 0 left
-at_first bs left some is = record {
-  some = some;
-  count = omega (arith, ap (λ r. count_in r (drop 1 bs)) is);
-  long = omega (arith, ap length is);
-}
+at_first bs left some is = grind (arith, common_steps)
 
 not_in : (r : ℕ × ℕ) (left : List (ℕ × ℕ)) (bs : List ℕ) → count_in (r ∷ []) bs ≡ 0
     → count_in (r ∷ left) bs ≡ 0
@@ -199,11 +182,7 @@ further bs n r left so inside =
 -- it is not, and the subpart ends before it
 ended : (bs : List ℕ) (n : ℕ) (r : ℕ × ℕ) (left : List (ℕ × ℕ)) → Reached bs n (r ∷ left)
     → count_in (r ∷ []) (drop (1 + n) bs) ≡ 0 → (char_len bs ≡ 0) × (subpart_len bs ≡ 1 + n)
-ended bs n r left so outside =
-    let none = not_in r left (drop (1 + n) bs) outside in (
-      unfilled bs so.some (omega (arith, so.count, so.long, none)),
-      omega (arith, so.count, none, subpart_at bs so.some),
-    )
+ended bs n r left so outside = grind (arith, common_steps, not_in, subpart_at, unfilled)
 
 -- n bytes after the first are in its row, and k more are left, all of one range
 pub record InRow (bs : List ℕ) (n : ℕ) : Type 0 where
@@ -265,8 +244,4 @@ no_next bs n so more outside =
 
 -- none is left: it is a character
 pub complete : (bs : List ℕ) (n : ℕ) → (so : InRow bs n) → 0 < n → so.k ≡ 0 → char_len bs ≡ 1 + n
-complete bs n so some none =
-    let left = subst (λ k. Reached bs n (replicate k (0x80, 0xBF))) none so.reached in
-    let all : count_in (row bs) (drop 1 bs) ≡ n = omega (arith, left.count) in
-    let long = filled bs left.some (omega (arith, left.long)) (omega (arith, all, left.long)) in
-    omega (arith, long, left.long)
+complete bs n so some none = grind (arith, common_steps, filled)

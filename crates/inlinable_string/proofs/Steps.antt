@@ -44,22 +44,11 @@ pushed : (old new : TextState) (command : Command) (u : List ℕ) (a : ℕ) → 
     → ((n : ℕ) → new.storage ≡ storage_after_step (record old { capacity = n }) command Done)
     → old.capacity ≤ new.capacity → new.policy ≡ old.policy → IsStep old command Done new
 pushed old new command u a laws width is credit counted text storage more policy =
-    let kept : text_left old.text (edit old.text command) ≡ old.text ++ u =
-    ap (text_left old.text) is in
     let within : size (old.text ++ u) ≤ new.capacity = rw text at laws.within in record {
       legal = λ n fits most. record { answer = inl (sym (ap reply_of is)); counted = counted n };
-      next = λ n fits most. record {
-        text = text ∙ sym kept;
-        storage = storage n;
-        room =
-            omega (
-              arith,
-              ap size kept,
-              credit (n - size old.text),
-              left old.text u a n old.capacity new.capacity width within most more,
-            );
-        policy = policy;
-      };
+      next = λ n fits most.
+          let room = left old.text u a n old.capacity new.capacity width within most more in
+          grind (arith, storage n, room, credit (n - size old.text));
     }
 
 pub push_str_done : (old new : TextState) (string : Bor (List ℕ)) → IsUtf8 string.now → IsLawful new

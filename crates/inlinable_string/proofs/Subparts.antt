@@ -1,5 +1,5 @@
 -- Bytes read as text: characters, and the maximal subparts between them.
-use Rattle.inlinable_string.proofs.Common.{common_steps, ◌≡◌, ℕ, zero, suc, ◌+◌, ◌-◌, ◌<◌, ◌≤◌, true, false, Bool, cond, nat_eq, List, [], ◌∷◌, ◌++◌, length, take, drop, refl, ap, sym, ◌∙◌, arith, subst, ⊎_elim, append-nil, append_assoc, length-append, take-append-drop, length-take, rules, encode_utf8, IsScalar, chars, IsUtf8, is_utf8, all_scalars, encode_utf8_all, cases_Bool, and_parts, cond-true, cond-false, nat_tests, take_at, drop_at, IsUtf8-from_is_utf8, is_utf8-from_IsUtf8, IsUtf8-encode, IsUtf8-append, length-encode, len_utf8_bounds, encode_same, scalars-chars, encodes-chars, char_len, subpart_len, lossy_utf8_past, lossy_utf8}
+use Rattle.inlinable_string.proofs.Common.{common_steps, ◌≡◌, ℕ, zero, suc, ◌+◌, ◌-◌, ◌<◌, ◌≤◌, true, false, Bool, cond, nat_eq, List, [], ◌∷◌, ◌++◌, length, take, drop, refl, ap, sym, ◌∙◌, arith, subst, ⊎_elim, append-nil, append_assoc, length-append, take-append-drop, length-take, rules, encode_utf8, IsScalar, chars, IsUtf8, is_utf8, all_scalars, encode_utf8_all, cases_Bool, and_parts, cond-false, nat_tests, take_at, drop_at, IsUtf8-from_is_utf8, is_utf8-from_IsUtf8, IsUtf8-encode, IsUtf8-append, length-encode, len_utf8_bounds, encode_same, scalars-chars, encodes-chars, char_len, subpart_len, lossy_utf8_past, lossy_utf8}
 use Rattle.std.proofs.Math.Seq.{take-add}
 use Rattle.inlinable_string.proofs.Text.{popped-chars}
 use Rattle.inlinable_string.proofs.Window.{chars_one}
@@ -13,9 +13,7 @@ pub record Begins (bs : List ℕ) (c : ℕ) (rest : List ℕ) : Type 0 where
 pub first_of : (bs : List ℕ) → 0 < length bs → IsUtf8 bs
     → (c : ℕ) × (rest : List ℕ) × Begins bs c rest × IsUtf8 rest
 first_of bs some ([], (s, e)) = let none = ap length e in absurd (omega arith)
-first_of bs some (c ∷ cs, (s, e)) =
-    let p = and_parts _ _ s in
-    (c, encode_utf8_all cs, record { scalar = p.0; joined = sym e }, (cs, (p.1, refl)))
+first_of bs some (c ∷ cs, (s, e)) = grind (arith, common_steps, and_parts)
 
 -- so does what has UTF-8 at its front, and the character is no longer than that
 front : (bs : List ℕ) (k : ℕ) → 0 < length bs → 0 < k → is_utf8 (take k bs) ≡ true
@@ -137,11 +135,7 @@ lossy_all bs u = ap lossy_utf8 (sym (append-nil bs)) ∙ lossy_valid bs [] u ∙
 pub no_char : (bs : List ℕ) → 0 < length bs → char_len bs ≡ 0
     → lossy_utf8 bs ≡ 0xFFFD ∷ lossy_utf8 (drop (subpart_len bs) bs)
 no_char [] h none = absurd (omega arith)
-no_char (x ∷ bs) h none =
-    cond-true _ _ _ (ap (λ n. nat_eq n 0) none)
-    ∙ ap (λ l. 0xFFFD ∷ l)
-    (past (subpart_len (x ∷ bs) - 1) bs
-    ∙ ap lossy_utf8 (one_less (subpart_len (x ∷ bs)) x bs (omega arith)))
+no_char (x ∷ bs) h none = grind (arith, common_steps, one_less, past)
 
 pub lossy_fault : (bs : List ℕ) → 0 < length bs → BeginsNone bs
     → lossy_utf8 bs ≡ 0xFFFD ∷ lossy_utf8 (drop (subpart_len bs) bs)

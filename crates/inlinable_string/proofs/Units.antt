@@ -171,10 +171,7 @@ ascii_gives v a i = grind (arith, common_steps)
 ascii_read : (v : List ℕ) → IsAscii v → (n : ℕ) → n ≤ length v → lossy_utf16_before v n ≡ take n v
 ascii_read v a zero h = refl
 ascii_read v a (suc n) h =
-    ap (λ t. t ++ lossy_unit v n) (ascii_read v a n (omega (arith, h)))
-    ∙ ap (λ t. take n v ++ t) (ascii_gives v a n)
-    ∙ sym (take_more v n 0 (omega (arith, h)))
-    ∙ ap (λ k. take k v) (add-one n)
+    grind (arith, add-one, ascii_gives, take_more, ascii_read v a n)
 
 pub lossy_ascii : (v : List ℕ) → IsAscii v → lossy_utf16 v ≡ v
 lossy_ascii v a = ascii_read v a (length v) (omega arith) ∙ take_all (length v) v (omega arith)

@@ -24,13 +24,9 @@ pub unrefused_replies : (s : TextState) (commands : List Command) (replies : Lis
 unrefused_replies s [] [] legal given = refl
 unrefused_replies s (c ∷ commands) (r ∷ replies) legal given =
     let here : r ≢ NoMemory = λ is. given (refused_first r replies is) in
-    let same : r ≡ reply_of (edit s.text c) = answered s c r legal.0 here in
     let rest = unrefused_replies (state_after_step s c r) commands replies legal.1
     (λ has. given (refused_later r replies has)) in
-    let text : text_after_step s.text c r ≡ text_left s.text (edit s.text c) =
-    text_granted s.text c r here in
-    ap (λ x. x ∷ replies) same
-    ∙ ap (λ l. reply_of (edit s.text c) ∷ l) (rest ∙ ap (λ t. replies_of t commands) text)
+    grind (arith, answered s c r legal.0 here, text_granted s.text c r here, rest)
 unrefused_replies s commands replies legal given = absurd legal
 
 -- and the text is that of the edits

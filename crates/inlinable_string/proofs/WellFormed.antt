@@ -1,5 +1,5 @@
 -- The states of the test for UTF-8, and the ranges of bytes that each has before it.
-use Rattle.inlinable_string.proofs.Common.{common_steps, ◌≡◌, ◌↔◌, inl, ℕ, zero, suc, ◌+◌, ◌*◌, ◌/◌, ◌<◌, ◌≤◌, Bool, true, false, List, [], ◌∷◌, ◌++◌, length, take, drop, refl, ap, sym, ◌∙◌, arith, subst, ⊎_elim, IsAscii, IsUtf8, IsUtf8-append, IsUtf8-encode, encode_utf8, append-nil, length-append, take_all, take_more, length-encode, len_utf8_bounds, nil_from_length, eqb-true, take-append-drop, drop_at, append_assoc, if◌then◌else◌, nat_lt, nat_eq, cases_lt, cases_Bool, cond-true, cond-false, and_parts, nat_tests, lt-ltb, le-ltb, slice_index, following, count_in, char_len}
+use Rattle.inlinable_string.proofs.Common.{common_steps, ◌≡◌, ◌↔◌, inl, ℕ, zero, suc, ◌+◌, ◌*◌, ◌/◌, ◌<◌, ◌≤◌, Bool, true, false, List, [], ◌∷◌, ◌++◌, length, take, drop, refl, ap, sym, ◌∙◌, arith, subst, IsAscii, IsUtf8, IsUtf8-append, IsUtf8-encode, encode_utf8, length-append, take_all, length-encode, len_utf8_bounds, nil_from_length, eqb-true, take-append-drop, drop_at, append_assoc, if◌then◌else◌, nat_lt, nat_eq, and_parts, nat_tests, slice_index, following, count_in, char_len}
 use Rattle.std.specs.Int.{is_in_range}
 use Rattle.std.specs.Prelude.{◌&&◌, ◌^◌, ◌-◌}
 use Rattle.inlinable_string.specs.WellFormed.{Follows, nothing, ranges_of, is_state, state_of, Leads}
@@ -28,10 +28,7 @@ counted : (ranges : List (ℕ × ℕ)) (s : List ℕ) → Follows ranges s
     × (length ranges ≤ length s)
 counted [] s f = (refl, f, omega arith)
 counted (r ∷ ranges) [] f = absurd f
-counted (r ∷ ranges) (b ∷ s) f =
-    let c = counted ranges s f.1 in
-    let here : count_in (r ∷ ranges) (b ∷ s) ≡ 1 + count_in ranges s = cond-true _ _ _ f.0 in
-    (omega (arith, here, c.0), c.1, omega (arith, c.2))
+counted (r ∷ ranges) (b ∷ s) f = grind (arith, common_steps, counted ranges s)
 
 follows : (ranges : List (ℕ × ℕ)) (s : List ℕ) → count_in ranges s ≡ length ranges
     → IsUtf8 (drop (length ranges) s) → Follows ranges s
@@ -83,35 +80,19 @@ no_front b s above none u =
     let no = rowless (b ∷ s) (omega arith) above (nil_from_length _ none) in
     omega (arith, len, no.0, length-encode f.0, len_utf8_bounds f.0)
 
-positive : (n : ℕ) → nat_eq n 0 ≡ false → 0 < n
-positive n is = grind (arith, nat_tests, is)
+-- by the row of its first byte, as variables
+by_row : (row : List (ℕ × ℕ)) (b : ℕ) (s : List ℕ) → (b < 128 → IsUtf8 s → IsUtf8 (b ∷ s))
+    → (0 < length row → Follows row s → IsUtf8 (b ∷ s))
+    → Follows (if nat_lt b 128 then [] else (if nat_eq (length row) 0 then nothing else row)) s
+    → IsUtf8 (b ∷ s)
+by_row row b s ascii more f = grind (arith, common_steps, none_follows)
 
 -- what begins a text, and what has to follow it
 pub begins : (b : ℕ) (s : List ℕ) → IsUtf8 (b ∷ s) ↔ Follows (next [] b) s
-begins b s =
-    ⊎_elim
-    (λ below.
-    let is : next [] b ≡ [] = cond-true _ _ _ (lt-ltb _ _ below) in
-    let row = none_in b (omega (arith, below)) in (
-      (λ u. subst (λ n. Follows n s) (sym is)
-          (subst (λ n. Follows n s) row (from_utf8 b s u))),
-      (λ f. ascii_front b s below (subst (λ n. Follows n s) is f)),
-    ))
-    (λ above.
-    let big : nat_lt b 128 ≡ false = le-ltb _ _ above in
-    ⊎_elim
-    (λ none.
-    let is : next [] b ≡ nothing = cond-false _ _ _ big ∙ cond-true _ _ _ none in (
-      (λ u. absurd (no_front b s above (eqb-true _ _ none) u)),
-      (λ f. absurd (none_follows s (subst (λ n. Follows n s) is f))),
-    ))
-    (λ some.
-    let is : next [] b ≡ following b = cond-false _ _ _ big ∙ cond-false _ _ _ some in (
-      (λ u. subst (λ n. Follows n s) (sym is) (from_utf8 b s u)),
-      (λ f. char_front b s (positive (length (following b)) some) (subst (λ n. Follows n s) is f)),
-    ))
-    (cases_Bool (nat_eq (length (following b)) 0)))
-    (cases_lt b 128)
+begins b s = (
+  λ u. grind (arith, common_steps, from_utf8 b s u, no_front b s, none_in b),
+  by_row (following b) b s (ascii_front b s) (char_front b s),
+)
 
 -- one byte more
 pub step : (ranges : List (ℕ × ℕ)) (b : ℕ) (s : List ℕ)
@@ -139,12 +120,7 @@ same_is : (rs ss : List (ℕ × ℕ)) → same rs ss ≡ true → rs ≡ ss
 same_is [] [] is = refl
 same_is [] (s ∷ ss) is = grind (arith, is)
 same_is (r ∷ rs) [] is = grind (arith, is)
-same_is (r ∷ rs) (s ∷ ss) is =
-    let parts = and_parts (nat_eq r.0 s.0 && nat_eq r.1 s.1) (same rs ss) is in
-    let pair = and_parts (nat_eq r.0 s.0) (nat_eq r.1 s.1) parts.0 in
-    let from = eqb-true r.0 s.0 pair.0 in
-    let to = eqb-true r.1 s.1 pair.1 in
-    λ i. (from i, to i) ∷ same_is rs ss parts.1 i
+same_is (r ∷ rs) (s ∷ ss) is = grind (arith, common_steps, and_parts, eqb-true, same_is rs ss)
 
 -- the row of a byte leads from a state to what the ranges say
 abbrev row_is_right : List ℕ → ℕ → ℕ → Bool
@@ -182,23 +158,7 @@ pub read_one : (from : ℕ) (bs : List ℕ) (i bits row : ℕ) → IsRead from b
     → i < length bs → slice_index bs i < 256 → row ≡ slice_index ROWS.now (slice_index bs i)
     → IsRead from bs (i + 1) (state_of (row / 2 ^ state_of bits))
 read_one from bs i bits row read within byte is =
-    let b = slice_index bs i in
-    let n = state_of bits in
-    let to = row_leads b n byte read.known in
-    subst (λ r. IsRead from bs (i + 1) (state_of (r / 2 ^ n))) (sym is) record {
-      known = to.0;
-      rest = λ s.
-          let both = step (ranges_of n) b s in
-          let before = read.rest (b ∷ s) in
-          let one_more : take (i + 1) bs ++ s ≡ take i bs ++ b ∷ s =
-          ap (λ front. front ++ s) (take_more bs i 0 within)
-          ∙ append_assoc (take i bs) (b ∷ []) s in (
-            (λ u. subst (λ ranges. Follows ranges s) (sym to.1)
-                (both.0 (before.0 (subst (Follows (ranges_of from)) one_more u)))),
-            (λ f. subst (Follows (ranges_of from)) (sym one_more)
-                (before.1 (both.1 (subst (λ ranges. Follows ranges s) to.1 f)))),
-          );
-    }
+    grind (arith, common_steps, row_leads, step)
 
 pub read_whole : (from : ℕ) (bs : List ℕ) (i to : ℕ) → IsRead from bs i to → length bs ≤ i
     → Leads from bs to
@@ -207,16 +167,7 @@ read_whole from bs i to read all = subst (λ l. Leads from l to) (take_all i bs 
 -- bytes after others
 pub leads_on : (from between to : ℕ) (bs cs : List ℕ) → Leads from bs between
     → Leads between cs to → Leads from (bs ++ cs) to
-leads_on from between to bs cs one other = record {
-  known = other.known;
-  rest = λ s.
-      let joined = append_assoc bs cs s in (
-        (λ u. (other.rest s).0
-            ((one.rest (cs ++ s)).0 (subst (Follows (ranges_of from)) joined u))),
-        (λ f. subst (Follows (ranges_of from)) (sym joined)
-            ((one.rest (cs ++ s)).1 ((other.rest s).1 f))),
-      );
-}
+leads_on from between to bs cs one other = grind (arith, common_steps)
 
 -- the bytes before the rest are read
 abbrev pub IsReadTo : List ℕ → List ℕ → ℕ → Type 0
@@ -241,15 +192,10 @@ read_to_end bs rest from to (front, is, read) last =
 ascii_leads : (bs : List ℕ) → IsAscii bs → Leads 0 bs 0
 ascii_leads [] is = record { known = refl; rest = λ s. ((λ f. f), (λ f. f)) }
 ascii_leads (b ∷ bs) is =
-    let rest = ascii_leads bs (λ i. is (suc i)) in
-    let none : next [] b ≡ [] = cond-true _ _ _ (lt-ltb _ _ (is 0)) in record {
+    let low : b < 128 = is 0 in
+    let rest = ascii_leads bs (λ i. is (suc i)) in record {
       known = refl;
-      rest = λ s.
-          let both = step [] b (bs ++ s) in (
-            (λ u. (rest.rest s).0 (subst (λ ranges. Follows ranges (bs ++ s)) none (both.0 u))),
-            (λ f. both.1
-                (subst (λ ranges. Follows ranges (bs ++ s)) (sym none) ((rest.rest s).1 f))),
-          );
+      rest = λ s. grind (arith, common_steps, step [] b (bs ++ s), rest.rest s);
     }
 
 pub ascii_block : (bs : List ℕ) (n : ℕ) → n ≡ 0 → IsAscii bs → Leads n bs n
@@ -270,15 +216,7 @@ ends : (n : ℕ) → nat_eq n 0 ≡ false → Follows (ranges_of n) [] → ⊥
 ends n is f = grind (arith, common_steps)
 
 pub is_text : (bs : List ℕ) (n : ℕ) → Leads 0 bs n → (nat_eq n 0 ≡ true) ↔ IsUtf8 bs
-is_text bs n read =
-    let whole = append-nil bs in
-    let both = read.rest [] in (
-      (λ first. subst IsUtf8 whole
-          (both.1 (subst (λ ranges. Follows ranges []) (sym (cond-true _ _ _ first)) IsUtf8-nil))),
-      (λ u. ⊎_elim (λ first. first)
-          (λ later. absurd (ends n later (both.0 (subst IsUtf8 (sym whole) u))))
-          (cases_Bool (nat_eq n 0))),
-    )
+is_text bs n read = grind (arith, common_steps, ends)
 
 -- nor is it text, whatever follows, in the last
 pub no_text : (bs rest : List ℕ) (n : ℕ) → IsReadTo bs rest n → n ≡ 48 → IsUtf8 bs → ⊥
