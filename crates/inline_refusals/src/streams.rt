@@ -1,14 +1,14 @@
 //! Scripts over a reader and a writer that hand over little, or fail.
 
-mod streams;
+mod narrow;
 
+use narrow::{Narrow, OneByOne};
 use script_language::ScriptFault;
 use script_language::script::script;
 use std::alloc::Global;
 use std::io::ErrorKind;
 use std::process::Abort;
 use std::test::Fail;
-use streams::{Narrow, OneByOne};
 
 const SCRIPT: &[u8] = b"push_str ab\npop\n";
 
