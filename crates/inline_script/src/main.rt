@@ -3,9 +3,6 @@
 //! The argument says which text the script begins with; the script comes from standard input.
 #![tactic(auto)]
 
-#[cfg(test)]
-mod tests;
-
 use script_language::ScriptFault;
 use script_language::arguments::words_of;
 use script_language::script::script;

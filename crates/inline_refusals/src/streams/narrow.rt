@@ -1,4 +1,4 @@
-//! Readers and writers that hand over little, fail, or never end.
+//! A reader and a writer that hand over little, or fail.
 
 use std::io::{self, ErrorKind, Read, Write};
 
@@ -36,26 +36,13 @@ impl Read for OneByOne<'_> {
     }
 }
 
-/// Hands out empty lines for ever.
-#[derive(Drop)]
-pub struct Endless {
-    /// How many bytes were handed out.
-    pub given: usize,
-}
-
-impl Read for Endless {
-    fn read(&mut self, buf: &mut [u8]) -> io::Result<usize> {
-        buf.fill(b'\n');
-        self.given = self.given.saturating_add(buf.len());
-        Ok(buf.len())
-    }
-}
-
-/// Takes at most three bytes a write, and fails at the write of that number, counted from 1: with
-/// an error, or by taking no byte.
+/// Takes a few bytes a write, and fails at the write of that number, counted from 1: with an error,
+/// or by taking no byte.
 #[derive(Drop)]
 pub struct Narrow<'a> {
     cells: &'a mut [u8],
+    /// How many bytes a write takes at most.
+    pub most: usize,
     failing_write: usize,
     error: Option<ErrorKind>,
     /// How many writes were made.
@@ -72,6 +59,7 @@ impl<'a> Narrow<'a> {
     ) -> Narrow<'a> {
         Narrow {
             cells,
+            most: 3,
             failing_write,
             error,
             writes: 0,
@@ -89,31 +77,10 @@ impl Write for Narrow<'_> {
         let Some(room) = self.cells.get_mut(self.taken..) else {
             return Ok(0);
         };
-        let count = buf.len().min(room.len()).min(3);
+        let count = buf.len().min(room.len()).min(self.most);
         room[..count].copy_from_slice(&buf[..count]);
         self.taken = self.taken.saturating_add(count);
         Ok(count)
-    }
-
-    fn flush(&mut self) -> io::Result<()> {
-        Ok(())
-    }
-}
-
-/// Takes all that it is given.
-#[derive(Drop)]
-pub struct Counted {
-    /// How many writes were made.
-    pub writes: usize,
-    /// How many bytes were taken.
-    pub taken: usize,
-}
-
-impl Write for Counted {
-    fn write(&mut self, buf: &[u8]) -> io::Result<usize> {
-        self.writes = self.writes.saturating_add(1);
-        self.taken = self.taken.saturating_add(buf.len());
-        Ok(buf.len())
     }
 
     fn flush(&mut self) -> io::Result<()> {
