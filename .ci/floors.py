@@ -45,7 +45,7 @@ BESIDE_OF_EACH = dict.fromkeys((
     *each(f'{SCRIPTS} string', '0 2 command heap'), *each(SCRIPTS, 'inline')), 50)
 
 # The cases of `replay/named_cases.py`.
-NAMED_CASES = 65
+NAMED_CASES = 70
 
 # Hostile inputs: how many, and how many of them must be accepted and so run, and lead to each fault and to
 # each reply. (Want of memory before a run can't be brought about by an input.)

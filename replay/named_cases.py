@@ -17,7 +17,7 @@ NOT_UTF8 = {
     'byte_that_is_not_utf8': b'\xff', 'bad_byte_before_a_bad_line': b'?\n\xff\n',
     'surrogate_in_the_input': b'push \xed\xa0\x80\n', 'overlong_space_in_the_input': b'push\xc0\xa0a\n',
     'past_the_last_character_in_the_input': b'push \xf4\x90\x80\x80\n',
-    'cut_character_in_the_last_byte': b'\n' * 65535 + b'\xc3'}
+    'cut_character_after_a_line': b'pop\n\xc3', 'cut_character_in_the_last_byte': b'\n' * 65535 + b'\xc3'}
 # By their names: the bad line's number, and the input.
 BAD_LINES = {
     'second_line_is_bad': (2, b'pop\npush ab\n'), 'empty_line_is_counted': (2, b'\npop \n'),
@@ -36,6 +36,9 @@ BAD_LINES = {
 # By their names: the input, and what an inline text answers, with its storage, length and text at the end.
 RUNS = {
     'no_line': (b'', b'', 'inline', 0, b''),
+    'last_line_without_its_end': (b'push_str a\n\npop', b'done\nchar a\n', 'inline', 0, b''),
+    'insertion_inside_a_text': (b'push_str foo\ninsert_str 2 bar\nreplace_bytes 61\npop\n',
+                                b'done\ndone\nwrong length\nchar o\n', 'inline', 5, b'fobar'),
     'longest_input': (b'\n' * 65536, b'', 'inline', 0, b''),
     'longest_line': (b'push_str ' + b'a' * 65527, b'done\n', 'heap', 65527, b'a' * 65527),
     'most_commands': (b'pop\n' * 16384, b'none\n' * 16384, 'inline', 0, b''),
@@ -63,6 +66,10 @@ CASES = (
       for name, (at, given) in BAD_LINES.items()),
     *((name, ['inline'], given, '', replies + ends(*end), 0)
       for name, (given, replies, *end) in RUNS.items()),
+    ('place_inside_a_character', ['string'], 'push é\ninsert 1 x\nremove 0\npop\n'.encode(), '',
+     'done\nbad place\nchar é\nnone\n'.encode() + ends('heap', 0, b''), 0),
+    ('shrunk_text_stays_inline', ['heap'], b'push_str he\nshrink_to_fit\nreserve 28\n', '',
+     b'done\ndone\ndone\n' + ends('inline', 2, b'he'), 0),
     ('commands_are_answered_in_order', ['inline'], SEVERAL, '', THEIR_OUTPUT, 0),
     ('input_comes_in_parts', ['inline'], SEVERAL, 'stdin-pipe', THEIR_OUTPUT, 0),
     ('parts_for_a_heap_text', ['heap'],
