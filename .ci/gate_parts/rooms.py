@@ -12,23 +12,23 @@ from gate_parts.tree import TOP, Failure, below, crate_folder, run_in, text_of, 
 AT_THE_TOP = ('crates.txt', 'HANDLES')
 
 
-def said_of(top, crate, jobs, functions=()):
+def said_of(top, crate, jobs, functions=(), command='check'):
     """What a check of the crate prints, or of these functions of it, and whether they are proved."""
     only = [word for function in functions for word in ('--only', function)]
-    said, status = run_in(crate_folder(crate, top), 'rt', 'check', '--jobs', str(jobs), *only)
+    said, status = run_in(crate_folder(crate, top), 'rt', command, '--jobs', str(jobs), *only)
     return said, status == 0
 
 
 def require_proof(top, crate, jobs, functions=()):
-    """The crate is proved there, or these functions of it; what the check keeps in out/ serves later ones."""
-    said, is_well = said_of(top, crate, jobs, functions)
+    """The crate, a library, is proved there and built, or else these functions of it are proved; what is kept
+    of it in out/ serves later checks."""
+    said, is_well = said_of(top, crate, jobs, functions, 'check' if functions else 'lib')
     if not is_well:
         raise Failure(f'{crate} is not proved as it is:\n{said}')
 
 
 def require_below(jobs, crates):
-    """The same of all that these crates of the tree stand on. One at a time, since each check keeps the others
-    out of what it stands on."""
+    """The same of all that these crates stand on, one at a time, since each check keeps the others out of it."""
     for crate in sorted(below(crates)):
         require_proof(TOP, crate, jobs)
 
