@@ -1,5 +1,6 @@
 -- The cut of a text, and its last character.
-use Rattle.inlinable_string.proofs.Common.{common_steps, ◌≡◌, ℕ, ◌-◌, ◌≤◌, true, false, nat_eq, nat_lt, List, [], ◌∷◌, ◌++◌, length, refl, sym, ap, ◌∙◌, arith, length-append, take, drop, take_at, take-append-drop, Option, Some, None, IsSome, Bool, IsTrue, ◌↔◌, cond_both, nat_tests, append_assoc, append-nil, encode_utf8, chars, IsUtf8, IsCharBoundary, IsCharBoundary-from_take, length-encode, len_utf8_bounds, bytes_of, size, IsCut, IsPlace, cut, with_first, split_last}
+use Rattle.inlinable_string.proofs.Common.{common_steps, ◌≡◌, ℕ, ◌-◌, ◌≤◌, true, false, nat_eq, nat_lt, List, [], ◌∷◌, ◌++◌, length, refl, sym, ap, ◌∙◌, arith, length-append, take, drop, take_at, take-append-drop, Option, Some, None, IsSome, Bool, IsTrue, ◌↔◌, cond_both, nat_tests, append_assoc, append-nil, encode_utf8, encodes-append, chars, IsUtf8, IsCharBoundary, IsCharBoundary-from_take, length-encode, len_utf8_bounds, bytes_of, size, IsCut, IsPlace, cut, with_first, split_last}
+use Rattle.std.proofs.Math.Seq.{take-append_seam}
 use Rattle.inlinable_string.proofs.Text.{holds, boundary, cut_at, place_within}
 
 pub cut_joined : (a b : List ℕ) → cut (a ++ b) (size a) ≡ Some (a, b)
@@ -100,3 +101,12 @@ module _ (t bs : List ℕ) (u : IsUtf8 bs) (e : bs ≡ bytes_of t) where
   place_of_taken xs n v h = place_of_split xs [] n v (sym h ∙ sym (append-nil xs))
 
 pub ruleset places_of_bytes = (place_within, places_are)
+
+pub front_bytes : (t a b : List ℕ) (p : ℕ) → IsCut t p a b → bytes_of a ≡ take p (bytes_of t)
+front_bytes t a b p c =
+    let joined : bytes_of t ≡ bytes_of a ++ bytes_of b =
+    ap bytes_of c.joined ∙ encodes-append a b in
+    sym (take-append_seam (bytes_of a) (bytes_of b)) ∙ ap (take (size a)) (sym joined)
+    ∙ ap (λ n. take n (bytes_of t)) c.before
+
+pub ruleset fronts = (take-append-drop, front_bytes)

@@ -7,6 +7,7 @@ pub mod Subparts
 pub mod Table
 pub mod Makers
 pub mod Cut
+pub mod Sizes
 pub mod AsciiCase
 pub mod Parts
 pub mod Edits

@@ -1,5 +1,6 @@
 -- Texts and their bytes.
 use Rattle.inlinable_string.proofs.Common.{common_steps, ◌≡◌, ℕ, Bool, ◌+◌, ◌≤◌, true, List, [], ◌∷◌, ◌++◌, length, take, drop, refl, sym, ap, ◌∙◌, arith, subst, length-append, take-append-drop, length-take-le, append-nil, Result, Ok, Err, is_ok, if◌then◌else◌, OnOk, OnErr, IsOk, Option, Some, None, MatchOption, IfSome, IfNone, IsTrue, ◌↔◌, nat_eq, rules, nil_from_length, and_parts, eqb-true, ltb-true, String, string_bytes, string_len, IsUtf8-string_bytes, length-le-encodes, length-encode, len_utf8_bounds, encode_utf8, chars, chars-IsAscii, all_scalars, IsAscii, IsUtf8, IsCharBoundary, chars-nil, encodes-chars, scalars-chars, chars-append, chars_from_encodes, encodes-append, encodes_same, IsUtf8-take, IsCharBoundary-at_seam, bytes_of, size, IsCut, IsPlace, IsSplice, IsRemoval}
+use Rattle.std.proofs.lemmas.Str.{encodes-IsAscii}
 use Rattle.std.proofs.lemmas.Str.Ascii.{IsAscii-nil, IsAscii-cons}
 use Rattle.std.specs.Char.{is_ascii}
 use Rattle.std.specs.Cmp.Lexicographic.{pointwise}
@@ -17,6 +18,10 @@ all_ascii (b ∷ bs) h =
 -- bytes that are ASCII are characters
 pub ascii_chars : (bs : List ℕ) → list_all is_ascii bs ≡ true → chars bs ≡ bs
 ascii_chars bs h = chars-IsAscii bs (all_ascii bs h)
+
+-- and have themselves as bytes
+pub ascii_bytes : (bs : List ℕ) → list_all is_ascii bs ≡ true → bytes_of bs ≡ bs
+ascii_bytes bs h = encodes-IsAscii bs (all_ascii bs h)
 
 -- the bytes w of a text t are bs exactly if its characters are those of bs
 module _ {t w bs : List ℕ} {b : Bool} (u : IsUtf8 w) (v : IsUtf8 bs) (shown : chars w ≡ t)

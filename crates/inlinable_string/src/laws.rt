@@ -1,11 +1,13 @@
 //! Lemmas: calling one does nothing at run time, but its clauses are then known in the caller's
 //! proof. Those of this file are on places and sizes.
-ghost use Rattle.std.specs.Prelude.{◌≡◌, ◌↔◌, Some, IsSome, Bool, true, false, ℕ, ◌+◌, ◌≤◌, List, ◌++◌, [], ◌∷◌, length, take, drop, filter, IsUtf8};
-ghost use Rattle.std.specs.Char.{encode_utf8};
+ghost use Rattle.std.specs.Prelude.{◌≡◌, ◌↔◌, Some, IsSome, Bool, true, false, ℕ, ◌+◌, ◌*◌, ◌≤◌, List, ◌++◌, [], ◌∷◌, length, take, drop, filter, fold, replicate, IsUtf8};
+ghost use Rattle.std.specs.Borrow.{Bor};
+ghost use Rattle.std.specs.Char.{encode_utf8, is_ascii};
 ghost use Rattle.std.specs.Fn.{Called};
-ghost use Rattle.std.specs.List.{replace_range};
+ghost use Rattle.std.specs.List.{list_all, replace_range};
 ghost use Rattle.std.specs.Str.{chars, IsCharBoundary};
 ghost use Rattle.inlinable_string.specs.Text.{bytes_of, size, cut, IsCut, IsPlace, IsSplice, IsRemoval};
+ghost use Rattle.inlinable_string.specs.Joins.{text_of_strs};
 ghost use Rattle.inlinable_string.specs.Ranges.{IsRangeReplaced};
 ghost use Rattle.inlinable_string.specs.Retained.{IsRetained, Tests};
 ghost use Rattle.inlinable_string.specs.Values.{inlinable_state};
@@ -105,6 +107,14 @@ pub fn cuts_are_cuts_of_bytes()
         → (a ≡ chars (take p bs)) × (b ≡ chars (drop p bs)) }
 {}
 
+/// After the first bytes of a string comes a rest. Of a text that is cut, they are the bytes of
+/// the part before the place.
+#[tactic(auto, using(crate::proofs::Cut::fronts))]
+pub fn fronts_have_rests()
+    ensures rest { (bs : List ℕ) (n : ℕ) → take n bs ++ drop n bs ≡ bs }
+    ensures bytes { (t a b : List ℕ) (p : ℕ) → IsCut t p a b → bytes_of a ≡ take p (bytes_of t) }
+{}
+
 /// A text in two parts is cut between them: so it has one front of each size.
 #[tactic(auto, using(crate::proofs::Cut::cut_joined))]
 pub fn parts_are_told_by_their_size()
@@ -141,12 +151,31 @@ pub fn items_are_the_characters()
     ensures { (bs cs : List ℕ) → IsUtf8 bs → bytes_of cs ≡ bs → cs ≡ chars bs }
 {}
 
+/// ASCII bytes are their own characters, and those their own bytes: so is a literal.
+#[tactic(auto, using(crate::proofs::Text::ascii_chars, crate::proofs::Text::ascii_bytes))]
+pub fn ascii_is_its_own_characters()
+    ensures characters { (bs : List ℕ) → list_all is_ascii bs ≡ true → chars bs ≡ bs }
+    ensures bytes { (bs : List ℕ) → list_all is_ascii bs ≡ true → bytes_of bs ≡ bs }
+{}
+
 /// How many bytes a text in two parts has, a character at most, and the text of a `&str`.
 #[tactic(auto, using(crate::proofs::Text::sizes))]
 pub fn sizes_of_parts()
     ensures joined { (a b : List ℕ) → size (a ++ b) ≡ size a + size b }
     ensures character { (c : ℕ) → size (c ∷ []) ≤ 4 }
     ensures string { (bs : List ℕ) → IsUtf8 bs → size (chars bs) ≡ length bs }
+{}
+
+/// The size of a text is the sum of those of its characters, or of the strings that it joins; of
+/// `n` copies it is `n` times that of one.
+#[tactic(auto, using(crate::proofs::Sizes::sums))]
+pub fn sizes_are_sums()
+    ensures characters { (t : List ℕ) → size t ≡ fold (λ n c. n + size (c ∷ [])) 0 t }
+    ensures strs { (items : List (Bor (List ℕ))) → size (text_of_strs items)
+        ≡ fold (λ n s. n + size (chars s.now)) 0 items }
+    ensures copies { (n c : ℕ) → size (replicate n c) ≡ n * size (c ∷ []) }
+    ensures str_copies { (n : ℕ) (s : Bor (List ℕ))
+        → size (text_of_strs (replicate n s)) ≡ n * size (chars s.now) }
 {}
 
 /// `Default`, `or_default` of a map, and `mem::try_take` leave the empty text, stored inline.
