@@ -143,6 +143,8 @@ fn a_text_is_made_of_a_string(rt: HostRuntime) -> Result<(), Fail> {
 const BYTES: &[Row] = &[
     (N30, (0, "hello"), IntoBytes, 1, "", "", Heap),
     (N8, (0, "hello"), IntoBytes, 1, "", "", Heap),
+    (N30, (31, "hello"), IntoBytes, 0, "", "", Heap),
+    (String, (31, "hello"), IntoBytes, 0, "", "", Heap),
 ];
 
 #[test]
@@ -150,25 +152,9 @@ fn a_text_gives_its_bytes_and_is_made_of_them(rt: HostRuntime) -> Result<(), Fai
     assert_rows(&rt, rt.alloc(), BYTES)
 }
 
-const HEAP_BYTES: &[Row] = &[
-    (N30, (31, "hello"), IntoBytes, 0, "", "", Heap),
-    (String, (31, "hello"), IntoBytes, 0, "", "", Heap),
-];
-
-#[test]
-fn a_heap_text_gives_its_bytes_and_is_made_of_them(rt: HostRuntime) -> Result<(), Fail> {
-    assert_rows(&rt, rt.alloc(), HEAP_BYTES)
-}
-
-const WIDENED: &[Row] = &[(N30, (0, A30), ToLimit300, 0, "", "", Inline)];
-
-#[test]
-fn a_text_moves_to_a_greater_capacity(rt: HostRuntime) -> Result<(), Fail> {
-    assert_rows(&rt, rt.alloc(), WIDENED)
-}
-
 const MOVED: &[Row] = &[
     (N30, (0, "12345678"), ToLimit8, 0, "", "", Inline),
+    (N30, (0, A30), ToLimit300, 0, "", "", Inline),
     (N30, (0, A30), ToLimit8, 1, "", "", Heap),
     (N30, (31, A31), ToLimit8, 0, "", "", Heap),
     (N30, (31, "12345678"), ToLimit8, 0, "", "", Inline),
