@@ -15,5 +15,4 @@ mod BadLines
 mod Outputs
 mod WorkedLines
 mod WorkedScripts
-mod RefusedLines
 pub mod OnLiterals

@@ -58,18 +58,12 @@ same_arguments tail (bytes bs) (bytes cs) is (digits, at, written) (digits', at'
     ap bytes (one_hex_text digits' bs cs (subst (λ d. IsHexText d bs) same written) written')
 same_arguments tail one other is ends too = cc
 
--- two commands with one word and one tail after it have the same arguments
-same_command : (tail : List ℕ) (one other : Command) → word_of one ≡ word_of other
-    → IsTail (arguments_of one) tail → IsTail (arguments_of other) tail
-    → arguments_of one ≡ arguments_of other
-same_command tail one other words =
-    same_arguments tail (arguments_of one) (arguments_of other)
-    (form_of_word (word_of other) one (sym words) ∙ sym (form_of_word (word_of other) other refl))
-
 pub one_command : (line : List ℕ) (one other : Command) → IsLine line one → IsLine line other
     → (word_of one ≡ word_of other) × (arguments_of one ≡ arguments_of other)
 one_command line one other (tail, is, ends) asked =
     let apart = tail_forms (arguments_of one) tail ends in
     let parts = parts_of_line (word_of one) tail other (word_lacks_space one) apart
     (subst (λ l. IsLine l other) is asked) in
-    (parts.0, same_command tail one other parts.0 ends parts.1)
+    let forms = form_of_word (word_of other) one (sym parts.0)
+    ∙ sym (form_of_word (word_of other) other refl) in
+    (parts.0, same_arguments tail (arguments_of one) (arguments_of other) forms ends parts.1)

@@ -69,12 +69,6 @@ pub record IsNextLine (rest more : Option (Bor (List ℕ))) (line : List ℕ) : 
   pub first : lines_of text.now ≡ line ∷ lines_left more
   pub size : length line + bytes_left more ≡ length text.now
 
-split_on : (lines done : List (List ℕ)) (rest more : Option (Bor (List ℕ))) (line : List ℕ)
-    → lines ≡ done ++ lines_left rest → IsNextLine rest more line
-    → lines ≡ done ++ line ∷ lines_left more
-split_on lines done rest more line split next =
-    split ∙ ap (λ r. done ++ lines_left r) next.is ∙ ap (λ l. done ++ l) next.first
-
 -- a line that asks for nothing, or for a command, is read
 pub read_line : (lines : List (List ℕ)) (rest more : Option (Bor (List ℕ)))
     (commands commands' : List Command) (number room room' : ℕ) (line : List ℕ)
@@ -85,7 +79,9 @@ read_line lines rest more commands commands' number room room' line before next 
     let size : bytes_left rest ≡ 1 + length next.text.now = ap bytes_left next.is in
     record {
       done = before.done ++ line ∷ [];
-      split = split_on lines before.done rest more line before.split next
+      split = before.split
+          ∙ ap (λ r. before.done ++ lines_left r) next.is
+          ∙ ap (λ l. before.done ++ l) next.first
           ∙ sym (append_assoc before.done (line ∷ []) (lines_left more));
       asked = asked;
       counted = omega (arith, before.counted, length-append before.done (line ∷ []));

@@ -38,7 +38,8 @@ plain_of word args =
     if bytes_eq word (codes "push") then make.Push (parts_in args).1 else
     if bytes_eq word (codes "push_str") then make.PushStr (parts_in args).2 else
     if bytes_eq word (codes "insert") then make.Insert (parts_in args).0 (parts_in args).1 else
-    if bytes_eq word (codes "insert_str") then make.InsertStr (parts_in args).0 (parts_in args).2 else
+    if bytes_eq word (codes "insert_str") then
+    make.InsertStr (parts_in args).0 (parts_in args).2 else
     if bytes_eq word (codes "truncate") then make.Truncate (parts_in args).0 else
     if bytes_eq word (codes "pop") then make.Pop else
     if bytes_eq word (codes "remove") then make.Remove (parts_in args).0 else

@@ -50,7 +50,8 @@ push_prints words input output {begun} {asked} {old} {new} {replies} named asks 
     known lines =
     let cs = Push 97 ∷ [] in
     let made = subst (λ b. IsMade b old) (one_start words begun start.Inline named known) made_so in
-    let same : map plain asked ≡ cs = asked_alike plain one_plain (lines_of input) asked cs asks lines in
+    let same : map plain asked ≡ cs =
+    asked_alike plain one_plain (lines_of input) asked cs asks lines in
     let legal = subst (λ l. LegalReplies old l replies) same
     (plain_legal old asked replies ran.legal) in
     shown
