@@ -38,12 +38,9 @@ insertion_is t u v p s = search (rules, cut_is)
 splice_from : (t u v : List ℕ) (p : ℕ) (o : Option (List ℕ × List ℕ)) → cut t p ≡ o
     → insertion u o ≡ becomes v → IsSplice t p u v
 splice_from t u v p None e h = cc
-splice_from t u v p (Some parts) e h = record {
-  front = parts.0;
-  back = parts.1;
-  cut = is_cut t p parts.0 parts.1 e;
-  joined = sym (ap (text_left t) h);
-}
+splice_from t u v p (Some parts) e h =
+    let cut = is_cut t p parts.0 parts.1 e in
+    record { front = parts.0; back = parts.1; cut = cut; joined = sym (ap (text_left t) h) }
 
 -- the clauses on insertions
 pub insert_splices : (t v : List ℕ) (p c : ℕ)
@@ -95,12 +92,8 @@ removal_between : (t v a b : List ℕ) (p c : ℕ) → cut t p ≡ Some (a, b)
 removal_between t v a [] p c e h = cc
 removal_between t v a (d ∷ b) p c e h =
     let same : d ≡ c = cc in
-    record {
-      front = a;
-      back = b;
-      cut = is_cut t p a (c ∷ b) (e ∙ ap (λ x. Some (a, x ∷ b)) same);
-      joined = sym (ap (text_left t) h);
-    }
+    let cut = is_cut t p a (c ∷ b) (e ∙ ap (λ x. Some (a, x ∷ b)) same) in
+    record { front = a; back = b; cut = cut; joined = sym (ap (text_left t) h) }
 
 removal_from : (t v : List ℕ) (p c : ℕ) (o : Option (List ℕ × List ℕ)) → cut t p ≡ o
     → removal o ≡ yields c v → IsRemoval t p c v
