@@ -92,14 +92,13 @@ first_of_one c rest (of4 a b d x l h f g k n e) single = absurd (omega (arith, s
 pub rowless : (bs : List ℕ) → 0 < length bs → 128 ≤ slice_index bs 0 → row bs ≡ []
     → (char_len bs ≡ 0) × (subpart_len bs ≡ 1)
 rowless bs some above none =
-    let alone = ap length none in (
-      len_of_none bs some (λ c rest b.
-          let f = fills bs c rest b in
-          let single : length (encode_utf8 c) ≡ 1 = omega (arith, f.0, alone) in
-          let first = first_of_one c rest (shape c (scalar_cases c b.scalar)) single in
-          omega (arith, first, ap (λ x. slice_index x 0) b.joined)),
-      subpart_at bs some ∙ ap (λ r. 1 + count_in r (drop 1 bs)) none,
-    )
+    let alone = ap length none in
+    let no = len_of_none bs some (λ c rest b.
+    let f = fills bs c rest b in
+    let single : length (encode_utf8 c) ≡ 1 = omega (arith, f.0, alone) in
+    let first = first_of_one c rest (shape c (scalar_cases c b.scalar)) single in
+    omega (arith, first, ap (λ x. slice_index x 0) b.joined)) in
+    (no, rw none at (subpart_at bs some))
 
 -- how many bytes follow the first byte a
 abbrev pub Follow : ℕ → ℕ → Type 0

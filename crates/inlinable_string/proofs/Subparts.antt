@@ -1,5 +1,5 @@
 -- Bytes read as text: characters, and the maximal subparts between them.
-use Rattle.inlinable_string.proofs.Common.{common_steps, ◌≡◌, ℕ, zero, suc, ◌+◌, ◌-◌, ◌<◌, ◌≤◌, true, false, Bool, cond, nat_eq, List, [], ◌∷◌, ◌++◌, length, take, drop, refl, ap, sym, ◌∙◌, arith, ⊎_elim, append-nil, append_assoc, length-append, take-append-drop, length-take, rules, encode_utf8, IsScalar, chars, IsUtf8, is_utf8, all_scalars, encode_utf8_all, cases_Bool, and_parts, cond-false, nat_tests, take_at, drop_at, IsUtf8-from_is_utf8, is_utf8-from_IsUtf8, IsUtf8-encode, IsUtf8-append, length-encode, len_utf8_bounds, encode_same, scalars-chars, encodes-chars, char_len, subpart_len, lossy_utf8_past, lossy_utf8}
+use Rattle.inlinable_string.proofs.Common.{common_steps, ◌≡◌, ℕ, zero, suc, ◌+◌, ◌-◌, ◌<◌, ◌≤◌, true, false, Bool, cond, List, [], ◌∷◌, ◌++◌, length, take, drop, refl, ap, sym, ◌∙◌, arith, append-nil, length-append, take-append-drop, length-take, rules, encode_utf8, IsScalar, chars, IsUtf8, is_utf8, all_scalars, encode_utf8_all, cases_Bool, and_parts, nat_tests, take_at, drop_at, IsUtf8-from_is_utf8, is_utf8-from_IsUtf8, IsUtf8-encode, IsUtf8-append, length-encode, len_utf8_bounds, encode_same, scalars-chars, encodes-chars, char_len, subpart_len, lossy_utf8_past, lossy_utf8}
 use Rattle.std.proofs.Math.Seq.{take-add}
 use Rattle.inlinable_string.proofs.Text.{popped-chars}
 use Rattle.inlinable_string.proofs.Window.{chars_one}
@@ -20,16 +20,12 @@ front : (bs : List ℕ) (k : ℕ) → 0 < length bs → 0 < k → is_utf8 (take 
     → (c : ℕ) × (rest : List ℕ) × Begins bs c rest × (length (encode_utf8 c) ≤ k)
 front bs k some pos h =
     let l = length-take k bs in
-    let f = first_of (take k bs) (omega (arith, l)) (IsUtf8-from_is_utf8 _ h) in (
-      f.0,
-      f.1 ++ drop k bs,
-      record {
-        scalar = f.2.scalar;
-        joined = sym (take-append-drop k bs)
-            ∙ ap (λ x. x ++ drop k bs) f.2.joined ∙ append_assoc (encode_utf8 f.0) f.1 (drop k bs);
-      },
-      omega (arith, l, ap length f.2.joined, length-append (encode_utf8 f.0) f.1),
-    )
+    let f = first_of (take k bs) (omega (arith, l)) (IsUtf8-from_is_utf8 _ h) in
+    let joined = f.2.joined in
+    let begins : Begins bs f.0 (f.1 ++ drop k bs) =
+    grind (arith, common_steps, f.2.scalar, joined, take-append-drop k bs) in
+    let short = length-append (encode_utf8 f.0) f.1 in
+    (f.0, f.1 ++ drop k bs, begins, omega (arith, l, ap length joined, short))
 
 positive : (c : ℕ) → 0 < length (encode_utf8 c)
 positive c = omega (arith, length-encode c, len_utf8_bounds c)
@@ -72,8 +68,7 @@ BeginsNone bs = (c : ℕ) (rest : List ℕ) → Begins bs c rest → ⊥
 pub len_of_none : (bs : List ℕ) → 0 < length bs → BeginsNone bs → char_len bs ≡ 0
 len_of_none bs some none =
     none_passed (λ k. is_utf8 (take k bs))
-    (λ k pos. ⊎_elim (λ h. let f = front bs k some pos h in absurd (none f.0 f.1 f.2)) (λ h. h)
-    (cases_Bool (is_utf8 (take k bs))))
+    (λ k pos. search (rules, front, none, cases_Bool, some, pos))
 
 -- to pass over bytes is to drop them
 past : (n : ℕ) (bs : List ℕ) → lossy_utf8_past n bs ≡ lossy_utf8 (drop n bs)
@@ -92,18 +87,11 @@ of_char [] c rest b h = absurd (omega arith)
 of_char (x ∷ bs) c rest b h =
     let n = length (encode_utf8 c) in
     let l : char_len (x ∷ bs) ≡ n = len_of_char _ c rest b in
-    let some : nat_eq (char_len (x ∷ bs)) 0 ≡ false = grind (arith, nat_tests, l, positive c) in
-    let whole : take (char_len (x ∷ bs)) (x ∷ bs) ≡ encode_utf8 c =
-    (λ i. take (l i) (b.joined i))
-    ∙ take_at (encode_utf8 c) rest n refl in
-    let left : drop (char_len (x ∷ bs)) (x ∷ bs) ≡ rest =
-    (λ i. drop (l i) (b.joined i))
-    ∙ drop_at (encode_utf8 c) rest n refl in
-    cond-false _ _ _ some
-    ∙ (λ i. chars (whole i) ++ past (char_len (x ∷ bs) - 1) bs i)
-    ∙ (λ i. chars_one c _ (IsUtf8-encode c b.scalar) refl i
-    ++ lossy_utf8 (one_less (char_len (x ∷ bs)) x bs (omega (arith, l, positive c)) i))
-    ∙ ap (λ r. c ∷ lossy_utf8 r) left
+    let whole = take_at (encode_utf8 c) rest n refl in
+    let left = drop_at (encode_utf8 c) rest n refl in
+    let code = chars_one c _ (IsUtf8-encode c b.scalar) refl in
+    let less = one_less n x bs (positive c) in
+    grind (arith, nat_tests, l, positive c, b.joined, whole, left, code, less, past (n - 1) bs)
 
 pub lossy_char : (c : ℕ) (rest : List ℕ) → IsScalar c
     → lossy_utf8 (encode_utf8 c ++ rest) ≡ c ∷ lossy_utf8 rest
