@@ -130,7 +130,8 @@ replacement_is t bs same well = search (rules, nat_tests, is_utf8-from_IsUtf8)
 ways : (t bs : List ℕ) → (length bs ≢ size t) ⊎ ((length bs ≡ size t) × ¬ (IsUtf8 bs))
     ⊎ ((length bs ≡ size t) × IsUtf8 bs)
 ways t bs =
-    grind (arith, nat_tests, cases_Bool (is_utf8 bs), IsUtf8-from_is_utf8 bs, is_utf8-from_IsUtf8 bs)
+    let test = cases_Bool (is_utf8 bs) in
+    grind (arith, nat_tests, test, IsUtf8-from_is_utf8 bs, is_utf8-from_IsUtf8 bs)
 
 -- a replacement that is carried out has the bytes
 replaced_from : (t v bs : List ℕ) → replacement t bs ≡ becomes v

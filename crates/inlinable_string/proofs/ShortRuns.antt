@@ -69,7 +69,8 @@ short_run s (c ∷ commands) (r ∷ replies) demotes inline within legal =
     let step = short_step s c r demotes inline within.0.0 within.0.1 legal.0 in
     let here : r ≢ NoMemory = not_refused s.text c r step.0 in
     let text = text_granted s.text c r here in
-    let next : StaysWithin s.policy.limit (text_after_step s.text c r) commands = rw text within.1 in
+    let next : StaysWithin s.policy.limit (text_after_step s.text c r) commands =
+    rw text within.1 in
     let rest = short_run (state_after_step s c r) commands replies demotes step.1 next legal.1 in
     (absent r replies here rest.0, rest.1)
 short_run s commands replies demotes inline within legal = absurd legal

@@ -133,7 +133,8 @@ codes_two a b l h p q ds none =
     let first : 192 + c / 64 ≡ a = omega (arith, r.0, r.1) in
     let second : 128 + c % 64 ≡ b = omega (arith, r.0, r.1) in
     let code = two c (omega (arith, r.0)) (omega (arith, r.1)) in
-    (c, [], is_scalar c (inl (omega (arith, r.1))), grind (arith, common_steps, code, first, second))
+    let scalar = is_scalar c (inl (omega (arith, r.1))) in
+    (c, [], scalar, grind (arith, common_steps, code, first, second))
 
 three_is : (a b d c : ℕ) → 224 ≤ a → a < 240 → least a ≤ b → b ≤ most a → 128 ≤ d → d ≤ 191
     → c + 925824 ≡ a * 4096 + b * 64 + d → (2048 ≤ c) × ((c < 55296) ⊎ (57344 ≤ c))

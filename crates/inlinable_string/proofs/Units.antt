@@ -285,7 +285,8 @@ pair_is_read h l v p q =
     let first : lossy_utf16_before (h ∷ l ∷ v) 2 ≡ surrogate_pair_char h l ∷ [] =
     rw (p, q, not_high, not_low) refl in
     read_behind (h ∷ l ∷ v) v _ (λ n. suc (suc n)) first
-    (λ n. ap (λ y. lossy_utf16_before (h ∷ l ∷ v) (suc (suc n)) ++ y) (behind_pair h l v n not_high))
+    (λ n. ap (λ y. lossy_utf16_before (h ∷ l ∷ v) (suc (suc n)) ++ y)
+    (behind_pair h l v n not_high))
     (length v)
 
 pair_of : (c : ℕ) → 0x1_0000 ≤ c

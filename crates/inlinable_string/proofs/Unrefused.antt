@@ -61,7 +61,8 @@ short_replies_are_legal s (c ∷ commands) demotes inline small within =
     let step = short_step s c r demotes inline within.0.0 within.0.1 legal in
     let text : text_after_step s.text c r ≡ text_left s.text (edit s.text c) =
     text_granted s.text c r (never_refused (edit s.text c)) in
-    let next : StaysWithin s.policy.limit (text_after_step s.text c r) commands = rw text within.1 in
+    let next : StaysWithin s.policy.limit (text_after_step s.text c r) commands =
+    rw text within.1 in
     let rest =
     short_replies_are_legal (state_after_step s c r) commands demotes step.1 small next in
     let same = ap (λ t. replies_of t commands) text in
