@@ -1,5 +1,5 @@
 -- Texts of which ASCII alone is changed, byte by byte.
-use Rattle.inlinable_string.proofs.Common.{common_steps, ◌≡◌, ℕ, ◌<◌, ◌≤◌, true, List, [], ◌∷◌, length, map, get_or, suc, refl, sym, ap, ◌∙◌, arith, append-nil, map-append, ⊎_elim, cases_lt, encode_utf8, all_scalars, IsUtf8, scalars-chars, chars, length-map, bytes_of, size}
+use Rattle.inlinable_string.proofs.Common.{common_steps, ◌≡◌, ℕ, ◌<◌, ◌≤◌, true, List, [], ◌∷◌, length, map, get_or, suc, refl, sym, ap, ◌∙◌, arith, map-append, cases_lt, encode_utf8, all_scalars, IsUtf8, scalars-chars, chars, length-map, bytes_of, size}
 use Rattle.std.specs.Char.{to_ascii_lowercase, to_ascii_uppercase}
 use Rattle.std.proofs.lemmas.Str.{encode_ascii, inside_one}
 use Rattle.std.proofs.lemmas.Str.Ascii.{lowercase_ascii, lowercase_is, uppercase_ascii, uppercase_is}
@@ -7,13 +7,7 @@ use Rattle.inlinable_string.proofs.Text.{Holds, holds, bytes_are}
 
 -- a character past ASCII has no byte of ASCII
 past_ascii : (c k : ℕ) → 128 ≤ c → k < length (encode_utf8 c) → 128 ≤ get_or (encode_utf8 c) k 0
-past_ascii c k high within =
-    ⊎_elim
-    (λ low.
-    let one = inside_one c [] _ k (sym (append-nil (encode_utf8 c))) within low in
-    absurd (omega (arith, one)))
-    (λ past. past)
-    (cases_lt (get_or (encode_utf8 c) k 0) 128)
+past_ascii c k high within = grind (arith, common_steps, inside_one c [] (encode_utf8 c) k)
 
 -- f changes ASCII to ASCII, and nothing else
 module _ (f : ℕ → ℕ) (low : (b : ℕ) → b < 128 → f b < 128)

@@ -131,11 +131,8 @@ pub matched_paired : (v : List ℕ) (n : ℕ) → n ≡ length v → mismatches_
 matched_paired v n e none last =
     let past : is_low_at v n ≡ false = ap is_low_surrogate (get_or_past v n 0 (omega arith)) in
     let same = λ (i : ℕ) (h : i < n + 1).
-    ⊎_elim
-    (λ (below : i < n). all_match v n none i below)
-    (λ (at : n ≤ i). let here : n ≡ i = omega arith in
-    subst (λ k. is_high_before v k ≡ is_low_at v k) here (last ∙ sym past))
-    (cases_lt i n) in
+    let is : is_high_before v i ≡ is_low_at v i =
+    grind (arith, all_match v n none i, last, past) in is in
     none_unpaired v (λ i h.
     paired_bools (is_high_at v i) (is_low_at v (i + 1)) (is_low_at v i) (is_high_before v i)
     (sym (before_next v i) ∙ same (i + 1) (omega arith)) (same i (omega arith)))

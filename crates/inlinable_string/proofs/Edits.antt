@@ -1,5 +1,5 @@
 -- What `edit` answers, against the relations of texts.
-use Rattle.inlinable_string.proofs.Common.{cases_Bool, common_steps, ◌≡◌, ◌≢◌, ◌↔◌, ℕ, ◌+◌, inl, inr, ◌⊎◌, List, [], ◌∷◌, ◌++◌, length, refl, sym, ap, ◌∙◌, arith, Bor, Option, Some, None, nat_eq, rules, nat_tests, encodes-chars, chars_from_encodes, is_utf8-from_IsUtf8, IsUtf8-from_is_utf8, chars, IsUtf8, is_utf8, bytes_of, size, cut, IsCut, IsPlace, IsSplice, IsRemoval, Outcome, becomes, yields, is_not_utf8, has_wrong_length, reply_of, text_left, edit, insertion, split_last, with_char_in_front, pop_result, removal_behind, removal, replacement, text_after_step, Command, Push, PushStr, Insert, InsertStr, Pop, Remove, ReplaceBytes, Reply, Done, NoChar, NotUtf8, WrongLength, NoMemory}
+use Rattle.inlinable_string.proofs.Common.{cases_Bool, common_steps, ◌≡◌, ◌≢◌, ◌↔◌, ℕ, ◌+◌, ◌⊎◌, List, [], ◌∷◌, ◌++◌, length, refl, sym, ap, ◌∙◌, arith, Bor, Option, Some, None, rules, nat_tests, encodes-chars, chars_from_encodes, is_utf8-from_IsUtf8, IsUtf8-from_is_utf8, chars, IsUtf8, is_utf8, bytes_of, size, cut, IsCut, IsPlace, IsSplice, IsRemoval, Outcome, becomes, yields, is_not_utf8, has_wrong_length, reply_of, text_left, edit, insertion, split_last, with_char_in_front, pop_result, removal_behind, removal, replacement, text_after_step, Command, Push, PushStr, Insert, InsertStr, Pop, Remove, ReplaceBytes, Reply, Done, NoChar, NotUtf8, WrongLength, NoMemory}
 use Rattle.inlinable_string.proofs.Text.{size-append}
 use Rattle.inlinable_string.proofs.Cut.{cut_is, is_cut, no_cut, split_last-append}
 
@@ -38,12 +38,9 @@ insertion_is t u v p s = search (rules, cut_is)
 splice_from : (t u v : List ℕ) (p : ℕ) (o : Option (List ℕ × List ℕ)) → cut t p ≡ o
     → insertion u o ≡ becomes v → IsSplice t p u v
 splice_from t u v p None e h = cc
-splice_from t u v p (Some parts) e h = record {
-  front = parts.0;
-  back = parts.1;
-  cut = is_cut t p parts.0 parts.1 e;
-  joined = sym (ap (text_left t) h);
-}
+splice_from t u v p (Some parts) e h =
+    let cut = is_cut t p parts.0 parts.1 e in
+    record { front = parts.0; back = parts.1; cut = cut; joined = sym (ap (text_left t) h) }
 
 -- the clauses on insertions
 pub insert_splices : (t v : List ℕ) (p c : ℕ)
@@ -95,12 +92,8 @@ removal_between : (t v a b : List ℕ) (p c : ℕ) → cut t p ≡ Some (a, b)
 removal_between t v a [] p c e h = cc
 removal_between t v a (d ∷ b) p c e h =
     let same : d ≡ c = cc in
-    record {
-      front = a;
-      back = b;
-      cut = is_cut t p a (c ∷ b) (e ∙ ap (λ x. Some (a, x ∷ b)) same);
-      joined = sym (ap (text_left t) h);
-    }
+    let cut = is_cut t p a (c ∷ b) (e ∙ ap (λ x. Some (a, x ∷ b)) same) in
+    record { front = a; back = b; cut = cut; joined = sym (ap (text_left t) h) }
 
 removal_from : (t v : List ℕ) (p c : ℕ) (o : Option (List ℕ × List ℕ)) → cut t p ≡ o
     → removal o ≡ yields c v → IsRemoval t p c v
@@ -136,26 +129,15 @@ replacement_is t bs same well = search (rules, nat_tests, is_utf8-from_IsUtf8)
 -- the three ways of a replacement
 ways : (t bs : List ℕ) → (length bs ≢ size t) ⊎ ((length bs ≡ size t) × ¬ (IsUtf8 bs))
     ⊎ ((length bs ≡ size t) × IsUtf8 bs)
-ways t bs = elim (cases_Bool (nat_eq (length bs) (size t))) [
-  | inl long ↦
-      let same : length bs ≡ size t = grind (arith, nat_tests) in
-      elim (cases_Bool (is_utf8 bs)) [
-        | inl well ↦ inr (inr (same, IsUtf8-from_is_utf8 bs well))
-        | inr ill ↦ inr (inl (same, λ well. let test = is_utf8-from_IsUtf8 bs well in cc))
-      ]
-  | inr other ↦ inl (grind (arith, nat_tests))
-]
+ways t bs =
+    let test = cases_Bool (is_utf8 bs) in
+    grind (arith, nat_tests, test, IsUtf8-from_is_utf8 bs, is_utf8-from_IsUtf8 bs)
 
 -- a replacement that is carried out has the bytes
 replaced_from : (t v bs : List ℕ) → replacement t bs ≡ becomes v
     → (length bs ≡ size t) × IsUtf8 bs × (bytes_of v ≡ bs)
-replaced_from t v bs h = elim (ways t bs) [
-  | inl other ↦ cc (wrong_length t bs other)
-  | inr (inl ill) ↦ cc (not_utf8 t bs ill.0 ill.1)
-  | inr (inr well) ↦
-      let now : v ≡ chars bs = ap (text_left t) (sym h ∙ replacement_is t bs well.0 well.1) in
-      (well.0, well.1, ap bytes_of now ∙ encodes-chars bs well.1)
-]
+replaced_from t v bs h =
+    grind (arith, common_steps, ways t bs, wrong_length, not_utf8, replacement_is, encodes-chars)
 
 -- the clauses on `ReplaceBytes`
 pub replaced_with : (t v : List ℕ) (b : Bor (List ℕ)) → (edit t (ReplaceBytes b) ≡ becomes v)

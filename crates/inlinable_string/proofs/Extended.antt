@@ -79,12 +79,8 @@ module _ {A S : Type 0} (text_of : List A → List ℕ) (gives : S → Option A 
   pub finished : (new : TextState) → Grown old (text_of items) new → gives here None rest
       → WholeRun gives it (λ run. IsExtended old (text_of run.items) new)
   finished new g step =
-      let run = run_of_exit gives it items here (rw from at led) rest step in (
-        run.0,
-        run.1,
-        run.2,
-        subst (λ taken. IsExtended old (text_of taken) new) (sym run.3.0) g.extended,
-      )
+      let run = run_of_exit gives it items here (rw from at led) rest step in
+      (run.0, run.1, run.2, rw run.3.0 g.extended)
 
   -- the refusal of x, which came after these items
   pub stopped : {T E : Type 0} (r : Result T E) → IsErr r → (mid new : TextState) (x : A)

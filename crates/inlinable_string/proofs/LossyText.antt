@@ -67,11 +67,9 @@ fault_room bs rest made end so room none some =
 pub run_written : (bs rest made new : List ℕ) (end k : ℕ) → Written bs rest made end
     → IsUtf8 (take k rest) → end + k ≤ length new
     → take (end + k) new ≡ take end made ++ take k rest → Written bs (drop k rest) new (end + k)
-run_written bs rest made new end k so u within front = record {
-  within = within;
-  utf8 = subst IsUtf8 (sym front) (IsUtf8-append _ _ so.utf8 u);
-  text = grind (arith, common_steps, chars-append, run_read);
-}
+run_written bs rest made new end k so u within front =
+    let both = chars-append (take end made) (take k rest) so.utf8 in
+    grind (arith, common_steps, both, run_read rest k u, IsUtf8-append _ _ so.utf8 u)
 
 -- a maximal subpart more
 pub fault_written : (bs rest made new : List ℕ) (end k : ℕ) → Written bs rest made end

@@ -1,5 +1,5 @@
 -- A text with one of its ranges replaced.
-use Rattle.inlinable_string.proofs.Common.{common_steps, rules, Result, Ok, Err, IsOk, OnErr, ◌≡◌, ℕ, ◌+◌, ◌-◌, ◌≤◌, ◌<◌, true, List, [], ◌∷◌, ◌++◌, length, take, drop, refl, sym, ap, ◌∙◌, arith, subst, length-append, length-take-le, take_at, drop_at, encode_utf8, encodes-append, encodes-chars, chars, chars-append, IsUtf8, IsUtf8-take, IsUtf8-append, insert_slice, remove_range, bytes_of, size, IsCut, IsPlace, IsSplice}
+use Rattle.inlinable_string.proofs.Common.{common_steps, rules, Result, Ok, Err, IsOk, OnErr, ◌≡◌, ℕ, ◌+◌, ◌-◌, ◌≤◌, ◌<◌, true, List, [], ◌∷◌, ◌++◌, length, take, drop, refl, ap, ◌∙◌, arith, subst, length-take-le, take_at, drop_at, encodes-append, encodes-chars, chars, chars-append, IsUtf8, IsUtf8-take, IsUtf8-append, insert_slice, remove_range, bytes_of, size, IsCut, IsPlace, IsSplice}
 use Rattle.std.proofs.lemmas.Str.{IsUtf8-drop}
 use Rattle.std.specs.Char.{is_ascii}
 use Rattle.std.specs.List.{list_all, replace_range}
@@ -14,13 +14,9 @@ nested [] b c d e le = (c, refl, e)
 nested (x ∷ a) b [] d e le =
     let none : x ∷ a ≡ [] = nil_from_size (x ∷ a) (omega (arith, le)) in cc
 nested (x ∷ a) b (y ∷ c) d e le =
-    let same : x ≡ y = cc in
-    let rest : a ++ b ≡ c ++ d = cc in
-    let first = ap (λ z. length (encode_utf8 z)) same in
-    let left = length-append (encode_utf8 x) (bytes_of a) in
-    let right = length-append (encode_utf8 y) (bytes_of c) in
-    let m = nested a b c d rest (omega (arith, le, first, left, right)) in
-    (m.0, ap (λ l. y ∷ l) m.1 ∙ ap (λ z. z ∷ (a ++ m.0)) (sym same), m.2)
+    let shorter : size a ≤ size c = grind (arith, common_steps, size-append) in
+    let m = nested a b c d (cc) shorter in
+    (m.0, cc, m.2)
 
 -- what stands between two cuts replaced
 replaced_between : {t u v a b c d : List ℕ} {p q : ℕ} → IsCut t p a b → IsCut t q c d → p ≤ q

@@ -1,5 +1,5 @@
 -- What the refusals of a run decide, and what they leave.
-use Rattle.inlinable_string.proofs.Common.{common_steps, ◌≡◌, ◌≢◌, List, [], ◌∷◌, map, refl, ap, ◌∙◌, arith, TextState, text_after_step, storage_after_step, state_after_step, storage_after, IsLegal, LegalReplies, is_refusal, Command, Reply, Done}
+use Rattle.inlinable_string.proofs.Common.{common_steps, ◌≡◌, ◌≢◌, List, [], ◌∷◌, map, refl, ap, arith, TextState, text_after_step, storage_after_step, state_after_step, storage_after, IsLegal, LegalReplies, is_refusal, Command, Reply, Done}
 
 -- a reply is known from its text and its mark
 same_reply : (s t : TextState) (command : Command) (r o : Reply) → s.text ≡ t.text
@@ -15,15 +15,12 @@ same_replies s t [] [] [] text a b marks = refl
 same_replies s t [] [] (o ∷ others) text a b marks = absurd b
 same_replies s t (c ∷ commands) (r ∷ replies) [] text a b marks = absurd b
 same_replies s t (c ∷ commands) (r ∷ replies) (o ∷ others) text a b marks =
-    let mark : is_refusal r ≡ is_refusal o = cc in
+    let here : r ≡ o = same_reply s t c r o text a.0 b.0 (cc) in
     let rest : map is_refusal replies ≡ map is_refusal others = cc in
-    let here : r ≡ o = same_reply s t c r o text a.0 b.0 mark in
-    let next : text_after_step s.text c r ≡ text_after_step t.text c o =
-    ap (λ u. text_after_step u c r) text ∙ ap (text_after_step t.text c) here in
-    let there : replies ≡ others =
-    same_replies (state_after_step s c r)
-    (state_after_step t c o) commands replies others next a.1 b.1 rest in
-    ap (λ x. x ∷ replies) here ∙ ap (λ l. o ∷ l) there
+    let next : text_after_step s.text c r ≡ text_after_step t.text c o = rw (text, here) refl in
+    let there = same_replies (state_after_step s c r) (state_after_step t c o) commands replies
+    others next a.1 b.1 rest in
+    λ i. here i ∷ there i
 same_replies s t commands replies others text a b marks = absurd a
 
 -- the storage after a step does not depend on the capacity

@@ -1,5 +1,5 @@
 -- Runs that stay within the inline room: no memory can be refused to them.
-use Rattle.inlinable_string.proofs.Common.{common_steps, ◌≡◌, ◌≢◌, ℕ, ◌+◌, ◌≤◌, inl, inr, ◌⊎◌, true, List, [], ◌∷◌, refl, sym, ap, ◌∙◌, arith, subst, Contains, rules, size, TextState, IsLawful, edit, reply_of, text_left, text_after_step, Need, at_end, anywhere, reserved, tight, no_room, need_of, storage_when_met, storage_after_step, state_after_step, storage_after, IsMet, IsLegal, LegalReplies, ReservesWithin, StaysWithin, Inline, Command, Push, PushStr, Insert, InsertStr, ShrinkToFit, Reply, Done, NoMemory}
+use Rattle.inlinable_string.proofs.Common.{common_steps, ◌≡◌, ◌≢◌, ℕ, ◌+◌, ◌≤◌, inl, inr, ◌⊎◌, true, List, [], ◌∷◌, refl, sym, ap, ◌∙◌, arith, Contains, rules, size, TextState, IsLawful, edit, reply_of, text_left, text_after_step, Need, at_end, anywhere, reserved, tight, no_room, need_of, storage_when_met, storage_after_step, state_after_step, storage_after, IsMet, IsLegal, LegalReplies, ReservesWithin, StaysWithin, Inline, Command, Push, PushStr, Insert, InsertStr, ShrinkToFit, Reply, Done, NoMemory}
 use Rattle.inlinable_string.proofs.Edits.{push_grows, push_str_grows, insert_grows, insert_str_grows, text_granted}
 use Rattle.inlinable_string.proofs.RefusalsDecide.{storage_kept}
 use Rattle.inlinable_string.proofs.FreeCommands.{granted, not_refused, absent, absent_nil}
@@ -68,9 +68,9 @@ short_run s [] [] demotes inline within legal = (absent_nil, inline)
 short_run s (c ∷ commands) (r ∷ replies) demotes inline within legal =
     let step = short_step s c r demotes inline within.0.0 within.0.1 legal.0 in
     let here : r ≢ NoMemory = not_refused s.text c r step.0 in
+    let text = text_granted s.text c r here in
     let next : StaysWithin s.policy.limit (text_after_step s.text c r) commands =
-    subst (λ t. StaysWithin s.policy.limit t commands)
-    (sym (text_granted s.text c r here)) within.1 in
+    rw text within.1 in
     let rest = short_run (state_after_step s c r) commands replies demotes step.1 next legal.1 in
     (absent r replies here rest.0, rest.1)
 short_run s commands replies demotes inline within legal = absurd legal

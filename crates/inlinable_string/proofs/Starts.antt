@@ -92,59 +92,32 @@ first_of_one c rest (of4 a b d x l h f g k n e) single = absurd (omega (arith, s
 pub rowless : (bs : List ℕ) → 0 < length bs → 128 ≤ slice_index bs 0 → row bs ≡ []
     → (char_len bs ≡ 0) × (subpart_len bs ≡ 1)
 rowless bs some above none =
-    let alone = ap length none in (
-      len_of_none bs some (λ c rest b.
-          let f = fills bs c rest b in
-          let single : length (encode_utf8 c) ≡ 1 = omega (arith, f.0, alone) in
-          let first = first_of_one c rest (shape c (scalar_cases c b.scalar)) single in
-          omega (arith, first, ap (λ x. slice_index x 0) b.joined)),
-      subpart_at bs some ∙ ap (λ r. 1 + count_in r (drop 1 bs)) none,
-    )
+    let alone = ap length none in
+    let no = len_of_none bs some (λ c rest b.
+    let f = fills bs c rest b in
+    let single : length (encode_utf8 c) ≡ 1 = omega (arith, f.0, alone) in
+    let first = first_of_one c rest (shape c (scalar_cases c b.scalar)) single in
+    omega (arith, first, ap (λ x. slice_index x 0) b.joined)) in
+    (no, rw none at (subpart_at bs some))
+
+-- how many bytes follow the first byte a
+abbrev pub Follow : ℕ → ℕ → Type 0
+Follow a m =
+    (a < 224 → m ≡ 1) × (224 ≤ a → 2 ≤ m) × (a < 240 → m ≤ 2) × (240 ≤ a → m ≡ 3)
 
 -- the row of a byte that begins a character of more: the range of the second, and k more after it
 record HasRow (a : ℕ) : Type 0 where
   range : ℕ × ℕ
   k : ℕ
   is : following a ≡ range ∷ replicate k (0x80, 0xBF)
-  two : a < 224 → k ≡ 0
-  more : 224 ≤ a → 1 ≤ k
-  three : a < 240 → k ≤ 1
-  four : 240 ≤ a → k ≡ 2
-
-row_is_two : (a : ℕ) → 194 ≤ a → a < 224 → HasRow a
-row_is_two a from below = record {
-  range = _;
-  k = 0;
-  is = row_two a from below;
-  two = λ h. refl;
-  more = λ h. absurd (omega arith);
-  three = λ h. omega arith;
-  four = λ h. absurd (omega arith);
-}
+  many : Follow a (1 + k)
 
 row_is : (a : ℕ) → 194 ≤ a → a ≤ 244 → HasRow a
 row_is a from to =
-    ⊎_elim
-    (row_is_two a from)
+    ⊎_elim (λ less. record { range = _; k = 0; is = row_two a from less; many = grind arith })
     (λ above. ⊎_elim
-    (λ below. record {
-      range = _;
-      k = 1;
-      is = row_three a above below;
-      two = λ h. absurd (omega arith);
-      more = λ h. omega arith;
-      three = λ h. omega arith;
-      four = λ h. absurd (omega arith);
-    })
-    (λ most. record {
-      range = _;
-      k = 2;
-      is = row_four a most (omega arith);
-      two = λ h. absurd (omega arith);
-      more = λ h. omega arith;
-      three = λ h. absurd (omega arith);
-      four = λ h. refl;
-    })
+    (λ below. record { range = _; k = 1; is = row_three a above below; many = grind arith })
+    (λ most. record { range = _; k = 2; is = row_four a most (omega arith); many = grind arith })
     (cases_lt a 240)) (cases_lt a 224)
 
 -- the n bytes after the first are in the row, and these ranges of it are left
@@ -173,11 +146,7 @@ further bs n r left so inside =
     let sum : 1 + n + 1 ≡ 1 + (1 + n) = omega arith in
     let next = drop-drop 1 (1 + n) bs ∙ ap (λ k. drop k bs) sum in
     let one = one_in r left (drop (1 + n) bs) inside ∙ ap (λ x. 1 + count_in left x) next in
-    record {
-      some = so.some;
-      count = omega (arith, so.count, one);
-      long = omega (arith, so.long);
-    }
+    record { some = so.some; count = omega (arith, so.count, one); long = omega (arith, so.long) }
 
 -- it is not, and the subpart ends before it
 ended : (bs : List ℕ) (n : ℕ) (r : ℕ × ℕ) (left : List (ℕ × ℕ)) → Reached bs n (r ∷ left)
@@ -188,10 +157,7 @@ ended bs n r left so outside = grind (arith, common_steps, not_in, subpart_at, u
 pub record InRow (bs : List ℕ) (n : ℕ) : Type 0 where
   pub k : ℕ
   pub reached : Reached bs n (replicate k (0x80, 0xBF))
-  pub two : slice_index bs 0 < 224 → n + k ≡ 1
-  pub more : 224 ≤ slice_index bs 0 → 2 ≤ n + k
-  pub three : slice_index bs 0 < 240 → n + k ≤ 2
-  pub four : 240 ≤ slice_index bs 0 → n + k ≡ 3
+  pub many : Follow (slice_index bs 0) (n + k)
 
 -- the second byte is in its range
 pub second : (bs : List ℕ) → 0 < length bs → 194 ≤ slice_index bs 0 → slice_index bs 0 ≤ 244
@@ -200,14 +166,8 @@ pub second : (bs : List ℕ) → 0 < length bs → 194 ≤ slice_index bs 0 → 
 second bs some from to inside =
     let has = row_is (slice_index bs 0) from to in
     let one = ap (λ r. count_in (take 1 r) (drop 1 bs)) (sym has.is) ∙ inside from to in
-    record {
-      k = has.k;
-      reached = further bs 0 has.range _ (at_first bs _ some has.is) one;
-      two = λ h. omega (arith, has.two h);
-      more = λ h. omega (arith, has.more h);
-      three = λ h. omega (arith, has.three h);
-      four = λ h. omega (arith, has.four h);
-    }
+    let reached = further bs 0 has.range _ (at_first bs _ some has.is) one in
+    record { k = has.k; reached = reached; many = has.many }
 
 -- it is not
 pub no_second : (bs : List ℕ) → 0 < length bs → 194 ≤ slice_index bs 0 → slice_index bs 0 ≤ 244
@@ -224,14 +184,9 @@ pub next : (bs : List ℕ) (n : ℕ) → (so : InRow bs n) → 0 < so.k
 next bs n so more inside =
     let less : so.k ≡ suc (so.k - 1) = omega arith in
     let left = subst (λ k. Reached bs n (replicate k (0x80, 0xBF))) less so.reached in
-    record {
-      k = so.k - 1;
-      reached = further bs n _ _ left inside;
-      two = λ h. omega (arith, so.two h);
-      more = λ h. omega (arith, so.more h);
-      three = λ h. omega (arith, so.three h);
-      four = λ h. omega (arith, so.four h);
-    }
+    let sum : n + so.k ≡ 1 + n + (so.k - 1) = omega arith in
+    let many = subst (Follow (slice_index bs 0)) sum so.many in
+    record { k = so.k - 1; reached = further bs n _ _ left inside; many = many }
 
 -- it is not
 pub no_next : (bs : List ℕ) (n : ℕ) → (so : InRow bs n) → 0 < so.k

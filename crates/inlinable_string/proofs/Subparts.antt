@@ -1,5 +1,5 @@
 -- Bytes read as text: characters, and the maximal subparts between them.
-use Rattle.inlinable_string.proofs.Common.{common_steps, ◌≡◌, ℕ, zero, suc, ◌+◌, ◌-◌, ◌<◌, ◌≤◌, true, false, Bool, cond, nat_eq, List, [], ◌∷◌, ◌++◌, length, take, drop, refl, ap, sym, ◌∙◌, arith, subst, ⊎_elim, append-nil, append_assoc, length-append, take-append-drop, length-take, rules, encode_utf8, IsScalar, chars, IsUtf8, is_utf8, all_scalars, encode_utf8_all, cases_Bool, and_parts, cond-false, nat_tests, take_at, drop_at, IsUtf8-from_is_utf8, is_utf8-from_IsUtf8, IsUtf8-encode, IsUtf8-append, length-encode, len_utf8_bounds, encode_same, scalars-chars, encodes-chars, char_len, subpart_len, lossy_utf8_past, lossy_utf8}
+use Rattle.inlinable_string.proofs.Common.{common_steps, ◌≡◌, ℕ, zero, suc, ◌+◌, ◌-◌, ◌<◌, ◌≤◌, true, false, Bool, cond, List, [], ◌∷◌, ◌++◌, length, take, drop, refl, ap, sym, ◌∙◌, arith, append-nil, length-append, take-append-drop, length-take, rules, encode_utf8, IsScalar, chars, IsUtf8, is_utf8, all_scalars, encode_utf8_all, cases_Bool, and_parts, nat_tests, take_at, drop_at, IsUtf8-from_is_utf8, is_utf8-from_IsUtf8, IsUtf8-encode, IsUtf8-append, length-encode, len_utf8_bounds, encode_same, scalars-chars, encodes-chars, char_len, subpart_len, lossy_utf8_past, lossy_utf8}
 use Rattle.std.proofs.Math.Seq.{take-add}
 use Rattle.inlinable_string.proofs.Text.{popped-chars}
 use Rattle.inlinable_string.proofs.Window.{chars_one}
@@ -20,16 +20,12 @@ front : (bs : List ℕ) (k : ℕ) → 0 < length bs → 0 < k → is_utf8 (take 
     → (c : ℕ) × (rest : List ℕ) × Begins bs c rest × (length (encode_utf8 c) ≤ k)
 front bs k some pos h =
     let l = length-take k bs in
-    let f = first_of (take k bs) (omega (arith, l)) (IsUtf8-from_is_utf8 _ h) in (
-      f.0,
-      f.1 ++ drop k bs,
-      record {
-        scalar = f.2.scalar;
-        joined = sym (take-append-drop k bs)
-            ∙ ap (λ x. x ++ drop k bs) f.2.joined ∙ append_assoc (encode_utf8 f.0) f.1 (drop k bs);
-      },
-      omega (arith, l, ap length f.2.joined, length-append (encode_utf8 f.0) f.1),
-    )
+    let f = first_of (take k bs) (omega (arith, l)) (IsUtf8-from_is_utf8 _ h) in
+    let joined = f.2.joined in
+    let begins : Begins bs f.0 (f.1 ++ drop k bs) =
+    grind (arith, common_steps, f.2.scalar, joined, take-append-drop k bs) in
+    let short = length-append (encode_utf8 f.0) f.1 in
+    (f.0, f.1 ++ drop k bs, begins, omega (arith, l, ap length joined, short))
 
 positive : (c : ℕ) → 0 < length (encode_utf8 c)
 positive c = omega (arith, length-encode c, len_utf8_bounds c)
@@ -60,14 +56,10 @@ pub len_of_char : (bs : List ℕ) (c : ℕ) (rest : List ℕ) → Begins bs c re
     → char_len bs ≡ length (encode_utf8 c)
 len_of_char bs c rest b =
     let n = length (encode_utf8 c) in
-    let whole : take n bs ≡ encode_utf8 c =
-    ap (take n) b.joined
-    ∙ take_at (encode_utf8 c) rest n refl in
-    let utf8 : is_utf8 (take n bs) ≡ true =
-    ap is_utf8 whole
-    ∙ is_utf8-from_IsUtf8 _ (IsUtf8-encode c b.scalar) in
+    let whole : take n bs ≡ encode_utf8 c = rw b.joined (take_at (encode_utf8 c) rest n refl) in
     passed (λ k. is_utf8 (take k bs)) n (positive c)
-    (omega (arith, length-encode c, len_utf8_bounds c)) utf8 (shorter bs c rest b)
+    (omega (arith, length-encode c, len_utf8_bounds c))
+    (rw whole (is_utf8-from_IsUtf8 _ (IsUtf8-encode c b.scalar))) (shorter bs c rest b)
 
 -- no character begins the bytes
 abbrev pub BeginsNone : List ℕ → Type 0
@@ -76,8 +68,7 @@ BeginsNone bs = (c : ℕ) (rest : List ℕ) → Begins bs c rest → ⊥
 pub len_of_none : (bs : List ℕ) → 0 < length bs → BeginsNone bs → char_len bs ≡ 0
 len_of_none bs some none =
     none_passed (λ k. is_utf8 (take k bs))
-    (λ k pos. ⊎_elim (λ h. let f = front bs k some pos h in absurd (none f.0 f.1 f.2)) (λ h. h)
-    (cases_Bool (is_utf8 (take k bs))))
+    (λ k pos. search (rules, front, none, cases_Bool, some, pos))
 
 -- to pass over bytes is to drop them
 past : (n : ℕ) (bs : List ℕ) → lossy_utf8_past n bs ≡ lossy_utf8 (drop n bs)
@@ -96,18 +87,11 @@ of_char [] c rest b h = absurd (omega arith)
 of_char (x ∷ bs) c rest b h =
     let n = length (encode_utf8 c) in
     let l : char_len (x ∷ bs) ≡ n = len_of_char _ c rest b in
-    let some : nat_eq (char_len (x ∷ bs)) 0 ≡ false = grind (arith, nat_tests, l, positive c) in
-    let whole : take (char_len (x ∷ bs)) (x ∷ bs) ≡ encode_utf8 c =
-    (λ i. take (l i) (b.joined i))
-    ∙ take_at (encode_utf8 c) rest n refl in
-    let left : drop (char_len (x ∷ bs)) (x ∷ bs) ≡ rest =
-    (λ i. drop (l i) (b.joined i))
-    ∙ drop_at (encode_utf8 c) rest n refl in
-    cond-false _ _ _ some
-    ∙ (λ i. chars (whole i) ++ past (char_len (x ∷ bs) - 1) bs i)
-    ∙ (λ i. chars_one c _ (IsUtf8-encode c b.scalar) refl i
-    ++ lossy_utf8 (one_less (char_len (x ∷ bs)) x bs (omega (arith, l, positive c)) i))
-    ∙ ap (λ r. c ∷ lossy_utf8 r) left
+    let whole = take_at (encode_utf8 c) rest n refl in
+    let left = drop_at (encode_utf8 c) rest n refl in
+    let code = chars_one c _ (IsUtf8-encode c b.scalar) refl in
+    let less = one_less n x bs (positive c) in
+    grind (arith, nat_tests, l, positive c, b.joined, whole, left, code, less, past (n - 1) bs)
 
 pub lossy_char : (c : ℕ) (rest : List ℕ) → IsScalar c
     → lossy_utf8 (encode_utf8 c ++ rest) ≡ c ∷ lossy_utf8 rest
@@ -116,10 +100,7 @@ lossy_char c rest s = search (rules, of_char, nonempty)
 lossy_front : (cs rest : List ℕ) → all_scalars cs ≡ true
     → lossy_utf8 (encode_utf8_all cs ++ rest) ≡ cs ++ lossy_utf8 rest
 lossy_front [] rest s = refl
-lossy_front (c ∷ cs) rest s =
-    let p = and_parts _ _ s in
-    ap lossy_utf8 (append_assoc (encode_utf8 c) (encode_utf8_all cs) rest)
-    ∙ lossy_char c (encode_utf8_all cs ++ rest) p.0 ∙ ap (λ l. c ∷ l) (lossy_front cs rest p.1)
+lossy_front (c ∷ cs) rest s = grind (arith, common_steps, lossy_char, lossy_front cs rest)
 
 -- UTF-8 at the front is read as the text that it is
 pub lossy_valid : (valid rest : List ℕ) → IsUtf8 valid
@@ -145,10 +126,8 @@ lossy_fault bs h none = no_char bs h (len_of_none bs h none)
 pub one_more : (bs : List ℕ) (n k : ℕ) → IsUtf8 (take n bs) → char_len (drop n bs) ≡ k → 0 < k
     → IsUtf8 (take (n + k) bs)
 one_more bs n k u is some =
-    let more : is_utf8 (take k (drop n bs)) ≡ true =
-    ap (λ l. is_utf8 (take l (drop n bs))) (sym is)
-    ∙ first_passes (λ l. is_utf8 (take l (drop n bs))) (omega (arith, is)) in
-    subst IsUtf8 (sym (take-add n k bs)) (IsUtf8-append _ _ u (IsUtf8-from_is_utf8 _ more))
+    let more = first_passes (λ l. is_utf8 (take l (drop n bs))) (omega (arith, is)) in
+    rw (take-add, ← is) (IsUtf8-append _ _ u (IsUtf8-from_is_utf8 _ more))
 
 -- the characters of bytes that end with the three of U+FFFD
 pub replaced-chars : (old new : List ℕ) → IsUtf8 old → IsUtf8 new

@@ -132,12 +132,9 @@ codes_two a b l h p q ds none =
     let c = (a - 192) * 64 + (b - 128) in
     let first : 192 + c / 64 ≡ a = omega (arith, r.0, r.1) in
     let second : 128 + c % 64 ≡ b = omega (arith, r.0, r.1) in
-    let code = two c (omega (arith, r.0)) (omega (arith, r.1)) in (
-      c,
-      [],
-      is_scalar c (inl (omega (arith, r.1))),
-      code ∙ (λ i. first i ∷ second i ∷ []) ∙ ap (λ x. a ∷ b ∷ x) (sym (ap (λ x. x ++ []) none)),
-    )
+    let code = two c (omega (arith, r.0)) (omega (arith, r.1)) in
+    let scalar = is_scalar c (inl (omega (arith, r.1))) in
+    (c, [], scalar, grind (arith, common_steps, code, first, second))
 
 three_is : (a b d c : ℕ) → 224 ≤ a → a < 240 → least a ≤ b → b ≤ most a → 128 ≤ d → d ≤ 191
     → c + 925824 ≡ a * 4096 + b * 64 + d → (2048 ≤ c) × ((c < 55296) ⊎ (57344 ≤ c))
@@ -153,13 +150,10 @@ codes_three a b l h p q (d ∷ ds) (p', q', none) =
     let top : c < 65536 = omega (arith, r.1, n) in
     let first : 224 + c / 4096 ≡ a = omega (arith, r.0, r.1) in
     let second : 128 + c / 64 % 64 ≡ b = omega (arith, r.0, r.1) in
-    let third : 128 + c % 64 ≡ d = omega (arith, r.0, r.1) in (
-      c,
-      [],
-      is_scalar c (⊎_elim (λ g. inl g) (λ g. inr (g, omega (arith, top))) is.1),
-      three c is.0 top ∙ (λ i. first i ∷ second i ∷ third i ∷ [])
-          ∙ ap (λ x. a ∷ b ∷ d ∷ x) (sym (ap (λ x. x ++ []) none)),
-    )
+    let third : 128 + c % 64 ≡ d = omega (arith, r.0, r.1) in
+    let code = three c is.0 top in
+    let scalar = is_scalar c (⊎_elim (λ g. inl g) (λ g. inr (g, omega (arith, top))) is.1) in
+    (c, [], scalar, grind (arith, common_steps, code, first, second, third))
 
 four_is : (a b d e c : ℕ) → 240 ≤ a → a < 245 → least a ≤ b → b ≤ most a → 128 ≤ d → d ≤ 191
     → 128 ≤ e → e ≤ 191 → c + 63447168 ≡ a * 262144 + b * 4096 + d * 64 + e
@@ -177,13 +171,10 @@ codes_four a b l h p q (d ∷ e ∷ ds) (p', q', (p'', q'', none)) =
     let first : 240 + c / 262144 ≡ a = omega (arith, r.0, r.1) in
     let second : 128 + c / 4096 % 64 ≡ b = omega (arith, r.0, r.1) in
     let third : 128 + c / 64 % 64 ≡ d = omega (arith, r.0, r.1) in
-    let fourth : 128 + c % 64 ≡ e = omega (arith, r.0, r.1) in (
-      c,
-      [],
-      is_scalar c (inr (omega (arith, is.0), is.1)),
-      four c is.0 ∙ (λ i. first i ∷ second i ∷ third i ∷ fourth i ∷ [])
-          ∙ ap (λ x. a ∷ b ∷ d ∷ e ∷ x) (sym (ap (λ x. x ++ []) none)),
-    )
+    let fourth : 128 + c % 64 ≡ e = omega (arith, r.0, r.1) in
+    let code = four c is.0 in
+    let scalar = is_scalar c (inr (omega (arith, is.0), is.1)) in
+    (c, [], scalar, grind (arith, common_steps, code, first, second, third, fourth))
 
 -- what begins with more begins with less
 shorter : (bs more : List ℕ) → BeginsCode (bs ++ more) → BeginsCode bs

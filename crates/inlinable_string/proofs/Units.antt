@@ -280,14 +280,13 @@ one_is_read u v h l =
 pair_is_read : (h l : ℕ) (v : List ℕ) → is_high_surrogate h ≡ true → is_low_surrogate l ≡ true
     → lossy_utf16 (h ∷ l ∷ v) ≡ surrogate_pair_char h l ∷ lossy_utf16 v
 pair_is_read h l v p q =
-    let w = h ∷ l ∷ v in
     let not_high : is_high_surrogate l ≡ false = low_is_not_high l q in
-    let high : lossy_unit w 0 ≡ surrogate_pair_char h l ∷ [] =
-    gives_pair w 0 (rw (p, q, high_is_not_low h p) refl) p in
-    let low : lossy_unit w 1 ≡ [] = gives_none w 1 (rw (p, q, not_high) refl) not_high q in
-    let first : lossy_utf16_before w 2 ≡ surrogate_pair_char h l ∷ [] = λ i. high i ++ low i in
-    read_behind w v (surrogate_pair_char h l ∷ []) (λ n. suc (suc n)) first
-    (λ n. ap (λ y. lossy_utf16_before w (suc (suc n)) ++ y) (behind_pair h l v n not_high))
+    let not_low : is_low_surrogate h ≡ false = high_is_not_low h p in
+    let first : lossy_utf16_before (h ∷ l ∷ v) 2 ≡ surrogate_pair_char h l ∷ [] =
+    rw (p, q, not_high, not_low) refl in
+    read_behind (h ∷ l ∷ v) v _ (λ n. suc (suc n)) first
+    (λ n. ap (λ y. lossy_utf16_before (h ∷ l ∷ v) (suc (suc n)) ++ y)
+    (behind_pair h l v n not_high))
     (length v)
 
 pair_of : (c : ℕ) → 0x1_0000 ≤ c

@@ -1,5 +1,5 @@
 -- Runs in which no allocation fails: their replies and their text are those of plain edits.
-use Rattle.inlinable_string.proofs.Common.{common_steps, ◌≡◌, ◌≢◌, ◌↔◌, ℕ, zero, suc, ◌<◌, ◌^◌, inl, true, List, [], ◌∷◌, take, refl, sym, ap, ◌∙◌, arith, subst, Contains, Some, slice_get, rules, TextState, IsLawful, edit, reply_of, text_left, text_after_step, text_after, Need, reserved, need_of, state_after_step, IsCounted, IsLegal, LegalReplies, replies_of, text_after_edits, ReservesWithin, LeavesWithin, StaysWithin, Inline, Command, Reply, Done, NoMemory}
+use Rattle.inlinable_string.proofs.Common.{common_steps, ◌≡◌, ◌≢◌, ◌↔◌, ℕ, zero, suc, ◌<◌, ◌^◌, inl, true, List, [], ◌∷◌, take, refl, ap, ◌∙◌, arith, subst, Contains, Some, slice_get, rules, TextState, IsLawful, edit, reply_of, text_left, text_after_step, text_after, Need, reserved, need_of, state_after_step, IsCounted, IsLegal, LegalReplies, replies_of, text_after_edits, ReservesWithin, LeavesWithin, StaysWithin, Inline, Command, Reply, Done, NoMemory}
 use Rattle.inlinable_string.proofs.Edits.{never_refused, text_granted}
 use Rattle.inlinable_string.proofs.ShortRuns.{short_step, short_run_never_asks}
 
@@ -62,12 +62,11 @@ short_replies_are_legal s (c ∷ commands) demotes inline small within =
     let text : text_after_step s.text c r ≡ text_left s.text (edit s.text c) =
     text_granted s.text c r (never_refused (edit s.text c)) in
     let next : StaysWithin s.policy.limit (text_after_step s.text c r) commands =
-    subst (λ t. StaysWithin s.policy.limit t commands) (sym text) within.1 in
+    rw text within.1 in
     let rest =
-    short_replies_are_legal (state_after_step s c r) commands demotes step.1 small next in (
-      legal,
-      subst (λ t. LegalReplies (state_after_step s c r) commands (replies_of t commands)) text rest,
-    )
+    short_replies_are_legal (state_after_step s c r) commands demotes step.1 small next in
+    let same = ap (λ t. replies_of t commands) text in
+    (legal, subst (LegalReplies (state_after_step s c r) commands) same rest)
 
 -- the clauses on short runs
 pub short_replies : (s : TextState) (commands : List Command) (replies : List Reply) → IsLawful s

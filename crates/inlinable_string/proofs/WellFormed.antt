@@ -1,5 +1,5 @@
 -- The states of the test for UTF-8, and the ranges of bytes that each has before it.
-use Rattle.inlinable_string.proofs.Common.{common_steps, ◌≡◌, ◌↔◌, inl, ℕ, zero, suc, ◌+◌, ◌*◌, ◌/◌, ◌<◌, ◌≤◌, Bool, true, false, List, [], ◌∷◌, ◌++◌, length, take, drop, refl, ap, sym, ◌∙◌, arith, subst, IsAscii, IsUtf8, IsUtf8-append, IsUtf8-encode, encode_utf8, length-append, take_all, length-encode, len_utf8_bounds, nil_from_length, eqb-true, take-append-drop, drop_at, append_assoc, if◌then◌else◌, nat_lt, nat_eq, and_parts, nat_tests, slice_index, following, count_in, char_len}
+use Rattle.inlinable_string.proofs.Common.{common_steps, ◌≡◌, ◌↔◌, inl, ℕ, zero, suc, ◌+◌, ◌*◌, ◌/◌, ◌<◌, ◌≤◌, Bool, true, false, List, [], ◌∷◌, ◌++◌, length, take, drop, refl, ap, sym, ◌∙◌, arith, subst, IsAscii, IsUtf8, IsUtf8-append, IsUtf8-encode, encode_utf8, length-append, take_all, length-encode, len_utf8_bounds, nil_from_length, eqb-true, take-append-drop, drop_at, if◌then◌else◌, nat_lt, nat_eq, and_parts, nat_tests, slice_index, following, count_in, char_len}
 use Rattle.std.specs.Int.{is_in_range}
 use Rattle.std.specs.Prelude.{◌&&◌, ◌^◌, ◌-◌}
 use Rattle.inlinable_string.specs.WellFormed.{Follows, nothing, ranges_of, is_state, state_of, Leads}
@@ -176,11 +176,9 @@ IsReadTo bs rest to = (front : List ℕ) × (bs ≡ front ++ rest) × Leads 0 fr
 -- a block more is read
 pub read_block : (bs rest block behind : List ℕ) (from to : ℕ) → IsReadTo bs rest from
     → rest ≡ block ++ behind → Leads from block to → IsReadTo bs behind to
-read_block bs rest block behind from to (front, is, read) parts more = (
-  front ++ block,
-  is ∙ ap (λ l. front ++ l) parts ∙ sym (append_assoc front block behind),
-  leads_on 0 from to front block read more,
-)
+read_block bs rest block behind from to (front, is, read) parts more =
+    let joined : bs ≡ (front ++ block) ++ behind = grind (arith, common_steps) in
+    (front ++ block, joined, leads_on 0 from to front block read more)
 
 -- and the rest
 pub read_to_end : (bs rest : List ℕ) (from to : ℕ) → IsReadTo bs rest from → Leads from rest to
@@ -207,9 +205,8 @@ pub last_ascii : (bs rest : List ℕ) (n from : ℕ) → IsReadTo bs rest from
 last_ascii bs rest n from (front, is, read) long ascii =
     let within : n ≤ length front = omega (arith, length-append front rest, ap length is, long) in
     let whole = take_all (length bs - n) (drop n bs) (omega (arith, length-drop n bs)) in
-    let parts = whole ∙ ap (drop n) is ∙ drop-append-le n front rest within in
-    subst IsAscii (drop-append_seam (drop n front) rest)
-    (IsAscii-drop _ (length (drop n front)) (subst IsAscii parts ascii))
+    let parts = rw (whole, is, drop-append-le n front rest within) at ascii in
+    rw drop-append_seam at (IsAscii-drop _ (length (drop n front)) parts)
 
 -- text ends in the first state alone
 ends : (n : ℕ) → nat_eq n 0 ≡ false → Follows (ranges_of n) [] → ⊥

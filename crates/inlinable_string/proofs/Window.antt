@@ -79,11 +79,10 @@ extended : (old new u : List ℕ) (s l m : ℕ) → s + l ≡ m → m ≤ length
     → take (m + length u) new ≡ take m old ++ u
     → take (l + length u) (drop s new) ≡ take l (drop s old) ++ u
 extended old new u s l m sum h e =
-    let regrouped : s + (l + length u) ≡ m + length u = omega arith in
     let short : s ≤ length (take m old) = omega (arith, length-take-le m old h) in
-    sym (drop-take s (l + length u) new) ∙ ap (λ k. drop s (take k new)) regrouped
-    ∙ ap (drop s) e ∙ drop-append-le s (take m old) u short
-    ∙ ap (λ x. x ++ u) (ap (λ k. drop s (take k old)) (sym sum) ∙ drop-take s l old)
+    let whole = drop-take s (l + length u) new in
+    let front = drop-take s l old in
+    grind (arith, e, sum, short, whole, front, drop-append-le s (take m old) u short)
 
 -- bytes written after the window of an array
 pub window_extended : {N : ℕ} (s : Inside N) → s.start + s.len ≤ length s.bytes

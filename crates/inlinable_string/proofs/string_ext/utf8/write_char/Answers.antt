@@ -1,4 +1,4 @@
-use Rattle.inlinable_string.proofs.Common.{common_steps, ◌≡◌, ◌+◌, ◌<◌, ◌++◌, ◌∷◌, [], ℕ, List, length, take, refl, sym, ap, ◌∙◌, arith, subst, append_assoc, take_more, take_more_set}
+use Rattle.inlinable_string.proofs.Common.{common_steps, ◌≡◌, ◌+◌, ◌<◌, ◌++◌, ℕ, List, length, take, refl, sym, arith, subst, take_more}
 use Rattle.std.proofs.Common.{slice_set, slice_index_or}
 use Rattle.std.proofs.Math.ListN.{length-set}
 use Rattle.inlinable_string.proofs.string_ext.utf8.write_char.Goals as goal
@@ -8,12 +8,7 @@ one_more : (made bs new : List ℕ) (at n j m : ℕ) → j ≡ at + n → m ≡ 
     → n < length bs → take j new ≡ take at made ++ take n bs
     → take m (slice_set new j (slice_index_or bs n 0)) ≡ take at made ++ take (n + 1) bs
 one_more made bs new at n j m here behind room less so =
-    let next : m ≡ j + 1 = omega arith in
-    ap (λ k. take k (slice_set new j (slice_index_or bs n 0))) next
-    ∙ take_more_set new j (slice_index_or bs n 0) room
-    ∙ ap (λ t. t ++ slice_index_or bs n 0 ∷ []) so
-    ∙ append_assoc (take at made) (take n bs) (slice_index_or bs n 0 ∷ [])
-    ∙ ap (λ t. take at made ++ t) (sym (take_more bs n 0 less))
+    grind (arith, common_steps, take_more bs n 0 less)
 
 pub returns-then-len-gt3 : goal.returns-then-len-gt3
 returns-then-len-gt3 c =
