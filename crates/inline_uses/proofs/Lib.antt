@@ -11,4 +11,3 @@ pub mod Shown
 pub mod Tables
 pub mod Trees
 pub mod Under
-pub mod Words
