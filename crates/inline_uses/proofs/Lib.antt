@@ -1,5 +1,4 @@
 pub mod Cursor
-pub mod Entries
 pub mod Ids
 pub mod Lexemes
 pub mod Listed
