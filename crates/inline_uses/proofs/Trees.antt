@@ -1,10 +1,10 @@
 -- A tree with one more node at the end of its list.
 use Rattle.std.proofs.Common.{◌≡◌, ◌<◌, ◌≤◌, ◌↔◌, suc, inl, inr, ℕ, List, [], ◌∷◌, ◌++◌, length, Bool, true, false, cond, Option, Some, None, Ordering, Less, Equal, Greater, is_eq, refl, ap, subst, sym, ◌∙◌, arith, rules}
-use Rattle.std.specs.Prelude.{slice_get, unwrap_or, option_map}
+use Rattle.std.specs.Prelude.{slice_get}
+use denote.Ref.{Bor}
 use Rattle.std.specs.BTreeMap.{BTreeMap, get}
 use Rattle.std.specs.Bool.{Decides}
 use Rattle.std.specs.Cmp.Lexicographic.{slice_cmp, bytes_decides, texts_ties}
-use Rattle.std.specs.List.{All}
 use Rattle.std.specs.Option.{option_cmp}
 use Rattle.std.specs.Ordering.{nat_cmp, ordering_then}
 use Rattle.std.specs.Str.{chars}
@@ -121,23 +121,15 @@ above nodes at id node keys tree within is leads = (has node.parent refl, (at, i
         let earlier : p < at = tree.later at p node.key (is ∙ under) in
         omega arith
 
--- the key of a node by its number
-abbrev pub key_of : List Node → ℕ → List ℕ
-key_of nodes id = unwrap_or (option_map (λ (node : Node). node.key) (slice_get nodes id)) []
-
 -- the keys of nodes, that of the last first, and then others
-abbrev pub with_keys : List Node → List (List ℕ) → List ℕ → List (List ℕ)
-with_keys nodes keys [] = keys
-with_keys nodes keys (id ∷ ids) = with_keys nodes (key_of nodes id ∷ keys) ids
+abbrev pub with_keys : List (List ℕ) → List (Bor Node) → List (List ℕ)
+with_keys keys [] = keys
+with_keys keys (node ∷ nodes) = with_keys (node.now.key ∷ keys) nodes
 
-pub with_keys-push : (nodes : List Node) (keys : List (List ℕ)) (ids : List ℕ) (id : ℕ)
-    → with_keys nodes keys (ids ++ id ∷ []) ≡ key_of nodes id ∷ with_keys nodes keys ids
-with_keys-push nodes keys [] id = refl
-with_keys-push nodes keys (i ∷ ids) id = with_keys-push nodes (key_of nodes i ∷ keys) ids id
-
--- the numbers are all of nodes
-abbrev pub AreNodes : List Node → List ℕ → Type 0
-AreNodes nodes ids = All (λ id. id < length nodes) ids
+pub with_keys-push : (keys : List (List ℕ)) (nodes : List (Bor Node)) (node : Bor Node)
+    → with_keys keys (nodes ++ node ∷ []) ≡ node.now.key ∷ with_keys keys nodes
+with_keys-push keys [] node = refl
+with_keys-push keys (n ∷ nodes) node = with_keys-push (n.now.key ∷ keys) nodes node
 
 pub wider : (nodes more : List Node) (place : Option ℕ) → IsPlaceOf nodes place
     → IsPlaceOf (nodes ++ more) place
