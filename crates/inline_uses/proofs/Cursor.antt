@@ -1,6 +1,7 @@
 -- A cursor steps over one character.
 use Rattle.std.proofs.Common.{◌≡◌, ◌↔◌, ℕ, ◌+◌, ◌-◌, List, [], ◌∷◌, ◌++◌, length, take, drop, Option, Some, None, IsSome, refl, sym, ap, ◌∙◌, arith, encode_utf8}
 use Rattle.std.proofs.lemmas.List.{append_assoc}
+use Rattle.std.proofs.lemmas.Str.{chars_past_char}
 use Rattle.std.specs.Str.{chars, IsUtf8}
 use Rattle.inlinable_string.specs.Text.{bytes_of, size, cut, IsCut}
 use Rattle.inline_uses.specs.Editor.{parts_of}
@@ -39,15 +40,13 @@ module _ {t : List ℕ} (decides : (q : ℕ) (a b : List ℕ) → (cut t q ≡ S
 
   -- c was the first character of the piece after p
   pub stepped_right : (joined : (a b : List ℕ) → size (a ++ b) ≡ size a + size b)
-      (front : (bs rest : List ℕ) (c : ℕ) → IsUtf8 bs → IsUtf8 rest
-      → bs ≡ encode_utf8 c ++ rest → chars bs ≡ c ∷ chars rest)
       → chars (drop p bs) ≡ chars piece → piece ≡ encode_utf8 c ++ rest
       → ((parts_of (cut t p)).behind ≡ c ∷ chars rest)
       × (cut t (size t - length rest) ≡ Some ((parts_of (cut t p)).before ++ c ∷ [], chars rest))
-  stepped_right joined front piece_is start =
+  stepped_right joined piece_is start =
       let a = (parts_of (cut t p)).before in
       let after = (cuts t bs _ _ p is_cut utf8 whole).1 ∙ piece_is
-      ∙ front piece rest c text left start in
+      ∙ chars_past_char piece rest c text start in
       let all : t ≡ (a ++ c ∷ []) ++ chars rest =
       is_cut.joined ∙ ap (λ l. a ++ l) after ∙ sym (append_assoc a (c ∷ []) (chars rest)) in
       let count = ap size all ∙ joined (a ++ c ∷ []) (chars rest) in (

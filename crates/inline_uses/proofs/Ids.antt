@@ -14,7 +14,7 @@ use Rattle.std.proofs.lemmas.Map.{lookup-insert, none_passes_from_lookup}
 use Rattle.std.proofs.lemmas.Map.Lookups.{exact_bytes}
 use Rattle.std.proofs.Math.Seq.{get_or-append_seam}
 use Rattle.inline_uses.specs.Symbols.{key_order, IsGap, HaveOneId, text_at, with_ids, IsOrderOf}
-use Rattle.inline_uses.proofs.Search.{seen_at, inserted, inserted_seen, none, ordered_put}
+use Rattle.inline_uses.proofs.Search.{seen_at, inserted_seen, none, ordered_put}
 use Rattle.inline_uses.proofs.Tables.{at_push, before_append, from_push}
 
 -- no text has two ids
@@ -87,7 +87,7 @@ module _ (texts : List (List ℕ)) (ids : List ℕ) (text : List ℕ) (at : ℕ)
         = λ q. lookup-insert (eq_by_cmp_equiv nat_list_cmp_total) text n q es at
         (none_passes_from_lookup (eq_by_cmp key_order text) es (none text es at gap).0) in
         record {
-          sorted = rw (grown, ← inserted text es at n gap) (ordered_put es text n order.sorted);
+          sorted = rw (grown, ← (none text es at gap).2 n) (ordered_put es text n order.sorted);
           within = rw count (recursion_from_All (λ id. id < suc n) (insert ids at n)
               (All-append (λ id. id < suc n) (take at ids) (n ∷ drop at ids)
               (All-take (λ id. id < suc n) at ids below) (All-cons (λ id. id < suc n) n _

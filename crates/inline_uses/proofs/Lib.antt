@@ -1,5 +1,4 @@
 pub mod Cursor
-pub mod Entries
 pub mod Ids
 pub mod Lexemes
 pub mod Listed
@@ -11,4 +10,3 @@ pub mod Shown
 pub mod Tables
 pub mod Trees
 pub mod Under
-pub mod Words

@@ -2,14 +2,12 @@
 use Rattle.std.proofs.Common.{◌≡◌, ◌⊎◌, ◌<◌, ◌≤◌, ◌+◌, inl, inr, ℕ, zero, suc, List, [], ◌∷◌, ◌++◌, length, Option, Some, Ordering, Less, String, string_bytes, refl, ap, subst, arith}
 use Rattle.std.specs.Prelude.{slice_get, ⊤}
 use Rattle.std.specs.List.{All, AllByRecursion}
-use Rattle.std.specs.List.Sorted.{IsStrictlySortedBy}
 use Rattle.std.specs.Map.{keys_of}
 use Rattle.std.specs.Cmp.Lexicographic.{slice_cmp}
 use Rattle.std.specs.Ordering.{nat_cmp}
 use Rattle.std.specs.Str.{chars}
 use Rattle.std.specs.declared.alloc.Global.{Global}
 use Rattle.std.proofs.lemmas.Cmp.{tied_itself, nat_list_cmp_total}
-use Rattle.std.proofs.lemmas.List.{length-append}
 use Rattle.std.proofs.lemmas.List.Elements.{All-append, All-cons, All-get_or, All-nil}
 use Rattle.std.proofs.lemmas.Option.{get_or_from_slice_get, slice_get_within}
 use Rattle.inlinable_string.specs.Text.{bytes_of}
@@ -56,30 +54,19 @@ abbrev pub IsBelow : List ℕ → Members → Type 0
 IsBelow key no_members = ⊤
 IsBelow key (member k d ms) = (key_order key k ≡ Less) × IsBelow key ms
 
-abbrev pub AreOrdered : Members → Type 0
-AreOrdered no_members = ⊤
-AreOrdered (member k d ms) = IsBelow k ms × AreOrdered ms
-
 -- what is under the place has keys that are below those of the members
 abbrev pub AreBefore : List Node → Option ℕ → Members → Type 0
 AreBefore nodes place ms = (id : ℕ) (key : List ℕ)
     → slice_get nodes id ≡ Some (node_at place key) → IsBelow (bytes_of key) ms
 
-abbrev string_order : String Global → String Global → Ordering
+abbrev pub string_order : String Global → String Global → Ordering
 string_order a b = slice_cmp nat_cmp (string_bytes a) (string_bytes b)
 
-below_all : (key : String Global) (es : List (String Global × Value))
+pub below_all : (key : String Global) (es : List (String Global × Value))
     → AllByRecursion (λ k. string_order key k ≡ Less) (keys_of es)
     → IsBelow (string_bytes key) (members_view es)
 below_all key [] all = tt
 below_all key (e ∷ es) all = (all.0, below_all key es all.1)
-
--- the members of a map are in the order of its keys
-pub in_order : (es : List (String Global × Value)) → IsStrictlySortedBy string_order (keys_of es)
-    → AreOrdered (members_view es)
-unfolding IsStrictlySortedBy
-in_order [] h = tt
-in_order (e ∷ es) h = (below_all e.0 es h.0, in_order es h.1)
 
 -- the key of the next member is not taken
 pub not_taken : (nodes : List Node) (place : Option ℕ) (k : List ℕ) (d : Data) (rest : Members)
@@ -92,21 +79,15 @@ not_taken nodes place k d rest bytes before id is =
     cc
 
 -- nothing is under a node that was just added
-pub none_under : (nodes new : List Node) (place : Option ℕ) (k : List ℕ) (n : ℕ)
-    → new ≡ nodes ++ node_at place k ∷ [] → n ≡ length nodes → IsTree nodes
+pub none_under : (nodes : List Node) (place : Option ℕ) (k : List ℕ) → IsTree nodes
     → IsPlaceOf nodes place → (id : ℕ) (key : List ℕ)
-    → ¬ (slice_get new id ≡ Some (node_at (Some n) key))
-none_under nodes new place k n is_new count tree within id key is =
-    elim (from_push nodes (node_at (Some n) key) (node_at place k) id
-    (subst (λ ns. slice_get ns id ≡ Some (node_at (Some n) key)) is_new is)) [
-      | inl old ↦ let earlier : n < id = tree.later id n key old in
+    → ¬ (slice_get (nodes ++ node_at place k ∷ []) id ≡ Some (node_at (Some (length nodes)) key))
+none_under nodes place k tree within id key is =
+    elim (from_push nodes (node_at (Some (length nodes)) key) (node_at place k) id is) [
+      | inl old ↦ let earlier : length nodes < id = tree.later id (length nodes) key old in
           let less = slice_get_within nodes id _ old in
-          omega (arith, earlier, less, count)
-      | inr last ↦ let same : place ≡ Some n = ap (λ (m : Node). m.parent) last.1 in
-          let less : n < length nodes = subst (IsPlaceOf nodes) same within in
-          omega (arith, less, count)
+          omega (arith, earlier, less)
+      | inr last ↦ let same : place ≡ Some (length nodes) = ap (λ (m : Node). m.parent) last.1 in
+          let less : length nodes < length nodes = subst (IsPlaceOf nodes) same within in
+          omega (arith, less)
     ]
-
-pub last_place : (nodes new : List Node) (node : Node) (n : ℕ) → new ≡ nodes ++ node ∷ []
-    → n ≡ length nodes → n < length new
-last_place nodes new node n is_new count = rw (is_new, length-append) (omega (arith, count))

@@ -1,13 +1,13 @@
 -- Nodes that are read from members one by one: keys lead to them as they lead into the JSON.
-use Rattle.std.proofs.Common.{◌≡◌, ◌↔◌, ◌⊎◌, ◌<◌, ◌≤◌, inl, inr, ℕ, zero, suc, List, [], ◌∷◌, ◌++◌, length, Bool, true, false, Result, Ok, Err, IfOk, Option, Some, None, IsSome, map, Ordering, Less, Equal, Greater, is_eq, refl, sym, ap, subst, ◌∙◌, arith}
-use Rattle.std.specs.Prelude.{slice_get, nat_eq, IsUtf8}
-use Rattle.std.specs.Bool.{Decides}
-use Rattle.std.specs.Cmp.Lexicographic.{pointwise, bytes_decides, texts_ties}
+use Rattle.std.proofs.Common.{◌≡◌, ◌↔◌, ◌⊎◌, ◌<◌, ◌≤◌, inl, inr, ℕ, List, [], ◌∷◌, ◌++◌, length, true, false, Result, Ok, Err, IfOk, Option, Some, None, IsSome, map, Ordering, Less, Equal, Greater, refl, sym, ap, subst, ◌∙◌, arith}
+use Rattle.std.specs.Prelude.{slice_get, IsUtf8}
 use Rattle.std.specs.List.{AllByRecursion}
 use Rattle.std.specs.Ordering.{match_ordering}
 use Rattle.std.specs.Str.{chars}
 use Rattle.std.proofs.lemmas.Cmp.{tied_itself, nat_list_cmp_total}
 use Rattle.std.proofs.lemmas.List.{length-append}
+use Rattle.std.proofs.lemmas.Map.Lookups.{exact_bytes}
+use Rattle.std.proofs.lemmas.Str.{encodes-chars}
 use Rattle.std.proofs.lemmas.Option.{slice_get_within}
 use Rattle.inlinable_string.specs.Text.{bytes_of}
 use Rattle.serde_json.specs.Data.{Data, object, Members, no_members, member}
@@ -17,7 +17,7 @@ use Rattle.inline_uses.specs.Tree.{node_at, IsPlaceOf, IsTree, Leads, walk, IsSh
 use Rattle.inline_uses.specs.declared.tree.Fault.{Fault}
 use Rattle.inline_uses.specs.declared.tree.Node.{Node}
 use Rattle.inline_uses.proofs.Listed.{IsUnderLate, all_late, from_append, IsBelow, AreBefore, not_taken}
-use Rattle.inline_uses.proofs.Shown.{Starts, same_below}
+use Rattle.inline_uses.proofs.Shown.{Starts, same_below, same_or_other}
 use Rattle.inline_uses.proofs.Tables.{at_push, before_append, from_push}
 use Rattle.inline_uses.proofs.Under.{next_of}
 
@@ -72,14 +72,6 @@ module _ (nodes : List Node) (place : Option ℕ) (k : List ℕ) (e : Data) (tre
     abbrev new : List Node
     new = added ++ below
 
-    -- they come in two steps
-    pub in_steps : (more after : List Node) → more ≡ added
-        → after ≡ more ++ listed (length more) (Some (length nodes)) e → after ≡ new
-    in_steps more after is_more is_after = rw (is_after, is_more) refl
-
-    longer : length nodes ≤ length added
-    longer = rw length-append (omega arith)
-
     older : (id : ℕ) (node : Node) → slice_get nodes id ≡ Some node → slice_get new id ≡ Some node
     older id node is = before_append added below id node
         (before_append nodes (node_at place (chars k) ∷ []) id node is)
@@ -94,7 +86,8 @@ module _ (nodes : List Node) (place : Option ℕ) (k : List ℕ) (e : Data) (tre
         ⊎ IsUnderLate (length nodes) node)
     ways id node is =
         elim (from_append (IsUnderLate (length nodes)) added below id node
-        (all_late (length nodes) (length added) (length nodes) e longer (omega arith)) is) [
+        (all_late (length nodes) (length added) (length nodes) e (rw length-append (omega arith))
+        (omega arith)) is) [
           | inl here ↦ elim (from_push nodes node (node_at place (chars k)) id here) [
             | inl old ↦ inl old
             | inr last ↦ inr (inl last)
@@ -149,59 +142,44 @@ module _ (nodes : List Node) (place : Option ℕ) (k : List ℕ) (e : Data) (tre
       | inr last ↦ subst (λ b. IsBelow b rest) (sym bytes ∙ ap bytes_of last.1) less
     ]
 
-    pub read_one : (d : Data) (rest : Members) (after : List Node) → after ≡ new
-        → ((bs : List ℕ) → IsUtf8 bs → bytes_of (chars bs) ≡ bs)
-        → bytes_of (chars k) ≡ k → IsBelow k rest → AreBefore nodes place (member k e rest)
-        → IsShown after (Some (length nodes)) e → IsReadBut nodes place d (member k e rest)
-        → IsReadBut after place d rest
-    read_one d rest after is law bytes less before inner read =
-        subst (λ ns. IsReadBut ns place d rest) (sym is) (λ key keys utf8 all.
-        by_test key keys utf8 all (pointwise nat_eq key k) (bytes_decides key k))
+    module _ (d : Data) (rest : Members) (bytes : bytes_of (chars k) ≡ k) (less : IsBelow k rest)
+        (before : AreBefore nodes place (member k e rest))
+        (shown : IsShown new (Some (length nodes)) e)
+        (read : IsReadBut nodes place d (member k e rest))
       where
-        shown : IsShown new (Some (length nodes)) e
-        shown = subst (λ ns. IsShown ns (Some (length nodes)) e) is inner
-
-        by_test : (key : List ℕ) (keys : List (List ℕ)) → IsUtf8 key → AllByRecursion IsUtf8 keys
-            → (b : Bool) → Decides b (key ≡ k) → IsSome (walk d (key ∷ keys))
-            ↔ (Starts new place key keys ⊎ IsSome (walk (object rest) (key ∷ keys)))
-        by_test key keys utf8 all true told =
-            let same : key ≡ k = told.0 refl in
+        -- keys that begin with the new one
+        own_key : (keys : List (List ℕ)) → IsUtf8 k → AllByRecursion IsUtf8 keys
+            → IsSome (walk d (k ∷ keys))
+            ↔ (Starts new place k keys ⊎ IsSome (walk (object rest) (k ∷ keys)))
+        own_key keys utf8 all =
             let own = same_below new (length nodes) e shown keys all in
-            let tied : key_order key k ≡ Equal
-            = subst (λ x. key_order x k ≡ Equal) (sym same) (tied_itself nat_list_cmp_total k) in
-            let found : get_member key (member k e rest) ≡ Some e = rw tied refl in
-            let none : get_member key rest ≡ None
-            = subst (λ x. get_member x rest ≡ None) (sym same) (absent k rest less) in
-            let s = read key keys utf8 all in (
+            let found : get_member k (member k e rest) ≡ Some e
+            = rw (tied_itself nat_list_cmp_total k) refl in
+            let none = absent k rest less in
+            let s = read k keys utf8 all in (
               (λ some. elim (s.0 some) [
-                | inl (to, leads) ↦ inl (to, up place (map chars (key ∷ keys)) to leads)
+                | inl (to, leads) ↦ inl (to, up place (map chars (k ∷ keys)) to leads)
                 | inr here ↦ let (to, leads) = own.0 (rw found at here) in
-                    inl (
-                      to,
-                      (
-                        length nodes,
-                        subst (λ x. slice_get new (length nodes) ≡ Some (node_at place (chars x)))
-                            (sym same) named,
-                        leads,
-                      ),
-                    )
+                    inl (to, (length nodes, named, leads))
               ]),
               λ h. elim h [
-                | inl (to, (id, here, leads)) ↦ elim (under_place id (chars key) here) [
-                  | inl old ↦ absurd (not_taken nodes place k e rest bytes before id
-                      (subst (λ x. slice_get nodes id ≡ Some (node_at place (chars x))) same old))
+                | inl (to, (id, here, leads)) ↦ elim (under_place id (chars k) here) [
+                  | inl old ↦ absurd (not_taken nodes place k e rest bytes before id old)
                   | inr last ↦ s.1 (inr (rw found (own.1
                       (to, subst (λ i. Leads new (Some i) (map chars keys) to) last.0 leads))))
                 ]
                 | inr some ↦ let f : false ≡ true = rw none at some in cc
               ],
             )
-        by_test key keys utf8 all false told =
-            let differs : ¬ (key ≡ k) = λ same. let f : false ≡ true = told.1 same in cc in
-            let untied : ¬ (key_order key k ≡ Equal)
-            = λ tied. differs ((bytes_decides key k).0 (texts_ties key k ∙ ap is_eq tied)) in
+
+        -- and others
+        other_keys : (key : List ℕ) (keys : List (List ℕ)) → IsUtf8 key
+            → AllByRecursion IsUtf8 keys → ¬ (key ≡ k) → IsSome (walk d (key ∷ keys))
+            ↔ (Starts new place key keys ⊎ IsSome (walk (object rest) (key ∷ keys)))
+        other_keys key keys utf8 all differs =
             let passed : get_member key (member k e rest) ≡ get_member key rest
-            = other_key (key_order key k) (get_member key rest) (Some e) untied in
+            = other_key (key_order key k) (get_member key rest) (Some e)
+            (λ tied. differs (exact_bytes key k tied)) in
             let s = read key keys utf8 all in (
               (λ some. elim (s.0 some) [
                 | inl (to, leads) ↦ inl (to, up place (map chars (key ∷ keys)) to leads)
@@ -219,22 +197,24 @@ module _ (nodes : List Node) (place : Option ℕ) (k : List ℕ) (e : Data) (tre
                     ),
                   ))
                   | inr last ↦ absurd (differs
-                      (sym (law key utf8) ∙ ap bytes_of (sym last.1) ∙ bytes))
+                      (sym (encodes-chars key utf8) ∙ ap bytes_of (sym last.1) ∙ bytes))
                 ]
                 | inr some ↦ s.1 (inr (rw passed some))
               ],
             )
 
--- two lists of nodes that one value shows
-same_paths : (nodes others : List Node) (d : Data) → IsShown nodes None d → IsShown others None d
-    → HaveSamePaths nodes others
-same_paths nodes others d shown is = λ key keys utf8 all.
-    let s = shown key keys utf8 all in
-    let t = is key keys utf8 all in
-    ((λ leads. t.0 (s.1 leads)), λ leads. s.0 (t.1 leads))
+        pub read_one : IsReadBut new place d rest
+        read_one = λ key keys utf8 all. elim (same_or_other key k) [
+          | inl same ↦ rw same (own_key keys (rw same at utf8) all)
+          | inr differs ↦ other_keys key keys utf8 all differs
+        ]
 
+-- two lists of nodes that one value shows
 pub shown_again : (nodes : List Node) (d : Data) (result : Result (List Node) Fault)
     → IsShown nodes None d → IfOk result (λ others. IsShown others None d)
     → IfOk result (λ others. HaveSamePaths nodes others)
-shown_again nodes d (Ok others) shown is = same_paths nodes others d shown is
+shown_again nodes d (Ok others) shown is = λ key keys utf8 all.
+    let s = shown key keys utf8 all in
+    let t = is key keys utf8 all in
+    ((λ leads. t.0 (s.1 leads)), λ leads. s.0 (t.1 leads))
 shown_again nodes d (Err fault) shown is = tt

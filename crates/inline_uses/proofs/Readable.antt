@@ -15,11 +15,6 @@ pub all_decide : (levels : ℕ) (ms : Members) → Decide levels (object ms) ms
 all_decide levels ms =
     (((λ h. h), λ h. h), ((λ h. h), λ h. h), ((λ h. omega arith), λ h. omega arith))
 
-pub none_left : (levels : ℕ) (d : Data) → Decide levels d no_members → 0 < levels
-    → IsReadable levels d
-none_left levels d (nested, short, deep) some =
-    (nested.0 (search rules), short.0 (search rules), deep.0 some)
-
 pub one_read : (levels : ℕ) (d : Data) (k : List ℕ) (e : Data) (rest : Members)
     → Decide levels d (member k e rest) → length k ≤ 16 → IsReadable (levels - 1) e → 0 < levels
     → Decide levels d rest
@@ -29,38 +24,16 @@ one_read levels d k e rest (nested, short, deep) key (is_nested, has_short, shal
   ((λ h. deep.0 (omega arith)), λ h. let less = deep.1 h in omega arith),
 )
 
-pub one_long : (levels : ℕ) (d : Data) (k : List ℕ) (e : Data) (rest : Members)
-    → Decide levels d (member k e rest) → 16 < length k → ¬ (HasShortKeys d)
-one_long levels d k e rest (nested, short, deep) long =
-    λ h. let (first, _, _) = short.1 h in absurd (omega (arith, long, first))
-
 pub not_added : (levels : ℕ) (d : Data) (k : List ℕ) (e : Data) (rest : Members) (f : Fault)
     → Decide levels d (member k e rest) → (f ≡ LongKey → 16 < length k) → ¬ (f ≡ NoNode)
     → ¬ (f ≡ Taken) → ¬ (f ≡ NotObject) → ¬ (f ≡ TooDeep) → IsFaultOf levels d f
-not_added levels d k e rest LongKey decide long node taken nested deep =
-    one_long levels d k e rest decide (long refl)
+not_added levels d k e rest LongKey (nested, short, deep) long _ _ _ _ =
+    λ h. let (first, _, _) = short.1 h in absurd (omega (arith, long refl, first))
 not_added levels d k e rest NoNode decide long node taken nested deep = node refl
 not_added levels d k e rest Taken decide long node taken nested deep = taken refl
 not_added levels d k e rest NotObject decide long node taken nested deep = absurd (nested refl)
 not_added levels d k e rest TooDeep decide long node taken nested deep = absurd (deep refl)
 not_added levels d k e rest NoMemory decide long node taken nested deep = search rules
-
-pub one_faulty : (levels : ℕ) (d : Data) (k : List ℕ) (e : Data) (rest : Members) (f : Fault)
-    → Decide levels d (member k e rest) → 0 < levels → IsFaultOf (levels - 1) e f
-    → IsFaultOf levels d f
-one_faulty levels d k e rest LongKey (nested, short, deep) some fault =
-    λ h. let (_, has_short, _) = short.1 h in fault has_short
-one_faulty levels d k e rest NoNode decide some fault = fault
-one_faulty levels d k e rest Taken decide some fault = fault
-one_faulty levels d k e rest NotObject (nested, short, deep) some fault =
-    λ h. fault (nested.1 h).0
-one_faulty levels d k e rest TooDeep (nested, short, deep) some fault =
-    by_contradiction_of (depth d) levels
-    (λ h. let less = deep.1 h in absurd (omega (arith, less, fault, some)))
-  where
-    by_contradiction_of : (x n : ℕ) → ¬ (x ≤ n) → n < x
-    by_contradiction_of x n above = omega (arith, above)
-one_faulty levels d k e rest NoMemory decide some fault = fault
 
 any_order : (P : Members → Type 0) (o : Ordering) (a b c : Members) → P a → P b → P c
     → P (match_ordering o a b c)

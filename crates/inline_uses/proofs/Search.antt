@@ -1,9 +1,10 @@
 -- What a search among keys in order finds, and what an edit there does to the entries.
 use Rattle.std.proofs.Common.{arith, ◌≡◌, ℕ, zero, suc, ◌+◌, ◌<◌, ◌≤◌, List, [], ◌∷◌, map, length, get_or, set, Some, None, Result, Ok, Err, IfOk, IfErr, Bool, true, false, cond, Ordering, Less, Equal, Greater, refl, sym, ap, subst, ◌∙◌, take, drop, option_map}
 use Rattle.std.specs.Prelude.{slice_get}
+use Rattle.std.proofs.Math.Seq.{drop-nil, take-nil}
 use Rattle.std.proofs.lemmas.Cmp.{nat_list_cmp_total, tied_itself}
 use Rattle.std.proofs.lemmas.List.{get_or-map, length-map, map-append, map-set, take-map, drop-map}
-use Rattle.std.proofs.lemmas.List.Elements.{All-from_recursion, recursion_from_All, All-weaker}
+use Rattle.std.proofs.lemmas.List.Elements.{All-from_recursion, All-get_or, recursion_from_All, All-weaker}
 use Rattle.std.proofs.lemmas.List.Sorted.{searchable_from_sorted}
 use Rattle.std.proofs.lemmas.Map.Keys.{Less-from_sorted}
 use Rattle.std.proofs.lemmas.Map.Lookups.{exact_bytes}
@@ -20,6 +21,11 @@ use Rattle.inline_uses.specs.Symbols.{key_order, IsGap}
 turned : (a b : List ℕ) (o : Ordering) → key_order a b ≡ o → key_order b a ≡ ordering_reverse o
 turned a b o h = nat_list_cmp_total.antisymm b a ∙ ap ordering_reverse h
 
+at_key : {X : Type 0} (f : X → List ℕ) (P : List ℕ → Type 0) (xs : List X) (i : ℕ)
+    → i < length xs → ((d : X) → P (f (get_or xs i d))) → P (get_or (map f xs) i [])
+at_key f P [] i within h = absurd (omega arith)
+at_key f P (x ∷ xs) i within h = subst P (sym (get_or-map f (x ∷ xs) i x [] within)) (h x)
+
 module _ {X : Type 0} (f : X → List ℕ) (xs : List X) (key : List ℕ) where
   rises : IsStrictlySortedBy key_order (map f xs)
       → IsNonDecreasingBy (λ x. ordering_index (key_order (f x) key)) xs
@@ -31,22 +37,13 @@ module _ {X : Type 0} (f : X → List ℕ) (xs : List X) (key : List ℕ) where
       (Less-from_sorted key_order (map f xs) i (i + 1) (f d) sorted (omega arith)
       (rw length-map less))))))
 
-  at_key : (P : List ℕ → Type 0) (i : ℕ) → i < length xs → ((d : X) → P (f (get_or xs i d)))
-      → P (get_or (map f xs) i [])
-  at_key P i within h = by xs within h
-    where
-      by : (ys : List X) → i < length ys → ((d : X) → P (f (get_or ys i d)))
-          → P (get_or (map f ys) i [])
-      by [] within h = absurd (omega arith)
-      by (y ∷ ys) within h = subst P (sym (get_or-map f (y ∷ ys) i y [] within)) (h y)
-
   -- a search by a text among texts in order finds it, or the index at which it goes
   pub searched : (r : Result ℕ ℕ) → IsStrictlySortedBy key_order (map f xs)
       → IsSearchInRange r (length xs) → IsBinarySearchResult (λ x. key_order (f x) key) xs r
       → (IfOk r (λ at. slice_get (map f xs) at ≡ Some key)) × IfErr r (IsGap (map f xs) key)
   searched (Ok at) sorted within equal = (
     slice_get-get_or (map f xs) at [] (rw length-map within)
-        ∙ ap Some (exact_bytes _ _ (at_key (λ k. key_order k key ≡ Equal) at within equal)),
+        ∙ ap Some (exact_bytes _ _ (at_key f (λ k. key_order k key ≡ Equal) xs at within equal)),
     tt,
   )
   searched (Err at) sorted within parted =
@@ -54,10 +51,10 @@ module _ {X : Type 0} (f : X → List ℕ) (xs : List X) (key : List ℕ) where
         tt,
         (
           rw length-map within,
-          (λ i less. turned _ key Less (at_key (λ k. key_order k key ≡ Less) i (omega arith)
+          (λ i less. turned _ key Less (at_key f (λ k. key_order k key ≡ Less) xs i (omega arith)
               (λ d. parts.0 i d (omega arith) less))),
           λ i le less. let below : i < length xs = rw length-map at less in
-              turned _ key Greater (at_key (λ k. key_order k key ≡ Greater) i below
+              turned _ key Greater (at_key f (λ k. key_order k key ≡ Greater) xs i below
               (λ d. parts.1 i d le below)),
         ),
       )
@@ -66,61 +63,44 @@ module _ {X : Type 0} (f : X → List ℕ) (xs : List X) (key : List ℕ) where
 above : (key k : List ℕ) (ks : List (List ℕ)) (at : ℕ)
     → AllByRecursion (λ q. key_order k q ≡ Less) ks → slice_get ks at ≡ Some key
     → key_order key k ≡ Greater
-above key k [] at all is = cc
-above key k (q ∷ ks) zero all is =
-    let e : q ≡ key = cc in turned k key Less (subst (λ x. key_order k x ≡ Less) e all.0)
-above key k (q ∷ ks) (suc at) all is = above key k ks at all.1 is
+above key k ks at all is =
+    let below = All-get_or (λ q. key_order k q ≡ Less) ks at k (slice_get_within ks at key is)
+    (All-from_recursion (λ q. key_order k q ≡ Less) ks all) in
+    turned k key Less (rw (get_or_from_slice_get ks at key k is) at below)
 
 -- a key among entries: it goes at an index, or it is there
 module _ {X : Type 0} (key : List ℕ) where
-  gap_after : (e : List ℕ × X) (es : List (List ℕ × X)) (at : ℕ)
-      → IsGap (keys_of (e ∷ es)) key (suc at) → IsGap (keys_of es) key at
-  gap_after e es at gap = (
-    omega (arith, gap.0),
-    (λ i less. gap.1 (suc i) (omega arith)),
-    λ i le less. gap.2 (suc i) (omega arith) (omega arith),
-  )
-
-  pub inserted : (es : List (List ℕ × X)) (at : ℕ) (value : X) → IsGap (keys_of es) key at
-      → insert_entry key_order es key value ≡ insert es at (key, value)
-  inserted [] zero value gap = refl
-  inserted [] (suc at) value gap = absurd (omega (arith, gap.0))
-  inserted (e ∷ es) zero value gap = rw (gap.2 0 (omega arith) (omega arith)) refl
-  inserted (e ∷ es) (suc at) value gap = rw (gap.1 0 (omega arith))
-      (ap (λ rest. e ∷ rest) (inserted es at value (gap_after e es at gap)))
-
-  -- where it goes, none is
+  -- where it goes, none is, and it is put there
   pub none : (es : List (List ℕ × X)) (at : ℕ) → IsGap (keys_of es) key at
       → (lookup (is_at (key_order key)) es ≡ None)
       × (remove_entry (is_at (key_order key)) es ≡ es)
-  none [] at gap = (refl, refl)
+      × ((value : X) → insert_entry key_order es key value ≡ insert es at (key, value))
+  none [] zero gap = (refl, refl, λ value. refl)
+  none [] (suc at) gap = absurd (omega (arith, gap.0))
   none (e ∷ es) zero gap =
       let rest = none es zero (
         omega arith,
         (λ i less. absurd (omega arith)),
         λ i le less. gap.2 (suc i) (omega arith) (omega arith),
       ) in
-      rw (gap.2 0 (omega arith) (omega arith)) (rest.0, ap (λ es. e ∷ es) rest.1)
+      rw (gap.2 0 (omega arith) (omega arith))
+      (rest.0, ap (λ es. e ∷ es) rest.1, λ value. refl)
   none (e ∷ es) (suc at) gap =
-      let rest = none es at (gap_after e es at gap) in
-      rw (gap.1 0 (omega arith)) (rest.0, ap (λ es. e ∷ es) rest.1)
+      let rest = none es at (
+        omega (arith, gap.0),
+        (λ i less. gap.1 (suc i) (omega arith)),
+        λ i le less. gap.2 (suc i) (omega arith) (omega arith),
+      ) in
+      rw (gap.1 0 (omega arith))
+      (rest.0, ap (λ es. e ∷ es) rest.1, λ value. ap (λ es. e ∷ es) (rest.2 value))
 
-  -- one that is there gets a value, is looked up and is taken out at its index
-  pub written : (es : List (List ℕ × X)) (at : ℕ) (value : X)
-      → IsStrictlySortedBy key_order (keys_of es) → slice_get (keys_of es) at ≡ Some key
-      → insert_entry key_order es key value ≡ set es at (key, value)
-  unfolding IsStrictlySortedBy
-  written [] at value sorted is = cc
-  written (e ∷ es) zero value sorted is =
-      let same : e.0 ≡ key = cc in rw (same, tied_itself nat_list_cmp_total key) refl
-  written (e ∷ es) (suc at) value sorted is = rw (above key e.0 (keys_of es) at sorted.0 is)
-      (ap (λ rest. e ∷ rest) (written es at value sorted.1 is))
-
+  -- one that is there is looked up, taken out and gets a value at its index
   pub there : (es : List (List ℕ × X)) (at : ℕ)
       → IsStrictlySortedBy key_order (keys_of es) → slice_get (keys_of es) at ≡ Some key
       → (value : X) × (slice_get es at ≡ Some (key, value))
       × (lookup (is_at (key_order key)) es ≡ Some value)
       × (remove_entry (is_at (key_order key)) es ≡ remove es at)
+      × ((v : X) → insert_entry key_order es key v ≡ set es at (key, v))
   unfolding IsStrictlySortedBy
   there [] at sorted is = cc
   there (e ∷ es) zero sorted is =
@@ -129,13 +109,16 @@ module _ {X : Type 0} (key : List ℕ) where
         ap (λ k. Some (k, e.1)) same,
         rw (same, tied_itself nat_list_cmp_total key) refl,
         rw (same, tied_itself nat_list_cmp_total key) refl,
+        λ v. rw (same, tied_itself nat_list_cmp_total key) refl,
       )
   there (e ∷ es) (suc at) sorted is =
-      let rest = there es at sorted.1 is in (
+      let rest = there es at sorted.1 is in
+      let past = above key e.0 (keys_of es) at sorted.0 is in (
         rest.0,
         rest.1,
-        rw (above key e.0 (keys_of es) at sorted.0 is) rest.2,
-        rw (above key e.0 (keys_of es) at sorted.0 is) (ap (λ es. e ∷ es) rest.3),
+        rw past rest.2,
+        rw past (ap (λ es. e ∷ es) rest.3),
+        λ v. rw past (ap (λ es. e ∷ es) (rest.4 v)),
       )
 
 -- those before the index of a key are below it, and the others are not
@@ -147,15 +130,13 @@ pub parted_at : (key : List ℕ) (keys : List (List ℕ)) (at : ℕ)
 parted_at key keys at sorted is =
     let here = get_or_from_slice_get keys at key [] is in
     let within = slice_get_within keys at key is in (
-      (λ i less. ap is_gt (turned _ key Less (subst (λ k. key_order (get_or keys i []) k ≡ Less)
-          here (Less-from_sorted key_order keys i at [] sorted less within)))),
+      (λ i less. ap is_gt (turned _ key Less
+          (rw here at (Less-from_sorted key_order keys i at [] sorted less within)))),
       λ i le below.
           let more : at < i → is_gt (key_order key (get_or keys i [])) ≡ false
-          = λ l. ap is_gt (subst (λ k. key_order k (get_or keys i []) ≡ Less) here
-          (Less-from_sorted key_order keys at i [] sorted l below)) in
+          = λ l. ap is_gt (rw here at (Less-from_sorted key_order keys at i [] sorted l below)) in
           let equal : at ≡ i → is_gt (key_order key (get_or keys i [])) ≡ false
-          = λ e. ap is_gt (ap (key_order key) (ap (λ k. get_or keys k []) (sym e) ∙ here)
-          ∙ tied_itself nat_list_cmp_total key) in
+          = λ e. rw (← e, here, tied_itself nat_list_cmp_total key) refl in
           grind (arith, more, equal),
     )
 
@@ -165,10 +146,7 @@ pub run : {X : Type 0} (test : List ℕ → Bool) (es : List (List ℕ × X)) (i
     → ((k : ℕ) → i ≤ k → k < i + n → k < length es → test (get_or (keys_of es) k []) ≡ true)
     → ((k : ℕ) → i + n ≤ k → k < length es → test (get_or (keys_of es) k []) ≡ false)
     → filter (λ e. test e.0) es ≡ take n (drop i es)
-run test [] zero zero before within after = refl
-run test [] zero (suc n) before within after = refl
-run test [] (suc i) zero before within after = refl
-run test [] (suc i) (suc n) before within after = refl
+run test [] i n before within after = rw (drop-nil, take-nil) refl
 run test (e ∷ es) (suc i) n before within after =
     rw (before 0 (omega arith) (omega arith))
     (run test es i n (λ k l b. before (suc k) (omega arith) (omega arith))
@@ -260,4 +238,4 @@ module _ {A X : Type 0} (f : A → List ℕ × X) (xs : List A) (at : ℕ) (x : 
     pub replaced : (y : A) (value : X) → f y ≡ ((f x).0, value)
         → map f (set xs at y) ≡ insert_entry key_order (map f xs) key value
     replaced y value e = map-set f xs at y ∙ ap (set (map f xs) at)
-        (e ∙ ap (λ k. (k, value)) seen_at.0) ∙ sym (written key (map f xs) at value sorted is)
+        (e ∙ ap (λ k. (k, value)) seen_at.0) ∙ sym ((there key (map f xs) at sorted is).4 value)

@@ -6,13 +6,20 @@ use Rattle.std.specs.Bool.{Decides}
 use Rattle.std.specs.Cmp.Lexicographic.{pointwise, bytes_decides}
 use Rattle.std.specs.List.{AllByRecursion}
 use Rattle.std.specs.Str.{chars}
+use Rattle.std.proofs.lemmas.Str.{encodes-chars}
 use Rattle.inlinable_string.specs.Text.{bytes_of}
 use Rattle.serde_json.specs.Data.{Data, object, Members, no_members, put}
-use Rattle.serde_json.specs.Find.{get_member}
 use Rattle.serde_json.proofs.Views.{get_member-put, get_member-put_other}
 use Rattle.inline_uses.specs.Tree.{node_at, IsTree, AreFound, Leads, walk, IsShown}
 use Rattle.inline_uses.specs.declared.tree.Node.{Node}
 use Rattle.inline_uses.proofs.Under.{Entry, IsLeft, under, found_left}
+
+pub same_or_other : (key k : List ℕ) → (key ≡ k) ⊎ ¬ (key ≡ k)
+same_or_other key k = by (pointwise nat_eq key k) (bytes_decides key k)
+  where
+    by : (b : Bool) → Decides b (key ≡ k) → (key ≡ k) ⊎ ¬ (key ≡ k)
+    by true told = inl (told.0 refl)
+    by false told = inr (λ same. let f : false ≡ true = told.1 same in cc)
 
 -- the keys lead down from the place to a node
 abbrev pub Starts : List Node → Option ℕ → List ℕ → List (List ℕ) → Type 0
@@ -26,12 +33,12 @@ IsShownBut nodes place d left =
     × (Starts nodes place key keys → IsSome (walk d (key ∷ keys)) ⊎ IsLeft left key)
 
 pub none_shown : (nodes : List Node) (place : Option ℕ) (ids : BTreeMap (Option ℕ × List ℕ) ℕ)
-    → ((bs : List ℕ) → IsUtf8 bs → bytes_of (chars bs) ≡ bs) → AreFound nodes ids
-    → IsShownBut nodes place (object no_members) (under place ids.entries)
-none_shown nodes place ids law found = λ key keys utf8 all. (
+    → AreFound nodes ids → IsShownBut nodes place (object no_members) (under place ids.entries)
+none_shown nodes place ids found = λ key keys utf8 all. (
   (λ some. cc),
-  λ (to, (id, here, leads)). inr (found_left place key ids.entries id (law key utf8)
-      ((found place (chars key) id (ap chars (law key utf8))).1 here)),
+  λ (to, (id, here, leads)). let bytes = encodes-chars key utf8 in
+      inr (found_left place key ids.entries id bytes
+      ((found place (chars key) id (ap chars bytes)).1 here)),
 )
 
 pub all_shown : (nodes : List Node) (place : Option ℕ) (d : Data)
@@ -56,14 +63,14 @@ same_below nodes n v inner (key ∷ keys) all = inner key keys all.0 all.1
 module _ (nodes : List Node) (place : Option ℕ) (n : ℕ) (k : List ℕ) (v : Data) (ms : Members)
     (tree : IsTree nodes) (is : slice_get nodes n ≡ Some (node_at place k)) where
   -- keys that begin with its own
-  under_key : (key : List ℕ) (keys : List (List ℕ)) → AllByRecursion IsUtf8 keys
-      → chars (bytes_of k) ≡ k → IsShown nodes (Some n) v → key ≡ bytes_of k
-      → IsSome (walk (object (put (bytes_of k) v ms)) (key ∷ keys)) ↔ Starts nodes place key keys
-  under_key key keys all text inner e =
+  own_key : (keys : List (List ℕ)) → AllByRecursion IsUtf8 keys
+      → chars (bytes_of k) ≡ k → IsShown nodes (Some n) v
+      → IsSome (walk (object (put (bytes_of k) v ms)) (bytes_of k ∷ keys))
+      ↔ Starts nodes place (bytes_of k) keys
+  own_key keys all text inner =
       let below = same_below nodes n v inner keys all in
-      let found : get_member key (put (bytes_of k) v ms) ≡ Some v =
-      rw e (get_member-put (bytes_of k) v ms) in
-      let named : slice_get nodes n ≡ Some (node_at place (chars key)) = rw (e, text) is in (
+      let found = get_member-put (bytes_of k) v ms in
+      let named : slice_get nodes n ≡ Some (node_at place (chars (bytes_of k))) = rw text is in (
         (λ some. let (to, leads) = below.0 (rw found at some) in (to, (n, named, leads))),
         λ (to, (id, here, leads)).
             let same : id ≡ n = tree.once id n _ here named in
@@ -74,29 +81,19 @@ module _ (nodes : List Node) (place : Option ℕ) (n : ℕ) (k : List ℕ) (v : 
   pub put_in : (p : Option ℕ) (left : List Entry) → chars (bytes_of k) ≡ k
       → IsShown nodes (Some n) v → IsShownBut nodes place (object ms) (((p, k), n) ∷ left)
       → IsShownBut nodes place (object (put (bytes_of k) v ms)) left
-  put_in p left text inner outer = λ key keys utf8 all.
-      by_test key keys utf8 all (pointwise nat_eq key (bytes_of k)) (bytes_decides key (bytes_of k))
-    where
-      by_test : (key : List ℕ) (keys : List (List ℕ)) → IsUtf8 key → AllByRecursion IsUtf8 keys
-          → (b : Bool) → Decides b (key ≡ bytes_of k)
-          → (IsSome (walk (object (put (bytes_of k) v ms)) (key ∷ keys))
-          → Starts nodes place key keys)
-          × (Starts nodes place key keys
-          → IsSome (walk (object (put (bytes_of k) v ms)) (key ∷ keys)) ⊎ IsLeft left key)
-      by_test key keys utf8 all true told =
-          let own = under_key key keys all text inner (told.0 refl) in
-          (own.0, λ leads. inl (own.1 leads))
-      by_test key keys utf8 all false told =
-          let differs : ¬ (key ≡ bytes_of k) = λ e. let f : false ≡ true = told.1 e in cc in
-          let other : get_member key (put (bytes_of k) v ms) ≡ get_member key ms =
-          get_member-put_other key (bytes_of k) v ms differs in
-          let s = outer key keys utf8 all in (
-            (λ some. s.0 (rw other at some)),
-            λ leads. elim (s.1 leads) [
-              | inl some ↦ inl (rw other some)
-              | inr here ↦ elim here [
-                | inl own ↦ absurd (differs (sym own))
-                | inr later ↦ inr later
-              ]
-            ],
-          )
+  put_in p left text inner outer = λ key keys utf8 all. elim (same_or_other key (bytes_of k)) [
+    | inl same ↦ let own = own_key keys all text inner in
+        rw same (own.0, λ leads. inl (own.1 leads))
+    | inr differs ↦
+        let other = get_member-put_other key (bytes_of k) v ms differs in
+        let s = outer key keys utf8 all in (
+          (λ some. s.0 (rw other at some)),
+          λ leads. elim (s.1 leads) [
+            | inl some ↦ inl (rw other some)
+            | inr here ↦ elim here [
+              | inl own ↦ absurd (differs (sym own))
+              | inr later ↦ inr later
+            ]
+          ],
+        )
+  ]

@@ -1,16 +1,17 @@
 -- A tree with one more node at the end of its list.
 use Rattle.std.proofs.Common.{◌≡◌, ◌<◌, ◌≤◌, ◌↔◌, suc, inl, inr, ℕ, List, [], ◌∷◌, ◌++◌, length, Bool, true, false, cond, Option, Some, None, Ordering, Less, Equal, Greater, is_eq, refl, ap, subst, sym, ◌∙◌, arith, rules}
-use Rattle.std.specs.Prelude.{slice_get, unwrap_or, option_map}
+use Rattle.std.specs.Prelude.{slice_get}
+use denote.Ref.{Bor}
 use Rattle.std.specs.BTreeMap.{BTreeMap, get}
 use Rattle.std.specs.Bool.{Decides}
-use Rattle.std.specs.Cmp.Lexicographic.{slice_cmp, bytes_decides, texts_ties}
-use Rattle.std.specs.List.{All}
+use Rattle.std.specs.Cmp.Lexicographic.{slice_cmp}
 use Rattle.std.specs.Option.{option_cmp}
 use Rattle.std.specs.Ordering.{nat_cmp, ordering_then}
 use Rattle.std.specs.Str.{chars}
 use Rattle.inlinable_string.specs.Text.{bytes_of, size}
 use Rattle.std.proofs.lemmas.Cmp.{ranked, tied_itself, nat_cmp_total, nat_list_cmp_total}
 use Rattle.std.proofs.lemmas.List.{append_assoc, length-append}
+use Rattle.std.proofs.lemmas.Map.Lookups.{exact_bytes}
 use Rattle.serde_json.specs.Data.{Data, Members, member}
 use Rattle.inline_uses.specs.Tree.{node_at, IsPlaceOf, IsTree, place_order, AreFound, Leads, listed, listed_members}
 use Rattle.inline_uses.specs.declared.tree.Node.{Node}
@@ -57,25 +58,12 @@ same_key : (p q : Option ℕ) (k l : List ℕ) → chars (bytes_of k) ≡ k → 
 same_key p q k l text other = (
   (λ e. let tied = both_tied (option_cmp nat_cmp p q)
       (slice_cmp nat_cmp (bytes_of k) (bytes_of l)) e in
-      let bytes : bytes_of k ≡ bytes_of l = (bytes_decides (bytes_of k) (bytes_of l)).0
-      (texts_ties (bytes_of k) (bytes_of l) ∙ ap is_eq tied.1) in
+      let bytes = exact_bytes (bytes_of k) (bytes_of l) tied.1 in
       let keys : k ≡ l = sym text ∙ ap chars bytes ∙ other in
       rw (same_place p q tied.0, keys) refl),
   λ e. let places : q ≡ p = ap (λ (node : Node). node.parent) (sym e) in
       let keys : l ≡ k = ap (λ (node : Node). node.key) (sym e) in
       rw (places, keys, place_tied p, tied_itself nat_list_cmp_total (bytes_of k)) refl,
-)
-
--- a node other than the one that is put in is found as before
-found_other : (nodes : List Node) (node other : Node) (old new : Option ℕ) (id : ℕ) → new ≡ old
-    → ¬ (node ≡ other) → (old ≡ Some id) ↔ (slice_get nodes id ≡ Some other)
-    → (new ≡ Some id) ↔ (slice_get (nodes ++ node ∷ []) id ≡ Some other)
-found_other nodes node other old new id is differs was = (
-  (λ h. before_append nodes (node ∷ []) id other (was.0 (sym is ∙ h))),
-  λ h. elim (from_push nodes other node id h) [
-    | inl older ↦ is ∙ was.1 older
-    | inr newer ↦ absurd (differs newer.1)
-  ],
 )
 
 -- a node that is not there is found once it is put in
@@ -95,18 +83,20 @@ found nodes parent key old new n count none text was sets place k id is_text =
         → (get place_order new (place, k) ≡ Some id)
         ↔ (slice_get (nodes ++ node_at parent key ∷ []) id ≡ Some (node_at place k))
     by_test true told is = (
-      (λ h. let e : n ≡ id = cc in
-          subst (λ i. slice_get (nodes ++ node_at parent key ∷ []) i ≡ Some (node_at place k))
-          (sym count ∙ e) (at_push nodes (node_at parent key) ∙ ap Some (told.0 refl))),
+      (λ h. let e : id ≡ length nodes = cc in
+          rw e (at_push nodes (node_at parent key) ∙ ap Some (told.0 refl))),
       λ h. elim (from_push nodes (node_at place k) (node_at parent key) id h) [
         | inl older ↦ absurd (none id (older ∙ ap Some (sym (told.0 refl))))
         | inr newer ↦ is ∙ ap Some (count ∙ sym newer.0)
       ],
     )
-    by_test false told is =
-        found_other nodes (node_at parent key) (node_at place k)
-        (get place_order old (place, k)) (get place_order new (place, k)) id is
-        (λ e. let f : false ≡ true = told.1 e in cc) (was place k id is_text)
+    by_test false told is = (
+      (λ h. before_append nodes (_ ∷ []) id _ ((was place k id is_text).0 (sym is ∙ h))),
+      λ h. elim (from_push nodes (node_at place k) (node_at parent key) id h) [
+        | inl older ↦ is ∙ (was place k id is_text).1 older
+        | inr newer ↦ let f : false ≡ true = told.1 newer.1 in cc
+      ],
+    )
 
 -- the keys from a place down, with the key of the node at the place before them
 pub above : (nodes : List Node) (at id : ℕ) (node : Node) (keys : List (List ℕ)) → IsTree nodes
@@ -121,23 +111,15 @@ above nodes at id node keys tree within is leads = (has node.parent refl, (at, i
         let earlier : p < at = tree.later at p node.key (is ∙ under) in
         omega arith
 
--- the key of a node by its number
-abbrev pub key_of : List Node → ℕ → List ℕ
-key_of nodes id = unwrap_or (option_map (λ (node : Node). node.key) (slice_get nodes id)) []
-
 -- the keys of nodes, that of the last first, and then others
-abbrev pub with_keys : List Node → List (List ℕ) → List ℕ → List (List ℕ)
-with_keys nodes keys [] = keys
-with_keys nodes keys (id ∷ ids) = with_keys nodes (key_of nodes id ∷ keys) ids
+abbrev pub with_keys : List (List ℕ) → List (Bor Node) → List (List ℕ)
+with_keys keys [] = keys
+with_keys keys (node ∷ nodes) = with_keys (node.now.key ∷ keys) nodes
 
-pub with_keys-push : (nodes : List Node) (keys : List (List ℕ)) (ids : List ℕ) (id : ℕ)
-    → with_keys nodes keys (ids ++ id ∷ []) ≡ key_of nodes id ∷ with_keys nodes keys ids
-with_keys-push nodes keys [] id = refl
-with_keys-push nodes keys (i ∷ ids) id = with_keys-push nodes (key_of nodes i ∷ keys) ids id
-
--- the numbers are all of nodes
-abbrev pub AreNodes : List Node → List ℕ → Type 0
-AreNodes nodes ids = All (λ id. id < length nodes) ids
+pub with_keys-push : (keys : List (List ℕ)) (nodes : List (Bor Node)) (node : Bor Node)
+    → with_keys keys (nodes ++ node ∷ []) ≡ node.now.key ∷ with_keys keys nodes
+with_keys-push keys [] node = refl
+with_keys-push keys (n ∷ nodes) node = with_keys-push (n.now.key ∷ keys) nodes node
 
 pub wider : (nodes more : List Node) (place : Option ℕ) → IsPlaceOf nodes place
     → IsPlaceOf (nodes ++ more) place
@@ -146,11 +128,11 @@ wider nodes more (Some id) h = rw length-append (omega arith)
 
 -- the nodes of one member, and then those of the members after it
 pub one_more : (nodes : List Node) (place : Option ℕ) (key : List ℕ) (d : Data) (ms : Members)
-    → (new after : List Node) → new ≡ nodes ++ node_at place (chars key) ∷ []
-    → after ≡ new ++ listed (length new) (Some (length nodes)) d
-    → after ++ listed_members (length after) place ms
+    → let new = nodes ++ node_at place (chars key) ∷ [] in
+    let after = new ++ listed (length new) (Some (length nodes)) d in
+    after ++ listed_members (length after) place ms
     ≡ nodes ++ listed_members (length nodes) place (member key d ms)
-one_more nodes place key d ms new after is_new is_after =
-    let count : length new ≡ suc (length nodes) = rw (is_new, length-append) (omega arith) in
-    let known = nodes ++ node_at place (chars key) ∷ [] in
-    rw (is_after, length-append, count, is_new, append_assoc known, append_assoc nodes) refl
+one_more nodes place key d ms =
+    let new = nodes ++ node_at place (chars key) ∷ [] in
+    let count : length new ≡ suc (length nodes) = rw length-append (omega arith) in
+    rw (length-append new, count, append_assoc new, append_assoc nodes) refl

@@ -1,11 +1,11 @@
 -- The part of what finds a tree's nodes that has those under one place.
-use Rattle.std.proofs.Common.{◌≡◌, ◌⊎◌, ◌<◌, inl, inr, ℕ, suc, List, [], ◌∷◌, Bool, true, false, cond, Option, Some, None, unwrap_or, option_map, Ordering, Less, Equal, Greater, is_eq, refl, ap, sym, subst, ◌∙◌, arith}
-use Rattle.std.specs.Prelude.{slice_get, ⊤}
+use Rattle.std.proofs.Common.{◌≡◌, ◌⊎◌, ◌<◌, inl, inr, ℕ, zero, suc, List, [], ◌∷◌, true, false, Option, Some, None, unwrap_or, option_map, Ordering, Less, Equal, Greater, refl, ap, sym, subst, ◌∙◌, arith}
+use Rattle.std.specs.Prelude.{slice_get}
 use Rattle.std.specs.BTreeMap.{BTreeMap, is_at}
 use Rattle.std.specs.BTreeMap.Range.{IsInRange, IsEntryInRange, range_contains, entries_between}
 use Rattle.std.specs.Cmp.{nat_cmp_is}
-use Rattle.std.specs.Cmp.Lexicographic.{slice_cmp, bytes_decides, texts_ties}
-use Rattle.std.specs.List.{All}
+use Rattle.std.specs.Cmp.Lexicographic.{slice_cmp}
+use Rattle.std.specs.List.{All, AllByRecursion}
 use Rattle.std.specs.Map.{lookup}
 use Rattle.std.specs.Option.{option_cmp}
 use Rattle.std.specs.Ordering.{nat_cmp, ordering_then, is_gt, is_le}
@@ -13,6 +13,9 @@ use Rattle.std.specs.Str.{chars}
 use Rattle.std.specs.declared.ops.Bound.{Bound}
 use Rattle.std.specs.declared.ops.Bound.TheVariants.{Included, Excluded}
 use Rattle.std.proofs.lemmas.Cmp.{ranked}
+use Rattle.std.proofs.lemmas.List.Elements.{All-weaker, recursion_from_All}
+use Rattle.std.proofs.lemmas.Map.Entries.{lookup-filter-keys, place_from_lookup}
+use Rattle.std.proofs.lemmas.Map.Lookups.{exact_bytes}
 use Rattle.inlinable_string.specs.Text.{bytes_of}
 use Rattle.inline_uses.specs.Tree.{node_at, place_order, AreFound}
 use Rattle.inline_uses.specs.declared.tree.Node.{Node}
@@ -41,11 +44,12 @@ IsLeft [] key = ⊥
 IsLeft (e ∷ es) key = (bytes_of e.0.1 ≡ key) ⊎ IsLeft es key
 
 -- the entries are of nodes under the place
+abbrev pub IsUnder : List Node → Option ℕ → Entry → Type 0
+IsUnder nodes place e =
+    chars (bytes_of e.0.1) ≡ e.0.1 → slice_get nodes e.1 ≡ Some (node_at place e.0.1)
+
 abbrev pub AreUnder : List Node → Option ℕ → List Entry → Type 0
-AreUnder nodes place [] = ⊤
-AreUnder nodes place (e ∷ es) =
-    (chars (bytes_of e.0.1) ≡ e.0.1 → slice_get nodes e.1 ≡ Some (node_at place e.0.1))
-    × AreUnder nodes place es
+AreUnder nodes place es = AllByRecursion (IsUnder nodes place) es
 
 place_before : (place : Option ℕ) → option_cmp nat_cmp place (Some (next_of place)) ≡ Less
 place_before None = refl
@@ -98,61 +102,39 @@ pub all_under : (nodes : List Node) (place : Option ℕ) (ids : BTreeMap (Option
     → (es : List Entry) → AreFound nodes ids
     → All (IsEntryInRange place_order (first_key place) (end_key place) ids) es
     → AreUnder nodes place es
-all_under nodes place ids [] found all = tt
-all_under nodes place ids (e ∷ es) found all =
-    let here = all 0 e (omega arith) in (
-      (λ text. subst (λ p. slice_get nodes e.1 ≡ Some (node_at p e.0.1))
-          (in_place place e.0.0 e.0.1 here.0)
-          ((found e.0.0 e.0.1 e.1 text).0 here.1)),
-      all_under nodes place ids es found (λ i d less. all (suc i) d (omega arith)),
-    )
+all_under nodes place ids es found all = recursion_from_All (IsUnder nodes place) es
+    (All-weaker (IsEntryInRange place_order (first_key place) (end_key place) ids)
+    (IsUnder nodes place) (λ e here text.
+    subst (λ p. slice_get nodes e.1 ≡ Some (node_at p e.0.1)) (in_place place e.0.0 e.0.1 here.0)
+    ((found e.0.0 e.0.1 e.1 text).0 here.1)) es all)
+
+left_at : (es : List Entry) (i : ℕ) (e : Entry) (key : List ℕ) → slice_get es i ≡ Some e
+    → bytes_of e.0.1 ≡ key → IsLeft es key
+left_at [] i e key is same = cc
+left_at (x ∷ es) zero e key is same = let here : x ≡ e = cc in inl (rw here same)
+left_at (x ∷ es) (suc i) e key is same = inr (left_at es i e key is same)
 
 -- a key that is found under the place is left at the start
 pub found_left : (place : Option ℕ) (key : List ℕ) (es : List Entry) (id : ℕ)
     → bytes_of (chars key) ≡ key → lookup (is_at (place_order (place, chars key))) es ≡ Some id
     → IsLeft (under place es) key
-found_left place key [] id bytes is = cc
-found_left place key (((p, k), v) ∷ es) id bytes is =
-    by_test (is_eq (place_order (place, chars key) (p, k))) refl is
-    (range_contains place_order (first_key place) (end_key place) (p, k)) refl
-    (λ rest. found_left place key es id bytes rest)
-  where
-    by_test : (b : Bool) → is_eq (place_order (place, chars key) (p, k)) ≡ b
-        → cond b (Some v) (lookup (is_at (place_order (place, chars key))) es) ≡ Some id
-        → (c : Bool)
-        → range_contains place_order (first_key place) (end_key place) (p, k) ≡ c
-        → (lookup (is_at (place_order (place, chars key))) es ≡ Some id
-        → IsLeft (under place es) key)
-        → IsLeft (cond c (((p, k), v) ∷ under place es) (under place es)) key
-    by_test true same here true inside later =
-        let tied = both_tied (option_cmp nat_cmp place p)
-        (slice_cmp nat_cmp (bytes_of (chars key)) (bytes_of k)) same in
-        let e : bytes_of (chars key) ≡ bytes_of k
-        = (bytes_decides (bytes_of (chars key)) (bytes_of k)).0
-        (texts_ties (bytes_of (chars key)) (bytes_of k) ∙ ap is_eq tied.1) in
-        inl (sym e ∙ bytes)
-    by_test true same here false outside later =
-        let tied = both_tied (option_cmp nat_cmp place p)
-        (slice_cmp nat_cmp (bytes_of (chars key)) (bytes_of k)) same in
-        let inside = contained place p k (same_place place p tied.0) in
-        let e : false ≡ true = sym outside ∙ inside in cc
-    by_test false other here true inside later = inr (later here)
-    by_test false other here false outside later = later here
+found_left place key es id bytes is =
+    let test = is_at (place_order (place, chars key)) in
+    let tied = λ (q : Option ℕ × List ℕ) (same : test q ≡ true). both_tied
+    (option_cmp nat_cmp place q.0) (slice_cmp nat_cmp (bytes_of (chars key)) (bytes_of q.1)) same in
+    let kept = lookup-filter-keys test
+    (range_contains place_order (first_key place) (end_key place)) true
+    (λ q same. contained place q.0 q.1 (same_place place q.0 (tied q same).0)) es in
+    let (i, q, here, same) = place_from_lookup test (under place es) id (kept ∙ is) in
+    left_at (under place es) i (q, id) key here
+    (sym (exact_bytes (bytes_of (chars key)) (bytes_of q.1) (tied q same).1) ∙ bytes)
 
--- what a range with equal bounds gives
-pub range_is : (place p : Option ℕ) (n : ℕ) (k l : List ℕ)
-    → (ids : BTreeMap (Option ℕ × List ℕ) ℕ) (es : List Entry) → p ≡ place → n ≡ next_of place
-    → k ≡ [] → l ≡ []
-    → es ≡ entries_between place_order (Included (p, k)) (Excluded (Some n, l)) ids.entries
-    → All (IsEntryInRange place_order (Included (p, k)) (Excluded (Some n, l)) ids) es
-    → (es ≡ under place ids.entries)
+-- what a range with these bounds gives
+pub range_is : (place : Option ℕ) (a b : Bound (Option ℕ × List ℕ))
+    → (ids : BTreeMap (Option ℕ × List ℕ) ℕ) (es : List Entry)
+    → a ≡ first_key place → b ≡ end_key place
+    → es ≡ entries_between place_order a b ids.entries
+    → All (IsEntryInRange place_order a b ids) es → (es ≡ under place ids.entries)
     × All (IsEntryInRange place_order (first_key place) (end_key place) ids) es
-range_is place p n k l ids es e f g h between inside =
-    let first : Included (p, k) ≡ first_key place = rw (e, g) refl in
-    let end : Excluded (Some n, l) ≡ end_key place = rw (f, h) refl in (
-      between ∙ ap (λ a. entries_between place_order a (Excluded (Some n, l)) ids.entries) first
-          ∙ ap (λ b. entries_between place_order (first_key place) b ids.entries) end,
-      subst (λ b. All (IsEntryInRange place_order (first_key place) b ids) es) end
-          (subst (λ a. All (IsEntryInRange place_order a (Excluded (Some n, l)) ids) es) first
-          inside),
-    )
+range_is place a b ids es first end between inside =
+    (rw (first, end) at between, rw (first, end) at inside)

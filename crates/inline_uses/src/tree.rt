@@ -181,18 +181,19 @@ impl Tree {
         if self.nodes.len() <= id {
             return Err(Fault::NoNode);
         }
-        let mut ids = Vec::new(alloc);
+        let mut nodes = Vec::new(alloc);
         let mut place = Some(id);
         'up: while let Some(at) = place {
-            if ids.push(at).is_err() {
+            let node = &self.nodes[at];
+            if nodes.push(node).is_err() {
                 return Err(Fault::NoMemory);
             }
-            place = self.nodes[at].parent;
+            place = node.parent;
         }
         let mut path = InlinableString::new(alloc);
-        'down: while let Some(at) = ids.pop() {
+        'down: while let Some(node) = nodes.pop() {
             path.push('/')?;
-            path.push_str(self.nodes[at].key.as_str())?;
+            path.push_str(node.key.as_str())?;
         }
         Ok(path)
     }

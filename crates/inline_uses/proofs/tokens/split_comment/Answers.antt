@@ -1,42 +1,43 @@
-use Rattle.std.proofs.Common.{◌∷◌, [], ◌++◌, take, drop, ap, sym, ◌∙◌, append_assoc, arith}
+use Rattle.std.proofs.Common.{◌≡◌, ◌∷◌, [], ◌++◌, None, Some, drop, ap, sym, ◌∙◌}
 use Rattle.std.specs.Str.{chars}
-use Rattle.inline_uses.proofs.Lexemes.{no_close, through_close, none_before, comment_starts}
+use Rattle.std.proofs.lemmas.Str.Pattern.{split_text_parts}
+use Rattle.inline_uses.proofs.Lexemes.{no_close, none_before, comment_is}
+use Rattle.inline_uses.proofs.tokens.split_comment.Goals.{In-Some}
 use Rattle.inline_uses.proofs.tokens.split_comment.Goals as goal
 
 pub returns-in-None-clause-none : goal.returns-in-None-clause-none
 returns-in-None-clause-none c front back is =
+    let s = c.in_ok-inside.inside.now in
     let whole = c.in_ok-after.ensures.some
     ∙ ap (λ l. c.in_ok-after.field-0-0 ∷ l) c.in_ok-inside.ensures.some in
-    no_close c.in_ok-inside.inside.now c.in_ok-inside.ensures.utf8 c.in-None.ensures.cases front
-    back (sym (ap (drop 2) whole) ∙ is)
+    no_close s c.in_ok-inside.ensures.utf8
+    (split_text_parts (42 ∷ 47 ∷ []) s None c.in-None.ensures.cases) front back
+    (sym (ap (drop 2) whole) ∙ is)
+
+split_at_close : (c : In-Some)
+    → c.in_ok-inside.inside.now ≡ c.in-Some.field-0-0.now ++ 42 ∷ 47 ∷ c.in-Some.rest.now
+split_at_close c = split_text_parts (42 ∷ 47 ∷ []) c.in_ok-inside.inside.now
+    (Some (c.in-Some.field-0-0, c.in-Some.rest)) c.in-Some.ensures.cases
+
+is_comment : (c : In-Some) → chars c.args.source.now
+    ≡ (47 ∷ 42 ∷ chars c.in-Some.field-0-0.now ++ 42 ∷ 47 ∷ []) ++ chars c.in-Some.rest.now
+is_comment c = comment_is _ _ c.in_ok-inside.inside.now c.in-Some.field-0-0.now
+    c.in-Some.rest.now _ _ c.requires c.in_ok-after.ensures.some c.in_ok-inside.ensures.some
+    c.in_ok-inside.ensures.utf8 (split_at_close c)
 
 pub split_before-requires : goal.split_before-requires
-split_before-requires c =
-    let s = c.in_ok-inside.inside.now in
-    let at = c.in-Some.ensures.cases in (
-      47 ∷ 42 ∷ chars (take at.0 s) ++ 42 ∷ 47 ∷ [],
-      comment_starts (chars c.args.source.now) (chars c.in_ok-after.after.now) (chars s)
-          c.in_ok-after.field-0-0 c.in_ok-inside.field-0-0 c.requires c.in_ok-after.ensures.some
-          c.in_ok-inside.ensures.some
-          ∙ ap (λ l. 47 ∷ 42 ∷ l) (through_close s (drop at.1 s) at.0 c.in_ok-inside.ensures.utf8
-          (omega (arith, at.2.1.ends, at.7)) at.2.1.split
-          ∙ ap (λ bs. chars (take at.0 s) ++ 42 ∷ 47 ∷ chars bs) (sym at.4)
-          ∙ sym (append_assoc (chars (take at.0 s)) (42 ∷ 47 ∷ []) (chars c.in-Some.rest.now))),
-    )
+split_before-requires c = (
+  47 ∷ 42 ∷ chars c.in-Some.field-0-0.now ++ 42 ∷ 47 ∷ [],
+  is_comment (goal.at.split_before-requires c).In-Some,
+)
 
 pub returns-in-Some-clause-text : goal.returns-in-Some-clause-text
 returns-in-Some-clause-text c =
-    let s = c.in_ok-inside.inside.now in
-    let at = c.in-Some.ensures.cases in (
-      chars (take at.0 s),
-      c.split_before.ensures.front (47 ∷ 42 ∷ chars (take at.0 s) ++ 42 ∷ 47 ∷ [])
-          (comment_starts (chars c.args.source.now) (chars c.in_ok-after.after.now) (chars s)
-          c.in_ok-after.field-0-0 c.in_ok-inside.field-0-0 c.requires c.in_ok-after.ensures.some
-          c.in_ok-inside.ensures.some
-          ∙ ap (λ l. 47 ∷ 42 ∷ l) (through_close s (drop at.1 s) at.0 c.in_ok-inside.ensures.utf8
-          (omega (arith, at.2.1.ends, at.7)) at.2.1.split
-          ∙ ap (λ bs. chars (take at.0 s) ++ 42 ∷ 47 ∷ chars bs) (sym at.4)
-          ∙ sym (append_assoc (chars (take at.0 s)) (42 ∷ 47 ∷ []) (chars c.in-Some.rest.now)))),
-      none_before s (drop at.1 s) at.0 c.in_ok-inside.ensures.utf8
-          (omega (arith, at.2.1.ends, at.7)) at.2.1.split at.2.0,
+    let text = c.in-Some.field-0-0.now in (
+      chars text,
+      c.split_before.ensures.front (47 ∷ 42 ∷ chars text ++ 42 ∷ 47 ∷ [])
+          (is_comment (goal.at.returns-in-Some-clause-text c).In-Some),
+      none_before c.in_ok-inside.inside.now text c.in-Some.rest.now c.in_ok-inside.ensures.utf8
+          (split_at_close (goal.at.returns-in-Some-clause-text c).In-Some)
+          (rw (← c.in-Some.ensures.cases.6) at c.in-Some.ensures.cases.2.0),
     )

@@ -1,6 +1,7 @@
 use Rattle.std.proofs.Common.{rules, arith, ◌≡◌, ◌<◌, ◌≤◌, ◌⊎◌, inl, inr, ℕ, suc, List, [], ◌∷◌, length, Some, refl, ap, sym, subst, ◌∙◌}
 use Rattle.std.specs.Prelude.{slice_get}
 use Rattle.std.specs.Str.{chars}
+use Rattle.std.specs.declared.ops.Bound.TheVariants.{Included, Excluded}
 use Rattle.std.proofs.lemmas.Option.{slice_get_within}
 use Rattle.inlinable_string.specs.Text.{bytes_of}
 use Rattle.serde_json.specs.View.{view, members_view}
@@ -29,8 +30,9 @@ loop-entry-init t c =
       | in-None w ↦ w.next-is ∙ rw w.in-None.is refl
     ] in
     let items = c.range-entry-items in
-    let (all, inside) = range_is c.args.place c.match-place.place c.match-place.next c.new.result
-    c.new-2.result ids items.result place next c.new.ensures c.new-2.ensures
+    let (all, inside) = range_is c.args.place (Included (c.match-place.place, c.new.result))
+    (Excluded (Some c.match-place.next, c.new-2.result)) ids items.result
+    (rw (place, c.new.ensures) refl) (rw (next, c.new-2.ensures) refl)
     (items.ensures.between tt) (items.ensures.in_range tt).0 in
     record {
       shown = rw (
@@ -38,7 +40,7 @@ loop-entry-init t c =
         all,
         c.new-members.ensures.empty,
       )
-          (none_shown nodes c.args.place ids c.bytes_of_parts.ensures.string found);
+          (none_shown nodes c.args.place ids found);
       under = rw c.into_iter-entry-iterator.ensures.into_iter_gives
           (all_under nodes c.args.place ids _ found inside);
       readable = rw c.new-members.ensures.empty (search rules);

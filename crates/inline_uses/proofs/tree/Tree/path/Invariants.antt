@@ -1,24 +1,20 @@
 use Rattle.std.proofs.Common.{◌≡◌, ℕ, suc, List, [], ◌++◌, None, length, unwrap_or, option_map}
 use Rattle.inlinable_string.specs.Values.{inlinable_state}
 use Rattle.inline_uses.specs.Tree.{IsPlaceOf, Leads, joined}
-use Rattle.inline_uses.proofs.Trees.{with_keys, AreNodes}
+use Rattle.inline_uses.proofs.Trees.{with_keys}
 use Rattle.inline_uses.proofs.tree.Tree.path.Given as goal
 
 abbrev pub invariant-up : goal.invariant-up
 invariant-up l = IsPlaceOf l.self-inside.nodes.items l.place
-    × AreNodes l.self-inside.nodes.items l.ids.items
-    × Leads l.self-inside.nodes.items l.place
-    (with_keys l.self-inside.nodes.items [] l.ids.items) l.id
+    × Leads l.self-inside.nodes.items l.place (with_keys [] l.nodes.items) l.id
 
 abbrev pub decreases-up : goal.decreases-up
 decreases-up l = unwrap_or (option_map suc l.place) 0
 
 -- with the keys that are left, the path is that of the keys
 abbrev pub invariant-down : goal.invariant-down
-invariant-down l = AreNodes l.self-inside.nodes.items l.ids.items
-    × ((keys : List (List ℕ)) × Leads l.self-inside.nodes.items None keys l.id
-    × ((inlinable_state 30 l.path).text
-    ++ joined (with_keys l.self-inside.nodes.items [] l.ids.items) ≡ joined keys))
+invariant-down l = (keys : List (List ℕ)) × Leads l.self None keys l.id
+    × ((inlinable_state 30 l.path).text ++ joined (with_keys [] l.nodes.items) ≡ joined keys)
 
 abbrev pub decreases-down : goal.decreases-down
-decreases-down l = length l.ids.items
+decreases-down l = length l.nodes.items
