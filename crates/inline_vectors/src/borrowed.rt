@@ -59,9 +59,17 @@ fn a_text_is_used_in_the_place_of_a_str(rt: HostRuntime) {
     }
 }
 
+/// Appends a string that fits.
+fn append(text: &mut InlineString, string: &str) {
+    if string.len() <= 30 - text.len() {
+        *text += string;
+    }
+}
+
 #[test]
 fn a_string_that_fits_is_appended_by_an_operator(rt: HostRuntime) {
-    let mut text = InlineString::from("he");
-    text += "llo";
+    let mut text = InlineString::new();
+    append(&mut text, "he");
+    append(&mut text, "llo");
     assert!(&rt; text.as_str() == "hello");
 }

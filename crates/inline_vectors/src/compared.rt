@@ -102,13 +102,18 @@ fn is_copied(
     let copied: Result<InlinableString, AllocError> = text.clone();
     drop(hoard);
     match copied {
-        Ok(mut copy) => {
-            let is_same = is_granted && is_lying(&copy, content, storage);
-            copy.clear();
-            is_same && is_lying(text, content, storage)
-        }
+        Ok(copy) => is_granted
+            && is_cleared(copy, content, storage)
+            && is_lying(text, content, storage),
         Err(AllocError) => !is_granted,
     }
+}
+
+/// Whether a copy was this text before it is cleared.
+fn is_cleared(mut copy: InlinableString, content: &str, storage: Storage) -> bool {
+    let is_same = is_lying(&copy, content, storage);
+    copy.clear();
+    is_same
 }
 
 /// The same of a text in an array.

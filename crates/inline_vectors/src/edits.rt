@@ -4,7 +4,8 @@ ghost use Rattle.std.specs.Prelude.{◌≤◌};
 
 use crate::held::Memory::{self, Ample, Held, OneBlock};
 use crate::held::hold;
-use crate::texts::{TEN_CLEFS, is_lying, text_of};
+use crate::makers::is_made;
+use crate::texts::{TEN_CLEFS, assert_none_wrong, is_lying, text_of};
 use Edit::{Lower, Replace, Retain, Split, Upper};
 use Kept::{Digits, Foreign, Odd};
 use Storage::{Heap, Inline};
@@ -166,14 +167,9 @@ fn is_edited<const N: usize>(
     drop(hoard);
     let is_short = matches!(memory, Held) && N < rest.len();
     let is_kept = content.len() < after.len() || text.capacity() == capacity;
-    match answer {
-        Ok(split) => {
-            let is_right = is_lying(&text, after, grown(storage, after.len(), N));
-            let is_rest = is_lying(&split, rest, grown(Inline, rest.len(), N));
-            is_right && is_rest && is_kept && !is_short
-        }
-        Err(AllocError) => is_short && is_kept && is_lying(&text, content, storage),
-    }
+    let left = if is_short { content } else { after };
+    let is_left = is_lying(&text, left, grown(storage, left.len(), N));
+    is_kept && is_left && is_made(answer, rest, grown(Inline, rest.len(), N), !is_short)
 }
 
 /// The first row that is wrong, in arrays, in a text as it is made, and on the heap.
@@ -198,12 +194,10 @@ fn wrong_edit<const N: usize>(
 }
 
 fn assert_edits(rt: &impl Abort, alloc: Global, memory: Memory, rows: &[Row]) {
-    let at_0 = wrong_edit::<0>(rt, alloc, memory, rows);
-    let at_4 = wrong_edit::<4>(rt, alloc, memory, rows);
-    let at_8 = wrong_edit::<8>(rt, alloc, memory, rows);
-    let at_30 = wrong_edit::<30>(rt, alloc, memory, rows);
-    let is_right = at_0.is_none() && at_4.is_none() && at_8.is_none() && at_30.is_none();
-    assert!(rt; is_right, "{at_0:?}, {at_4:?}, {at_8:?}, {at_30:?}");
+    assert_none_wrong(rt, wrong_edit::<0>(rt, alloc, memory, rows));
+    assert_none_wrong(rt, wrong_edit::<4>(rt, alloc, memory, rows));
+    assert_none_wrong(rt, wrong_edit::<8>(rt, alloc, memory, rows));
+    assert_none_wrong(rt, wrong_edit::<30>(rt, alloc, memory, rows));
 }
 
 const REPLACED: &[Row] = rows! {

@@ -6,8 +6,8 @@ use crate::held::{all_memory, hold};
 use crate::texts::{TEN_CLEFS, assert_none_wrong, is_lying, text_of};
 use crate::ways::HEAP_ROOM;
 use Storage::{Heap, Inline};
-use inlinable_string::run::Command::{PushStr, ShrinkToFit};
-use inlinable_string::run::Reply::{Done, NoChar};
+use inlinable_string::run::Command::PushStr;
+use inlinable_string::run::Reply::NoChar;
 use inlinable_string::run::run;
 use inlinable_string::{InlinableString, InlinableStringN, Storage, StringExt};
 use std::alloc::Global;
@@ -16,6 +16,7 @@ use test_support::letters::{LETTERS_30, LETTERS_31};
 
 /// The limits before the move and after it, a text and the capacity that it is made with, the
 /// memory that is left, and where the text is after the move, or in the value that is returned.
+/// It is then shrunk in ample memory.
 pub type MoveRow<'a> = (
     usize,
     usize,
@@ -58,14 +59,26 @@ fn is_moved<const N: usize, const M: usize>(rt: &impl Abort, alloc: Global, row:
     let hoard = hold(rt, alloc, memory);
     let moved = text.with_limit::<M>();
     drop(hoard);
-    match (moved, answer) {
-        (Ok(moved), Ok(wanted)) => {
+    let wanted = match answer {
+        Ok(wanted) | Err(wanted) => wanted,
+    };
+    match moved {
+        Ok(moved) => {
             let is_kept = storage == Inline || wanted == Inline || moved.capacity() == capacity;
-            is_kept && is_lying(&moved, content, wanted)
+            let is_right = answer.is_ok() && is_kept && is_lying(&moved, content, wanted);
+            is_right && is_shrunk(moved, content)
         }
-        (Err(kept), Err(wanted)) => kept.capacity() == capacity && is_lying(&kept, content, wanted),
-        _ => false,
+        Err(kept) => {
+            answer.is_err() && kept.capacity() == capacity && is_lying(&kept, content, wanted)
+        }
     }
+}
+
+/// Whether the text is inline exactly where it fits once it has been shrunk, whatever that answers.
+fn is_shrunk<const M: usize>(mut text: InlinableStringN<M>, content: &str) -> bool {
+    let _ = text.shrink_to_fit();
+    let storage = if content.len() <= M { Inline } else { Heap };
+    is_lying(&text, content, storage)
 }
 
 fn is_row_right(rt: &impl Abort, alloc: Global, row: &MoveRow) -> bool {
@@ -95,18 +108,8 @@ fn a_moved_heap_text_has_the_capacity_that_was_reserved(rt: HostRuntime) {
     let mut text: InlinableString = text_of(&rt, alloc, None, "foo");
     text.reserve(100).expect(&rt, "memory");
     let mut moved = text.with_limit::<1>().ok().expect(&rt, "a heap text");
-    let mut replies = [NoChar; 10];
     let hoard = all_memory(&rt, alloc);
-    run(&mut moved, &[PushStr("0123456789"); 10], &mut replies);
+    run(&mut moved, &[PushStr("0123456789"); 10], &mut [NoChar; 10]);
     drop(hoard);
-    let len = moved.len();
-    assert!(&rt; replies == [Done; 10] && len == 103, "{replies:?}, {len}");
-}
-
-#[test]
-fn a_text_above_the_new_limit_stays_on_the_heap_when_it_is_shrunk(rt: HostRuntime) {
-    let text: InlinableString = text_of(&rt, rt.alloc(), None, "é");
-    let mut moved = text.with_limit::<1>().ok().expect(&rt, "memory");
-    run(&mut moved, &[ShrinkToFit], &mut [NoChar]);
-    assert!(&rt; is_lying(&moved, "é", Heap));
+    assert!(&rt; moved.len() == 103);
 }

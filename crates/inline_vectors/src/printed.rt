@@ -83,11 +83,8 @@ fn a_value_that_holds_a_text_is_written_into_others(rt: HostRuntime) {
         count: 12,
     };
     let (mut array, mut text) = (InlineString::new(), InlinableString::new(alloc));
-    let answers = [
-        write!(array, "{entry}; {entry}; {entry}"),
-        write!(text, "{entry}; {entry}; {entry}"),
-    ];
-    let are_right = array.as_str() == "é     | 12; é     | 12; é"
-        && text.as_str() == "é     | 12; é     | 12; é     | 12";
-    assert!(&rt; answers == [Err(fmt::Error), Ok(())] && are_right);
+    assert!(&rt; write!(array, "{entry}; {entry}; {entry}").is_err());
+    assert!(&rt; array.as_str() == "é     | 12; é     | 12; é");
+    assert!(&rt; write!(text, "{entry}; {entry}; {entry}").is_ok());
+    assert!(&rt; text.as_str() == "é     | 12; é     | 12; é     | 12");
 }
