@@ -2,6 +2,7 @@
 //! own users, and proved from the library's public contracts.
 #![tactic(auto)]
 
+pub mod callers;
 pub mod editor;
 pub mod store;
 pub mod symbols;

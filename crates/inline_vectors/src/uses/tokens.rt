@@ -57,31 +57,7 @@ const ROWS: &[(&str, &[Row])] = &[
             (Mark(';'), ";", "", 2, 15),
         ],
     ),
-    // A number has no point, and only ASCII letters and digits. Those of other scripts begin none.
-    (
-        "1.5e_a٣",
-        &[
-            (Number, "1", "1", 1, 1),
-            (Mark('.'), ".", "", 1, 2),
-            (Number, "5e_a", "5e_a", 1, 3),
-            (Mark('٣'), "٣", "", 1, 7),
-        ],
-    ),
-    (
-        "a_٣٣$",
-        &[(Word, "a_٣٣", "a_٣٣", 1, 1), (Mark('$'), "$", "", 1, 5)],
-    ),
-    // A comment's line ends before the newline. Block comments do not nest.
-    (
-        "///\r\n/ //",
-        &[
-            (LineComment, "///\r", "", 1, 1),
-            (Space, "\n", "", 1, 5),
-            (Mark('/'), "/", "", 2, 1),
-            (Space, " ", "", 2, 2),
-            (LineComment, "//", "", 2, 3),
-        ],
-    ),
+    // Block comments do not nest.
     (
         "/*/*/*",
         &[
@@ -89,24 +65,8 @@ const ROWS: &[(&str, &[Row])] = &[
             (Mark('*'), "*", "", 1, 6),
         ],
     ),
-    // All escapes; a text may have lines, and what looks like a comment.
-    (
-        "\"\\0\\n\\r\\t\\\"\\'\\\\\"\"\"\u{3000}\"//\n\"x",
-        &[
-            (Text, "\"\\0\\n\\r\\t\\\"\\'\\\\\"", "\0\n\r\t\"'\\", 1, 1),
-            (Text, "\"\"", "", 1, 17),
-            (Space, "\u{3000}", "", 1, 19),
-            (Text, "\"//\n\"", "//\n", 1, 20),
-            (Word, "x", "x", 2, 2),
-        ],
-    ),
     // Eight bytes fit.
     ("éééé", &[(Word, "éééé", "éééé", 1, 1)]),
-    ("1234567_", &[(Number, "1234567_", "1234567_", 1, 1)]),
-    (
-        "\"abcdefg\\n\"",
-        &[(Text, "\"abcdefg\\n\"", "abcdefg\n", 1, 1)],
-    ),
 ];
 
 /// The first row that differs from the token in its turn, where words have eight bytes.
@@ -141,14 +101,11 @@ fn sources_have_their_tokens(rt: HostRuntime) -> Result<(), Fail> {
 /// What has no token, where words have eight bytes.
 const FAULTS: &[(&str, Fault)] = &[
     ("éééé1", Fault::TooLong),
-    ("12345678a", Fault::TooLong),
-    ("\"abcdefghi\"", Fault::TooLong),
     // What comes first is found first.
     ("\"abcdefgh\\n\\q", Fault::TooLong),
     ("\"abcdefgh\\q", Fault::BadEscape(2)),
     ("\"é\\u{41}\"", Fault::BadEscape(7)),
     ("\"a // b\n", Fault::Unterminated),
-    ("\"a\\", Fault::Unterminated),
     ("/*/", Fault::Unterminated),
 ];
 
