@@ -6,7 +6,7 @@ counts, with the reason.
 
 # Edits in `must-fail-together/` and in `must-fail/`, by crate: just as many.
 MUST_FAIL = {'inlinable_string': 16}
-EDITS = {'inlinable_string': 235, 'inline_model': 20, 'inline_uses': 51, 'script_language': 35}
+EDITS = {'inlinable_string': 240, 'inline_model': 20, 'inline_uses': 51, 'script_language': 35}
 
 # By crate: requests for memory refused one after the other, and how often a test met one.
 REFUSALS = {'inline_refusals': (7, 192)}
@@ -58,7 +58,7 @@ HOSTILE = {'accepted': 1_200, **dict.fromkeys((
 WRONG_DEFINITIONS = {'inlinable_string': 160, 'inline_uses': 35, 'script_language': 87}
 
 # Edits in `wrong-clauses/`, by crate: just as many. Public functions of `callers` that promise something.
-WRONG_CLAUSES, CALLERS = {'inlinable_string': 5}, 104
+WRONG_CLAUSES, CALLERS = {'inlinable_string': 5}, 109
 
 # Lemmas, answers to goals and definitions, and paths and names in backticks that the documents cite.
 PROOFS, CITED = 1_300, 400

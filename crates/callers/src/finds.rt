@@ -1,10 +1,10 @@
 //! What std's searches find in `as_str()` is a place of the text, so that it can be cut there.
-ghost use Rattle.std.specs.Prelude.{◌≡◌, ◌⊎◌, ◌==◌, ℕ, ◌+◌, ◌<◌, ◌≤◌, List, ◌++◌, drop, slice_index};
+ghost use Rattle.std.specs.Prelude.{◌≡◌, ◌⊎◌, ◌==◌, ℕ, ◌+◌, ◌<◌, ◌≤◌, List, ◌++◌, drop, codes, slice_index, IfSome};
 ghost use Rattle.std.specs.Str.{chars, trim_end, IsCharBoundary, NoCharPasses};
 ghost use Rattle.inlinable_string.specs.Text.{bytes_of, size};
 
-use inlinable_string::StringExt;
-use inlinable_string::laws::{cuts_are_cuts_of_bytes, fronts_end_at_places};
+use inlinable_string::laws::{cuts_are_cuts_of_bytes, fronts_end_at_places, fronts_have_rests};
+use inlinable_string::{InlineStringN, StringExt};
 
 /// Removes the extension of a file's name, through a `dyn`.
 pub fn strip_extension(name: &mut dyn StringExt)
@@ -46,4 +46,25 @@ pub fn trim_end<S: StringExt>(text: &mut S)
     cuts_are_cuts_of_bytes();
     let end = text.as_str().trim_end().len();
     text.truncate(end);
+}
+
+/// The key of a line such as `key=value`.
+pub fn key_of(line: &str) -> Option<&str>
+    ensures rest { IfSome result (λ key. (value : List ℕ)
+        × (line.now ≡ key.now ++ codes "=" ++ value)) }
+    ensures first { IfSome result (λ key. NoCharPasses (λ c. c == 61) key.now) }
+{
+    fronts_have_rests();
+    let (key, _) = line.split_once('=')?;
+    Some(key)
+}
+
+/// Removes a comment, and its sign.
+pub fn strip_comment(line: &mut InlineStringN<64>)
+    ensures { NoCharPasses (λ c. c == 35) (bytes_of line.new) }
+{
+    fronts_have_rests();
+    if let Some(idx) = line.as_str().find('#') {
+        line.truncate(idx);
+    }
 }

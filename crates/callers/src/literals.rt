@@ -4,8 +4,7 @@ ghost use Rattle.std.specs.Str.{chars};
 ghost use Rattle.inlinable_string.specs.Text.{bytes_of};
 ghost use Rattle.inlinable_string.specs.Values.{inlinable_state};
 
-use inlinable_string::inline_string::NotEnoughSpaceError;
-use inlinable_string::laws::splices_at_the_ends;
+use inlinable_string::laws::{ascii_is_its_own_characters, splices_at_the_ends};
 use inlinable_string::{InlinableString, InlineStringN, StringExt};
 use std::alloc::{AllocError, Global};
 
@@ -15,16 +14,6 @@ pub fn ship() -> InlineStringN<16>
     ensures bytes { bytes_of result ≡ codes "ship " }
 {
     InlineStringN::from("ship ")
-}
-
-/// A key between literals, where all of it fits.
-pub fn option(key: &str) -> Result<InlineStringN<32>, NotEnoughSpaceError>
-    ensures { IfOk result (λ made. made ≡ codes "--" ++ chars key.now ++ codes "=") }
-{
-    let mut made = InlineStringN::try_from("--")?;
-    made.push_str(key)?;
-    made.push_str("=")?;
-    Ok(made)
 }
 
 /// A greeting of any length.
@@ -53,4 +42,20 @@ pub fn is_yes<S: StringExt>(answer: &InlineStringN<8>, other: &S) -> (bool, bool
     ensures any { IsTrue result.1 ↔ ((S.state other.now).text ≡ codes "yes") }
 {
     (answer.eq_str("yes"), other.eq_str("yes"))
+}
+
+/// A path of two parts.
+pub fn path(alloc: Global, dir: &str, name: &str) -> Result<InlinableString, AllocError>
+    ensures { IfOk result (λ made. (inlinable_state 30 made).text
+        ≡ chars dir.now ++ codes "/" ++ chars name.now) }
+{
+    InlinableString::from_strs(alloc, [dir, "/", name].iter().copied())
+}
+
+/// Whether a command is to stop, by a comparison of strings.
+pub fn is_stop<S: StringExt>(command: &S) -> bool
+    ensures { IsTrue result ↔ ((S.state command.now).text ≡ codes "stop") }
+{
+    ascii_is_its_own_characters();
+    command.as_str() == "stop"
 }

@@ -1,10 +1,12 @@
 //! Loops over characters and strings: a call, and one of std's adapters for what the loop does.
-ghost use Rattle.std.specs.Prelude.{◌≡◌, ◌++◌, ◌==◌, if◌then◌else◌, map, filter, replicate, reverse, IfOk, OnOk};
+ghost use Rattle.std.specs.Prelude.{◌≡◌, ◌≤◌, ◌++◌, ◌==◌, if◌then◌else◌, map, filter, replicate, reverse, IfOk, IsOk, OnOk};
 ghost use Rattle.std.specs.Char.{is_ascii_digit};
 ghost use Rattle.std.specs.Str.{chars};
+ghost use Rattle.inlinable_string.specs.Text.{size};
+ghost use Rattle.inlinable_string.specs.Joins.{text_of_strs};
 
 use inlinable_string::inline_string::NotEnoughSpaceError;
-use inlinable_string::laws::items_are_the_characters;
+use inlinable_string::laws::{items_are_the_characters, sizes_are_sums};
 use inlinable_string::{InlineStringN, StringExt, string_ext};
 use std::alloc::AllocError;
 
@@ -19,7 +21,6 @@ pub fn pad(text: &mut InlineStringN<32>, n: usize) -> Result<(), NotEnoughSpaceE
 pub fn as_name(string: &str) -> Result<InlineStringN<16>, NotEnoughSpaceError>
     ensures { IfOk result (λ made. made ≡ map (λ c. if c == 45 then 95 else c) (chars string.now)) }
 {
-    items_are_the_characters();
     InlineStringN::from_chars(string.chars().map(|ch| underscored(ch)))
 }
 
@@ -44,4 +45,21 @@ pub fn add_digits<S: StringExt>(text: &mut S, string: &str) -> Result<(), AllocE
 {
     items_are_the_characters();
     string_ext::extend_chars(text, string.chars().filter(|ch| ch.is_ascii_digit()))
+}
+
+/// A line of stars, which fits up to its limit.
+pub fn stars(n: usize) -> Result<InlineStringN<16>, NotEnoughSpaceError>
+    ensures text { IfOk result (λ made. made ≡ replicate n 42) }
+    ensures fits { n ≤ 16 → IsOk result }
+{
+    sizes_are_sums();
+    InlineStringN::from_chars(std::iter::repeat_n('*', n))
+}
+
+/// Words of a list, joined where they fit.
+pub fn fitted(words: &[&str]) -> Result<InlineStringN<64>, NotEnoughSpaceError>
+    ensures { size (text_of_strs words.now) ≤ 64 → IsOk result }
+{
+    sizes_are_sums();
+    InlineStringN::from_strs(words.iter().copied())
 }

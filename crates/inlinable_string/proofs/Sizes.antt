@@ -35,15 +35,4 @@ size-replicate (suc n) c = omega (
   suc-mul n (size (c ∷ [])),
 )
 
-pub size-replicate_strs : (n : ℕ) (s : Bor (List ℕ))
-    → size (text_of_strs (replicate n s)) ≡ n * size (chars s.now)
-size-replicate_strs zero s = sym (zero-mul (size (chars s.now)))
-size-replicate_strs (suc n) s = omega (
-  arith,
-  size-append (chars s.now)
-      (text_of_strs (replicate n s)),
-  size-replicate_strs n s,
-  suc-mul n (size (chars s.now)),
-)
-
-pub ruleset sums = (sum_of_chars, sum_of_strs, size-replicate, size-replicate_strs)
+pub ruleset sums = (sum_of_chars, sum_of_strs, size-replicate)

@@ -174,8 +174,6 @@ pub fn sizes_are_sums()
     ensures strs { (items : List (Bor (List ℕ))) → size (text_of_strs items)
         ≡ fold (λ n s. n + size (chars s.now)) 0 items }
     ensures copies { (n c : ℕ) → size (replicate n c) ≡ n * size (c ∷ []) }
-    ensures str_copies { (n : ℕ) (s : Bor (List ℕ))
-        → size (text_of_strs (replicate n s)) ≡ n * size (chars s.now) }
 {}
 
 /// `Default`, `or_default` of a map, and `mem::try_take` leave the empty text, stored inline.

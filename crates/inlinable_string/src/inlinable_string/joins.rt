@@ -1,5 +1,5 @@
 //! Joining: another text, or the items of an iterator one by one, at the end of a text.
-ghost use Rattle.std.specs.Prelude.{◌≡◌, ◌+◌, ◌≤◌, ◌<◌, ◌++◌, length, true, OnOk, OnErr, IfOk, IfErr, IsOk};
+ghost use Rattle.std.specs.Prelude.{◌≡◌, ◌+◌, ◌≤◌, ◌<◌, ℕ, List, ◌++◌, length, true, OnOk, OnErr, IfOk, IfErr, IsOk, IsUtf8};
 ghost use Rattle.std.specs.Char.{is_ascii};
 ghost use Rattle.std.specs.Iterator.{IsFinite};
 ghost use Rattle.std.specs.Iterator.Runs.{SomeRun, WholeRun, EachRunFrom};
@@ -123,6 +123,7 @@ impl<const N: usize> InlinableStringN<N> {
 
     /// Collects the characters of an iterator that ends. The text is stored inline if it has at
     /// most `N` bytes; this fails only at a character that takes it past them.
+    #[tactic(auto, using(crate::proofs::Text::parts))]
     pub fn from_chars<I: Iterator<Item = char>>(alloc: Global, items: I) -> Result<Self, AllocError>
         requires can { I.can_next items }
         requires ends { IsFinite (I.remaining items) }
@@ -133,6 +134,9 @@ impl<const N: usize> InlinableStringN<N> {
         ensures err { OnErr result (SomeRun I.next_gives items (λ run. N < size run.items)) }
         ensures granted { EachRunFrom I.next_gives items (λ run. size run.items ≤ N)
             → IsOk result }
+
+        // The items of a `chars()` are the characters of its string.
+        ensures characters { (bs cs : List ℕ) → IsUtf8 bs → bytes_of cs ≡ bs → cs ≡ chars bs }
     {
         let mut made = Self::new(alloc);
         made.extend_chars(items)?;
@@ -141,6 +145,7 @@ impl<const N: usize> InlinableStringN<N> {
 
     /// Concatenates the strings of an iterator that ends. The text is stored inline if it has at
     /// most `N` bytes; this fails only at a string that takes it past them.
+    #[tactic(auto, using(crate::proofs::Text::ascii_chars))]
     pub fn from_strs<'a, I: Iterator<Item = &'a str>>(
         alloc: Global,
         items: I,
@@ -155,6 +160,9 @@ impl<const N: usize> InlinableStringN<N> {
             (λ run. N < size (text_of_strs run.items))) }
         ensures granted { EachRunFrom I.next_gives items
             (λ run. size (text_of_strs run.items) ≤ N) → IsOk result }
+
+        // A literal of ASCII among the items is its own characters.
+        ensures ascii { (bs : List ℕ) → list_all is_ascii bs ≡ true → chars bs ≡ bs }
     {
         let mut made = Self::new(alloc);
         made.extend_strs(items)?;

@@ -1,9 +1,12 @@
 //! The items of an iterator, one by one, at the end of a text in an array.
-ghost use Rattle.std.specs.Prelude.{◌≡◌, ◌+◌, ◌≤◌, ◌<◌, ℕ, List, ◌++◌, [], ◌∷◌, OnOk, OnErr, IfOk, IsOk};
+ghost use Rattle.std.specs.Prelude.{◌≡◌, ◌+◌, ◌≤◌, ◌<◌, ℕ, List, ◌++◌, [], ◌∷◌, true, OnOk, OnErr, IfOk, IsOk, IsUtf8};
 ghost use Rattle.std.specs.Borrow.{Bor};
+ghost use Rattle.std.specs.Char.{is_ascii};
 ghost use Rattle.std.specs.Iterator.{IsFinite};
 ghost use Rattle.std.specs.Iterator.Runs.{SomeRun, WholeRun, EachRunFrom};
-ghost use Rattle.inlinable_string.specs.Text.{size};
+ghost use Rattle.std.specs.List.{list_all};
+ghost use Rattle.std.specs.Str.{chars};
+ghost use Rattle.inlinable_string.specs.Text.{bytes_of, size};
 ghost use Rattle.inlinable_string.specs.Joins.{text_of_strs};
 
 use super::{InlineStringN, NotEnoughSpaceError};
@@ -61,6 +64,7 @@ impl<const N: usize> InlineStringN<N> {
 
     /// Collects the characters of an iterator that ends. Fails exactly if the text would have more
     /// than `N` bytes, at the first character that takes it past them.
+    #[tactic(auto, using(crate::proofs::Text::parts))]
     pub fn from_chars<I: Iterator<Item = char>>(items: I) -> Result<Self, NotEnoughSpaceError>
         requires can { I.can_next items }
         requires ends { IsFinite (I.remaining items) }
@@ -69,6 +73,9 @@ impl<const N: usize> InlineStringN<N> {
         ensures err { OnErr result (SomeRun I.next_gives items (λ run. N < size run.items)) }
         ensures granted { EachRunFrom I.next_gives items (λ run. size run.items ≤ N)
             → IsOk result }
+
+        // The items of a `chars()` are the characters of its string.
+        ensures characters { (bs cs : List ℕ) → IsUtf8 bs → bytes_of cs ≡ bs → cs ≡ chars bs }
     {
         let mut made = Self::new();
         made.extend_chars(items)?;
@@ -77,6 +84,7 @@ impl<const N: usize> InlineStringN<N> {
 
     /// Concatenates the strings of an iterator that ends. Fails exactly if the text would have more
     /// than `N` bytes, at the first string that takes it past them.
+    #[tactic(auto, using(crate::proofs::Text::ascii_chars))]
     pub fn from_strs<'a, I: Iterator<Item = &'a str>>(items: I) -> Result<Self, NotEnoughSpaceError>
         requires can { I.can_next items }
         requires ends { IsFinite (I.remaining items) }
@@ -86,6 +94,9 @@ impl<const N: usize> InlineStringN<N> {
             (λ run. N < size (text_of_strs run.items))) }
         ensures granted { EachRunFrom I.next_gives items
             (λ run. size (text_of_strs run.items) ≤ N) → IsOk result }
+
+        // A literal of ASCII among the items is its own characters.
+        ensures ascii { (bs : List ℕ) → list_all is_ascii bs ≡ true → chars bs ≡ bs }
     {
         let mut made = Self::new();
         made.extend_strs(items)?;
