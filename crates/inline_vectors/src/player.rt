@@ -166,8 +166,7 @@ fn wrong_reply(replies: &[Reply], steps: &[Step]) -> Option<usize> {
     None
 }
 
-/// Makes the steps in this way, with this memory: by one run, with the plain program beside it, or
-/// each by a command of its own.
+/// Makes the steps in this way, with this memory.
 fn play_steps<T: Played>(
     rt: &impl Abort,
     alloc: Global,
@@ -177,12 +176,25 @@ fn play_steps<T: Played>(
     memory: Memory,
     steps: &[Step],
 ) -> RowTally {
-    if !matches!(way, Way::RunOfAll | Way::DynOfAll) {
-        let hoard = hold(rt, alloc, memory);
-        let tally = play_singly(text, made, way, steps);
-        drop(hoard);
-        return tally;
+    if matches!(way, Way::RunOfAll | Way::DynOfAll) {
+        return play_at_once(rt, alloc, text, made, way, memory, steps);
     }
+    let hoard = hold(rt, alloc, memory);
+    let tally = play_singly(text, made, way, steps);
+    drop(hoard);
+    tally
+}
+
+/// Makes the steps by one run, with the plain program beside it.
+fn play_at_once<T: Played>(
+    rt: &impl Abort,
+    alloc: Global,
+    text: &mut T,
+    made: Made,
+    way: Way,
+    memory: Memory,
+    steps: &[Step],
+) -> RowTally {
     let mut commands = Vec::new(alloc);
     let mut replies = Vec::new(alloc);
     for step in steps {
@@ -194,16 +206,28 @@ fn play_steps<T: Played>(
     let hoard = hold(rt, alloc, memory);
     text.give(way, &commands, &mut replies);
     drop(hoard);
-    let last = steps.len().saturating_sub(1);
-    if let Some(step) = wrong_reply(&replies, steps) {
+    let is_plain = is_agreed(rt, alloc, start, &commands, &replies, text.seen());
+    tally_of(text, made, steps, &replies, is_plain)
+}
+
+/// How many steps of a run were right, or the first that was wrong, by its replies and the end.
+fn tally_of<T: Played>(
+    text: &T,
+    made: Made,
+    steps: &[Step],
+    replies: &[Reply],
+    is_plain: bool,
+) -> RowTally {
+    if let Some(step) = wrong_reply(replies, steps) {
         return Err((step, Wrong::Reply));
     }
+    let last = steps.len().saturating_sub(1);
     if let Some(&(_, _, content, place)) = steps.last() {
         if let Some(wrong) = wrong_state(text, made, content, place) {
             return Err((last, wrong));
         }
     }
-    if is_agreed(rt, alloc, start, &commands, &replies, text.seen()) {
+    if is_plain {
         Ok(steps.len())
     } else {
         Err((last, Wrong::Plain))
