@@ -1,4 +1,4 @@
-"""gate quick: a newcomer's check, under three minutes on two processors. The gate is `.ci/run`.
+"""gate quick: a newcomer's check, some three minutes on two processors. The gate is `.ci/run`.
 
 One part of the library is proved, lists of commands; the main tests run unproved, by `rt try`; and the
 program prints what is stored of its own script.
