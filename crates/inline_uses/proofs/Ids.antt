@@ -1,5 +1,5 @@
 -- The ids of texts in the order of their texts, and how a new text is found among them.
-use Rattle.std.proofs.Common.{arith, ◌≡◌, ◌↔◌, ℕ, suc, ◌<◌, List, [], ◌∷◌, ◌++◌, length, take, drop, get_or, Some, Bool, true, false, cond, is_eq, refl, sym, ap, subst, ◌∙◌, inl, inr}
+use Rattle.std.proofs.Common.{arith, ◌≡◌, ◌↔◌, ℕ, suc, ◌<◌, List, [], ◌∷◌, ◌++◌, length, map, take, drop, get_or, Some, Bool, true, false, cond, is_eq, refl, sym, ap, subst, ◌∙◌, inl, inr}
 use Rattle.std.specs.Prelude.{slice_get}
 use Rattle.std.specs.List.{AllByRecursion, insert}
 use Rattle.std.specs.List.Sorted.{IsStrictlySortedBy}
@@ -12,9 +12,14 @@ use Rattle.std.proofs.lemmas.List.{get_or_append_left, length-append}
 use Rattle.std.proofs.lemmas.List.Elements.{All-from_recursion, recursion_from_All, All-append, All-cons, All-drop, All-take, All-weaker}
 use Rattle.std.proofs.lemmas.Map.{lookup-insert, none_passes_from_lookup}
 use Rattle.std.proofs.lemmas.Map.Lookups.{exact_bytes}
+use Rattle.std.proofs.lemmas.Option.{get_or_from_slice_get}
+use Rattle.std.proofs.lemmas.Simd.{map-map}
 use Rattle.std.proofs.Math.Seq.{get_or-append_seam}
 use Rattle.inline_uses.specs.Symbols.{key_order, IsGap, HaveOneId, text_at, with_ids, IsOrderOf}
 use Rattle.inline_uses.proofs.Search.{seen_at, inserted_seen, none, ordered_put}
+use Rattle.inline_uses.specs.Index.{IsIndex, ids_in}
+use Rattle.inline_uses.specs.declared.index.Index.{Index}
+use Rattle.inline_uses.proofs.SameTexts.{Agree, same_map, same_texts}
 use Rattle.inline_uses.proofs.Tables.{at_push, before_append, from_push}
 
 -- no text has two ids
@@ -104,6 +109,53 @@ found_at texts ids text at x order is read id =
     subst (λ o. (o ≡ Some id) ↔ (slice_get texts id ≡ Some text))
     (seen_at (λ id. (text_at texts id, id)) ids at x text order.sorted is read).1
     (order.found text id)
+
+-- the keys of ids are their texts
+pub keys_are : (texts : List (List ℕ)) (ids : List ℕ)
+    → keys_of (with_ids texts ids) ≡ map (text_at texts) ids
+keys_are texts ids = map-map (λ (e : List ℕ × ℕ). e.0) (λ id. (text_at texts id, id)) ids
+
+-- the same of an id that a text has in the order of the texts
+pub found_among : (texts : List (List ℕ)) (ids : List ℕ) (text : List ℕ) (at x : ℕ)
+    → IsOrderOf texts ids → slice_get (map (text_at texts) ids) at ≡ Some text
+    → slice_get ids at ≡ Some x → (id : ℕ) → (Some x ≡ Some id) ↔ (slice_get texts id ≡ Some text)
+found_among texts ids text at x order found is id = found_at texts ids text at x order
+    (rw (keys_are texts ids) found) (sym (get_or_from_slice_get ids at x x is)) id
+
+-- ids that are there have the same texts when there is one more
+module _ (texts : List (List ℕ)) (text : List ℕ) where
+  abbrev with_text : List (List ℕ)
+  with_text = texts ++ text ∷ []
+
+  texts_agree : (ids : List ℕ) → AllByRecursion (λ id. id < length texts) ids
+      → Agree (text_at texts) (text_at with_text) ids
+  texts_agree [] all = tt
+  texts_agree (id ∷ ids) all =
+      (sym (get_or_append_left texts (text ∷ []) [] id all.0), texts_agree ids all.1)
+
+  texts_agree_back : (ids : List ℕ) → AllByRecursion (λ id. id < length texts) ids
+      → Agree (text_at with_text) (text_at texts) ids
+  texts_agree_back [] all = tt
+  texts_agree_back (id ∷ ids) all =
+      (get_or_append_left texts (text ∷ []) [] id all.0, texts_agree_back ids all.1)
+
+  -- so an index of them is one, and goes back
+  pub index_with : (index : Index) → AllByRecursion (λ id. id < length texts) (ids_in index)
+      → IsIndex (text_at texts) index → IsIndex (text_at with_text) index
+  index_with index all is = same_texts (text_at texts) (text_at with_text) index
+      (texts_agree (ids_in index) all) is
+
+  pub index_without : (index : Index) → AllByRecursion (λ id. id < length texts) (ids_in index)
+      → IsIndex (text_at with_text) index → IsIndex (text_at texts) index
+  index_without index all is = same_texts (text_at with_text) (text_at texts) index
+      (texts_agree_back (ids_in index) all) is
+
+  -- and where the text goes it still goes
+  pub gap_with : (ids : List ℕ) (at : ℕ) → AllByRecursion (λ id. id < length texts) ids
+      → IsGap (map (text_at texts) ids) text at
+      → IsGap (map (text_at with_text) ids) (text_at with_text (length texts)) at
+  gap_with ids at all gap = rw get_or-append_seam (subst (λ ts. IsGap ts text at)
+      (same_map (text_at texts) (text_at with_text) ids (texts_agree ids all)) gap)
 
 pub empty : IsOrderOf [] []
 unfolding IsStrictlySortedBy

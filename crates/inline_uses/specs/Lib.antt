@@ -1,4 +1,5 @@
 pub mod Editor
+pub mod Index
 pub mod Store
 pub mod Symbols
 pub mod Tokens

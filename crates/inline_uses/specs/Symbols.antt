@@ -12,6 +12,7 @@ use Rattle.std.specs.Ordering.{nat_cmp}
 use Rattle.inlinable_string.specs.Text.{bytes_of}
 use Rattle.inlinable_string.specs.Values.{inlinable_state}
 use Rattle.inlinable_string.specs.declared.inlinable_string.InlinableStringN.{InlinableStringN}
+use Rattle.inline_uses.specs.Index.{IsIndex, ids_in}
 use Rattle.inline_uses.specs.declared.symbols.Symbols.TheInside.{Inside}
 
 -- the bytes of a text, whatever its storage
@@ -54,4 +55,4 @@ pub record IsOrderOf (texts : List (List ℕ)) (ids : List ℕ) : Type 0 where
       ↔ (slice_get texts id ≡ Some text)
 
 abbrev pub IsIndexed : Inside → Type 0
-IsIndexed a = IsOrderOf (texts_of a) a.order.items
+IsIndexed a = IsOrderOf (texts_of a) (ids_in a.order) × IsIndex (text_at (texts_of a)) a.order

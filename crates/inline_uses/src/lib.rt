@@ -4,6 +4,7 @@
 
 pub mod callers;
 pub mod editor;
+mod index;
 pub mod store;
 pub mod symbols;
 pub mod tokens;

@@ -4,21 +4,21 @@ ghost use Rattle.std.specs.Map.{keys_of};
 ghost use Rattle.std.specs.List.Sorted.{IsStrictlySortedBy};
 ghost use Rattle.inline_uses.specs.Symbols.{IsGap, bytes_at, key_order, text_at, with_ids};
 
+use crate::index::{Index, Texts};
 use inlinable_string::laws::bytes_of_parts;
 use inlinable_string::{InlinableString, StringExt};
 use std::alloc::{AllocError, Global};
-use std::cmp::Ordering;
 use std::marker::Model;
 
 /// Texts with their ids: a new text gets the number of those before it. Each is stored once, beside
-/// a list of the ids in the order of their texts. A search takes a number of comparisons that is
+/// an index of the ids in the order of their texts. A search takes a number of comparisons that is
 /// logarithmic in the number of texts, whatever they are, since nothing is hashed; a new text moves
-/// the ids after its own in that list. A contract sees the list of the texts, each as its bytes.
+/// only ids next to its own. A contract sees the list of the texts, each as its bytes.
 #[derive(Drop)]
 pub struct Symbols {
     alloc: Global,
     texts: Vec<InlinableString>,
-    order: Vec<usize>,
+    order: Index,
 }
 
 impl Model for Symbols {
@@ -41,7 +41,7 @@ impl Symbols {
         Symbols {
             alloc,
             texts: Vec::new(alloc),
-            order: Vec::new(alloc),
+            order: Index::new(alloc),
         }
     }
 
@@ -58,8 +58,8 @@ impl Symbols {
     pub fn find(&self, text: &str) -> Option<usize>
         ensures { (id : ℕ) → (result ≡ Some id) ↔ (slice_get self.now id ≡ Some text.now) }
     {
-        match place_of(&self.texts, &self.order, text) {
-            Ok(at) => Some(self.order[at]),
+        match self.order.find(&self.texts, text) {
+            Ok(id) => Some(id),
             Err(_) => None,
         }
     }
@@ -85,42 +85,34 @@ impl Symbols {
         ensures err { OnErr result (self.new ≡ self.old) }
     {
         bytes_of_parts();
-        match place_of(&self.texts, &self.order, text) {
-            Ok(at) => Ok(self.order[at]),
-            Err(at) => {
+        match self.order.find(&self.texts, text) {
+            Ok(id) => Ok(id),
+            Err(spot) => {
                 let id = self.texts.len();
                 let text = InlinableString::from(self.alloc, text)?;
-                // With room in the list of ids, an id can always be inserted.
-                self.order.reserve(1)?;
                 self.texts.push(text)?;
-                self.order.insert(at, id)?;
-                Ok(id)
+                match self.order.insert(&self.texts, spot, id) {
+                    Ok(()) => Ok(id),
+                    Err(error) => {
+                        self.texts.truncate(id);
+                        Err(error)
+                    }
+                }
             }
         }
     }
 }
 
-/// The index of a text's id among ids in the order of their texts, or the one at which it goes.
-fn place_of(texts: &[InlinableString], order: &[usize], text: &str) -> Result<usize, usize>
-    requires { IsStrictlySortedBy key_order
-        (keys_of (with_ids (map bytes_at texts.now) order.now)) }
-    ensures found { IfOk result (λ at.
-        slice_get (keys_of (with_ids (map bytes_at texts.now) order.now)) at ≡ Some text.now) }
-    ensures gap { IfErr result (λ at.
-        IsGap (keys_of (with_ids (map bytes_at texts.now) order.now)) text.now at) }
-{
-    order.binary_search_by(|id| compare(texts, *id, text))
-}
+/// The texts by their ids. An id that has none is given the empty text.
+impl Texts for Vec<InlinableString> {
+    ghost text_of = { λ texts id. text_at (map bytes_at texts.items) id };
 
-/// How the text of an id compares to a text. Without such an id, it is compared as if empty.
-fn compare(texts: &[InlinableString], id: usize, text: &str) -> Ordering
-    ensures { result ≡ key_order (text_at (map bytes_at texts.now) id) text.now }
-{
-    let known = match texts.get(id) {
-        Some(known) => known.as_str(),
-        None => "",
-    };
-    known.as_bytes().cmp(text.as_bytes())
+    fn text(&self, id: usize) -> &str {
+        match self.get(id) {
+            Some(text) => text.as_str(),
+            None => "",
+        }
+    }
 }
 
 /// Returns whether both texts have an id, and the same: exactly if they are equal and known. Cannot

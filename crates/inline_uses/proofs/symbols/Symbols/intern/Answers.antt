@@ -1,82 +1,125 @@
-use Rattle.std.proofs.Common.{rules, ◌≡◌, ℕ, ◌++◌, ◌∷◌, [], Some, length, map, refl, ap}
-use Rattle.std.specs.Prelude.{slice_get}
-use Rattle.std.proofs.lemmas.List.{length-map, map-append}
+use Rattle.std.proofs.Common.{rules, ◌≡◌, ℕ, ◌++◌, ◌∷◌, [], Some, length, map, refl, sym, ap, subst}
+use Rattle.std.proofs.Math.Seq.{take-append_seam}
+use Rattle.std.proofs.lemmas.List.{length-map, map-append, take-map}
 use Rattle.std.specs.List.{insert}
-use Rattle.inline_uses.specs.Symbols.{bytes_at, texts_of}
-use Rattle.inline_uses.proofs.Ids.{no_id, found_at, added}
+use Rattle.std.specs.Map.{keys_of}
+use Rattle.std.specs.Prelude.{slice_get}
+use Rattle.inline_uses.specs.Index.{IsIndex, ids_in, index_of}
+use Rattle.inline_uses.specs.Symbols.{IsGap, bytes_at, text_at, texts_of, with_ids}
+use Rattle.inline_uses.proofs.Ids.{no_id, found_among, keys_are, added, gap_with, index_with, index_without}
 use Rattle.inline_uses.proofs.Tables.{at_push, before_append}
-use Rattle.inline_uses.proofs.symbols.Symbols.intern.Goals.{In-Err}
+use Rattle.inline_uses.proofs.symbols.Symbols.intern.Goals.{In-Err, In_ok-push-in-Err}
 use Rattle.inline_uses.proofs.symbols.Symbols.intern.Goals as goal
 
 pub returns-in-Ok-clause-id : goal.returns-in-Ok-clause-id
-returns-in-Ok-clause-id c = rw (← c.self.view_is) ((found_at (texts_of c.self.inside)
-    c.self.inside.order.items c.args.text.now c.in-Ok.at
-    c.index.result.now c.self.invariant
-    (rw (c.deref.ensures.value, c.deref-2.ensures.value) at c.in-Ok.ensures.found)
-    c.index.ensures c.index.result.now).0 refl)
+returns-in-Ok-clause-id c = rw (← c.self.view_is) ((found_among (texts_of c.self.inside)
+    (ids_in c.self.inside.order) c.args.text.now c.in-Ok.ensures.found.0 c.in-Ok.id
+    c.self.invariant.0 c.in-Ok.ensures.found.1 c.in-Ok.ensures.found.2 c.in-Ok.id).0 refl)
 
 pub returns-in-Ok-clause-known : goal.returns-in-Ok-clause-known
 returns-in-Ok-clause-known c = λ id is.
-    let e : Some c.index.result.now ≡ Some id
-    = (found_at (texts_of c.self.inside) c.self.inside.order.items c.args.text.now c.in-Ok.at
-    c.index.result.now c.self.invariant
-    (rw (c.deref.ensures.value, c.deref-2.ensures.value) at c.in-Ok.ensures.found)
-    c.index.ensures id).1 (rw c.self.view_is is) in
+    let e : Some c.in-Ok.id ≡ Some id = (found_among (texts_of c.self.inside)
+    (ids_in c.self.inside.order) c.args.text.now c.in-Ok.ensures.found.0 c.in-Ok.id
+    c.self.invariant.0 c.in-Ok.ensures.found.1 c.in-Ok.ensures.found.2 id).1
+    (rw c.self.view_is is) in
     (refl, cc)
 
 pub returns-in-Ok-clause-new : goal.returns-in-Ok-clause-new
-returns-in-Ok-clause-new c = λ none. absurd (none c.index.result.now (returns-in-Ok-clause-id c))
+returns-in-Ok-clause-new c = λ none. absurd (none c.in-Ok.id (returns-in-Ok-clause-id c))
+
+-- a text goes among the keys of the ids
+gap : (c : In-Err) → IsGap (keys_of (with_ids (texts_of c.self.inside) (ids_in
+    c.self.inside.order))) c.args.text.now (index_of c.self.inside.order c.in-Err.spot)
+gap c = subst (λ keys. IsGap keys c.args.text.now (index_of c.self.inside.order c.in-Err.spot))
+    (sym (keys_are (texts_of c.self.inside) (ids_in c.self.inside.order))) c.in-Err.ensures.gap
 
 -- a text that goes among the others has no id
 unknown : (c : In-Err) → (id : ℕ) → ¬ (slice_get c.args.self.now id ≡ Some c.args.text.now)
-unknown c id is = no_id (texts_of c.self.inside) c.self.inside.order.items c.args.text.now
-    c.in-Err.at c.self.invariant
-    (rw (c.deref.ensures.value, c.deref-2.ensures.value) at c.in-Err.ensures.gap) id
+unknown c id is = no_id (texts_of c.self.inside) (ids_in c.self.inside.order) c.args.text.now
+    (index_of c.self.inside.order c.in-Err.spot) c.self.invariant.0 (gap c) id
     (rw c.self.view_is is)
 
 pub returns-in_err-text-in-Err-clause-known : goal.returns-in_err-text-in-Err-clause-known
 returns-in_err-text-in-Err-clause-known c id is =
     absurd (unknown (goal.at.returns-in_err-text-in-Err-clause-known c).In-Err id is)
 
-pub returns-in_err-reserve-in-Err-clause-known : goal.returns-in_err-reserve-in-Err-clause-known
-returns-in_err-reserve-in-Err-clause-known c id is =
-    absurd (unknown (goal.at.returns-in_err-reserve-in-Err-clause-known c).In-Err id is)
-
 pub returns-in_err-push-in-Err-clause-known : goal.returns-in_err-push-in-Err-clause-known
 returns-in_err-push-in-Err-clause-known c id is =
     absurd (unknown (goal.at.returns-in_err-push-in-Err-clause-known c).In-Err id is)
 
-pub invariant_of-self-in-Err : goal.invariant_of-self-in-Err
-invariant_of-self-in-Err c =
-    let texts : map bytes_at c.push.new.self.items ≡ texts_of c.self.inside ++ c.args.text.now ∷ []
-    = rw (c.in_ok-push-in-Err.ensures.items, map-append) (ap (λ b. texts_of c.self.inside ++ b ∷ [])
-    (search rules)) in
-    let count : c.len-id.result ≡ length (texts_of c.self.inside)
-    = rw (c.len-id.ensures, length-map) (search rules) in
-    let ids : c.insert.new.self.items
-    ≡ insert c.self.inside.order.items c.in-Err.at (length (texts_of c.self.inside))
-    = rw (c.in_ok-insert-in-Err.ensures.items, c.reserve.ensures.items, count) refl in
-    rw (texts, ids) (added (texts_of c.self.inside) c.self.inside.order.items c.args.text.now
-    c.in-Err.at c.self.invariant
-    (rw (c.deref.ensures.value, c.deref-2.ensures.value) at c.in-Err.ensures.gap))
+-- the texts with the new one
+texts_are : (c : In_ok-push-in-Err) → map bytes_at c.push.new.self.items
+    ≡ texts_of c.self.inside ++ c.args.text.now ∷ []
+texts_are c = rw (c.in_ok-push-in-Err.ensures.items, map-append)
+    (ap (λ b. texts_of c.self.inside ++ b ∷ []) (search rules))
 
-pub returns-in_ok-insert-in-Err-clause-id : goal.returns-in_ok-insert-in-Err-clause-id
-returns-in_ok-insert-in-Err-clause-id c =
-    let texts : map bytes_at c.push.new.self.items ≡ texts_of c.self.inside ++ c.args.text.now ∷ []
-    = rw (c.in_ok-push-in-Err.ensures.items, map-append) (ap (λ b. texts_of c.self.inside ++ b ∷ [])
-    (search rules)) in
-    let count : c.len-id.result ≡ length (texts_of c.self.inside)
-    = rw (c.len-id.ensures, length-map) (search rules) in
-    rw (texts, count) (at_push (texts_of c.self.inside) c.args.text.now)
+count : (c : In_ok-push-in-Err) → c.len-id.result ≡ length (texts_of c.self.inside)
+count c = rw (c.len-id.ensures, length-map) (search rules)
 
-pub returns-in_ok-insert-in-Err-clause-known : goal.returns-in_ok-insert-in-Err-clause-known
-returns-in_ok-insert-in-Err-clause-known c id is =
-    absurd (unknown (goal.at.returns-in_ok-insert-in-Err-clause-known c).In-Err id is)
+pub insert-requires-clause-index : goal.insert-requires-clause-index
+insert-requires-clause-index c =
+    let pushed = (goal.at.insert-requires-clause-index c).In_ok-push-in-Err in
+    let moved : IsIndex (text_at (map bytes_at c.push.new.self.items)) c.self.inside.order
+    = subst (λ ts. IsIndex (text_at ts) c.self.inside.order) (sym (texts_are pushed))
+    (index_with (texts_of c.self.inside) c.args.text.now c.self.inside.order
+    c.self.invariant.0.within c.self.invariant.1) in
+    moved
 
-pub returns-in_ok-insert-in-Err-clause-kept : goal.returns-in_ok-insert-in-Err-clause-kept
-returns-in_ok-insert-in-Err-clause-kept c = λ i known is.
-    let texts : map bytes_at c.push.new.self.items ≡ texts_of c.self.inside ++ c.args.text.now ∷ []
-    = rw (c.in_ok-push-in-Err.ensures.items, map-append) (ap (λ b. texts_of c.self.inside ++ b ∷ [])
-    (search rules)) in
-    rw texts (before_append (texts_of c.self.inside) (c.args.text.now ∷ []) i known
-    (rw c.self.view_is is))
+pub insert-requires-clause-gap : goal.insert-requires-clause-gap
+insert-requires-clause-gap c =
+    let pushed = (goal.at.insert-requires-clause-gap c).In_ok-push-in-Err in
+    let ids = ids_in c.self.inside.order in
+    let at = index_of c.self.inside.order c.in-Err.spot in
+    let moved : IsGap (map (text_at (map bytes_at c.push.new.self.items)) ids)
+    (text_at (map bytes_at c.push.new.self.items) c.len-id.result) at
+    = subst (λ ts. IsGap (map (text_at ts) ids) (text_at ts c.len-id.result) at)
+    (sym (texts_are pushed)) (subst (λ n. IsGap (map (text_at (texts_of c.self.inside
+    ++ c.args.text.now ∷ [])) ids) (text_at (texts_of c.self.inside ++ c.args.text.now ∷ []) n) at)
+    (sym (count pushed)) (gap_with (texts_of c.self.inside) c.args.text.now ids at
+    c.self.invariant.0.within c.in-Err.ensures.gap)) in
+    moved
+
+pub invariant_of-self-in-Ok-insert : goal.invariant_of-self-in-Ok-insert
+invariant_of-self-in-Ok-insert c =
+    let at = goal.at.invariant_of-self-in-Ok-insert c in
+    let ids : ids_in c.insert.new.self ≡ insert (ids_in c.self.inside.order)
+    (index_of c.self.inside.order c.in-Err.spot) (length (texts_of c.self.inside))
+    = rw (c.in-Ok-insert.ensures.ok, count at.In_ok-push-in-Err) refl in (
+      rw (texts_are at.In_ok-push-in-Err, ids) (added (texts_of c.self.inside)
+          (ids_in c.self.inside.order) c.args.text.now
+          (index_of c.self.inside.order c.in-Err.spot) c.self.invariant.0 (gap at.In-Err)),
+      c.in-Ok-insert.ensures.index,
+    )
+
+pub invariant_of-self-in-Err-insert : goal.invariant_of-self-in-Err-insert
+invariant_of-self-in-Err-insert c =
+    let pushed = (goal.at.invariant_of-self-in-Err-insert c).In_ok-push-in-Err in
+    let old = texts_of c.self.inside in
+    let texts : map bytes_at c.truncate.new.self.items ≡ old
+    = rw (c.truncate.ensures.items, ← take-map, texts_are pushed, count pushed, take-append_seam)
+    refl in
+    let ids : ids_in c.insert.new.self ≡ ids_in c.self.inside.order = c.in-Err-insert.ensures.err in
+    let grown : IsIndex (text_at (map bytes_at c.push.new.self.items)) c.insert.new.self
+    = c.in-Err-insert.ensures.index in (
+      rw (texts, ids) c.self.invariant.0,
+      rw texts (index_without old c.args.text.now c.insert.new.self
+          (rw ids c.self.invariant.0.within) (rw (texts_are pushed) at grown)),
+    )
+
+pub returns-in-Ok-insert-clause-id : goal.returns-in-Ok-insert-clause-id
+returns-in-Ok-insert-clause-id c =
+    let pushed = (goal.at.returns-in-Ok-insert-clause-id c).In_ok-push-in-Err in
+    rw (texts_are pushed, count pushed) (at_push (texts_of c.self.inside) c.args.text.now)
+
+pub returns-in-Ok-insert-clause-known : goal.returns-in-Ok-insert-clause-known
+returns-in-Ok-insert-clause-known c id is =
+    absurd (unknown (goal.at.returns-in-Ok-insert-clause-known c).In-Err id is)
+
+pub returns-in-Ok-insert-clause-kept : goal.returns-in-Ok-insert-clause-kept
+returns-in-Ok-insert-clause-kept c = λ i known is.
+    rw (texts_are (goal.at.returns-in-Ok-insert-clause-kept c).In_ok-push-in-Err)
+    (before_append (texts_of c.self.inside) (c.args.text.now ∷ []) i known (rw c.self.view_is is))
+
+pub returns-in-Err-insert-clause-known : goal.returns-in-Err-insert-clause-known
+returns-in-Err-insert-clause-known c id is =
+    absurd (unknown (goal.at.returns-in-Err-insert-clause-known c).In-Err id is)

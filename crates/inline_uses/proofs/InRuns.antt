@@ -1,0 +1,313 @@
+-- The ids of runs together, and where a text goes among them.
+use Rattle.std.proofs.Common.{arith, ◌≡◌, ℕ, zero, suc, ◌+◌, ◌-◌, ◌<◌, ◌≤◌, List, [], ◌∷◌, ◌++◌, map, length, take, drop, Some, Less, Greater, refl, sym, ap, subst, ◌∙◌, append_assoc}
+use Rattle.std.specs.Prelude.{slice_get}
+use Rattle.std.proofs.Math.Seq.{take-nil}
+use Rattle.std.proofs.lemmas.Cmp.{nat_list_cmp_total}
+use Rattle.std.proofs.lemmas.List.{drop-map, length-drop, length-append, length-map, length-take-le, map-append, take-append-drop, take-map}
+use Rattle.std.proofs.lemmas.Option.{slice_get-map}
+use Rattle.std.specs.List.{AllByRecursion, flat_map}
+use Rattle.std.specs.List.Sorted.{IsStrictlySortedBy}
+use Rattle.inline_uses.specs.Index.{HaveFirsts, IsIndex, IsRun, ids_at, ids_of}
+use Rattle.inline_uses.specs.declared.index.Index.{Index}
+use Rattle.inline_uses.specs.Symbols.{key_order, IsGap}
+use Rattle.inline_uses.specs.declared.index.run.Run.{Run}
+use Rattle.inline_uses.proofs.Gaps.{AreAbove, AreBelow, gap_between, parts_of_gap, turned_back}
+use Rattle.inline_uses.proofs.RunEdits.{all_at}
+use Rattle.inline_uses.proofs.Tables.{before_append}
+
+-- the ids of runs
+abbrev pub flat : List Run → List ℕ
+flat = flat_map ids_of
+
+pub past_append : {X : Type 0} (xs ys : List X) (i : ℕ)
+    → slice_get (xs ++ ys) (length xs + i) ≡ slice_get ys i
+past_append [] ys i = let same : 0 + i ≡ i = omega arith in ap (slice_get ys) same
+past_append (x ∷ xs) ys i =
+    let next : suc (length xs) + i ≡ suc (length xs + i) = omega arith in
+    ap (slice_get (x ∷ (xs ++ ys))) next ∙ past_append xs ys i
+
+pub have_length : (ids : List ℕ) (runs : List Run) → HaveFirsts ids runs
+    → length ids ≡ length runs
+have_length [] [] have = refl
+have_length [] (run ∷ runs) have = absurd have
+have_length (id ∷ ids) [] have = absurd have
+have_length (id ∷ ids) (run ∷ runs) have = ap suc (have_length ids runs have.1)
+
+-- an id of a run is among all
+pub in_flat : (runs : List Run) (k : ℕ) (run : Run) (at id : ℕ) → slice_get runs k ≡ Some run
+    → slice_get (ids_of run) at ≡ Some id
+    → slice_get (flat runs) (length (flat (take k runs)) + at) ≡ Some id
+in_flat [] k run at id is here = cc
+in_flat (r ∷ runs) zero run at id is here =
+    let same : r ≡ run = cc in
+    rw same (before_append (ids_of run) (flat runs) (0 + at) id
+    (let same : 0 + at ≡ at = omega arith in ap (slice_get (ids_of run)) same ∙ here))
+in_flat (r ∷ runs) (suc k) run at id is here =
+    let rest = in_flat runs k run at id is here in
+    let place : length (ids_of r ++ flat (take k runs)) + at
+    ≡ length (ids_of r) + (length (flat (take k runs)) + at) = rw length-append (omega arith) in
+    ap (slice_get (ids_of r ++ flat runs)) place
+    ∙ past_append (ids_of r) (flat runs) (length (flat (take k runs)) + at) ∙ rest
+
+-- the first id of a run is among all
+pub first_in_flat : (ids : List ℕ) (runs : List Run) (k id : ℕ) → HaveFirsts ids runs
+    → slice_get ids k ≡ Some id → (at : ℕ) × (slice_get (flat runs) at ≡ Some id)
+first_in_flat [] runs k id have is = cc
+first_in_flat (i ∷ ids) [] k id have is = absurd have
+first_in_flat (i ∷ ids) (run ∷ runs) zero id have is =
+    (0, before_append (ids_of run) (flat runs) 0 id (have.0 ∙ is))
+first_in_flat (i ∷ ids) (run ∷ runs) (suc k) id have is =
+    let rest = first_in_flat ids runs k id have.1 is in
+    (length (ids_of run) + rest.0, past_append (ids_of run) (flat runs) rest.0 ∙ rest.1)
+
+-- the ids are those before a run, its own, and those after it
+pub flat_at : (runs : List Run) (k : ℕ) (run : Run) → slice_get runs k ≡ Some run
+    → flat runs ≡ flat (take k runs) ++ (ids_of run ++ flat (drop (suc k) runs))
+flat_at [] k run is = cc
+flat_at (r ∷ runs) zero run is = let same : r ≡ run = cc in ap (λ r. ids_of r ++ flat runs) same
+flat_at (r ∷ runs) (suc k) run is =
+    ap (λ ids. ids_of r ++ ids) (flat_at runs k run is)
+    ∙ sym (append_assoc (ids_of r) (flat (take k runs)) (ids_of run ++ flat (drop (suc k) runs)))
+
+all_weaker : {X : Type 0} (P Q : X → Type 0) → ((x : X) → P x → Q x) → (xs : List X)
+    → AllByRecursion P xs → AllByRecursion Q xs
+all_weaker P Q weaker [] all = tt
+all_weaker P Q weaker (x ∷ xs) all = (weaker x all.0, all_weaker P Q weaker xs all.1)
+
+all_front : {X : Type 0} (P : X → Type 0) (xs ys : List X) → AllByRecursion P (xs ++ ys)
+    → AllByRecursion P xs
+all_front P [] ys all = tt
+all_front P (x ∷ xs) ys all = (all.0, all_front P xs ys all.1)
+
+pub all_append : {X : Type 0} (P : X → Type 0) (xs ys : List X) → AllByRecursion P xs
+    → AllByRecursion P ys → AllByRecursion P (xs ++ ys)
+all_append P [] ys front rest = rest
+all_append P (x ∷ xs) ys front rest = (front.0, all_append P xs ys front.1 rest)
+
+parted : {X : Type 0} (before own after : List X) (at : ℕ)
+    → before ++ (own ++ after) ≡ (before ++ take at own) ++ (drop at own ++ after)
+parted before own after at =
+    ap (λ own. before ++ (own ++ after)) (sym (take-append-drop at own))
+    ∙ ap (λ rest. before ++ rest) (append_assoc (take at own) (drop at own) after)
+    ∙ sym (append_assoc before (take at own) (drop at own ++ after))
+
+-- ids whose texts are in order, beside a text
+module _ (text_of : ℕ → List ℕ) (text : List ℕ) where
+  abbrev pub AreSorted : List ℕ → Type 0
+  AreSorted ids = IsStrictlySortedBy key_order (map text_of ids)
+
+  pub sorted_rest : (ids rest : List ℕ) → AreSorted (ids ++ rest) → AreSorted rest
+  unfolding IsStrictlySortedBy
+  sorted_rest [] rest sorted = sorted
+  sorted_rest (id ∷ ids) rest sorted = sorted_rest ids rest sorted.1
+
+  -- the ids before one whose text is below are below
+  before_below : (ids rest : List ℕ) (h : ℕ) → AreSorted (ids ++ rest) → slice_get rest 0 ≡ Some h
+      → key_order (text_of h) text ≡ Less → AreBelow text (map text_of ids)
+  unfolding IsStrictlySortedBy
+  before_below [] rest h sorted is below = tt
+  before_below (id ∷ ids) rest h sorted is below =
+      let there : slice_get (ids ++ rest) (length ids) ≡ Some h
+      = let end : length ids ≡ length ids + 0 = omega arith in
+      ap (slice_get (ids ++ rest)) end ∙ past_append ids rest 0 ∙ is in
+      let seen : Some (text_of h) ≡ slice_get (map text_of (ids ++ rest)) (length ids)
+      = rw (slice_get-map, there) refl in (
+        nat_list_cmp_total.trans (text_of id) (text_of h) text
+            (all_at (λ t. key_order (text_of id) t ≡ Less) (map text_of (ids ++ rest)) (length ids)
+            (text_of h) sorted.0 seen) below,
+        before_below ids rest h sorted.1 is below,
+      )
+
+  -- the ids from one whose text is above are above
+  from_above : (ids rest : List ℕ) (h : ℕ) → AreSorted (ids ++ rest) → slice_get ids 0 ≡ Some h
+      → key_order text (text_of h) ≡ Less → AreAbove text (map text_of ids)
+  unfolding IsStrictlySortedBy
+  from_above [] rest h sorted is above = tt
+  from_above (id ∷ ids) rest h sorted is above =
+      let first : key_order text (text_of id) ≡ Less = let same : id ≡ h = cc in rw same above in (
+        first,
+        all_weaker (λ t. key_order (text_of id) t ≡ Less) (λ t. key_order text t ≡ Less)
+            (λ t less. nat_list_cmp_total.trans text (text_of id) t first less) (map text_of ids)
+            (all_front (λ t. key_order (text_of id) t ≡ Less) (map text_of ids) (map text_of rest)
+            (subst (AllByRecursion (λ t. key_order (text_of id) t ≡ Less))
+            (map-append text_of ids rest) sorted.0)),
+      )
+
+  -- runs whose first ids are above are above
+  runs_above : (ids : List ℕ) (runs : List Run) → AreSorted (flat runs) → HaveFirsts ids runs
+      → AreAbove text (map text_of ids) → AreAbove text (map text_of (flat runs))
+  runs_above [] [] sorted have above = tt
+  runs_above [] (run ∷ runs) sorted have above = absurd have
+  runs_above (id ∷ ids) [] sorted have above = absurd have
+  runs_above (id ∷ ids) (run ∷ runs) sorted have above =
+      subst (AreAbove text) (sym (map-append text_of (ids_of run) (flat runs)))
+      (all_append (λ t. key_order text t ≡ Less) (map text_of (ids_of run))
+      (map text_of (flat runs))
+      (from_above (ids_of run) (flat runs) id sorted have.0 above.0)
+      (runs_above ids runs (sorted_rest (ids_of run) (flat runs) sorted) have.1 above.1))
+
+  -- the runs after the one in which a text goes are above it, and those before it below
+  pub after_above : (ids : List ℕ) (r : Run) (runs : List Run) (k : ℕ) → AreSorted (flat (r ∷ runs))
+      → HaveFirsts ids runs → IsGap (map text_of ids) text k
+      → AreAbove text (map text_of (flat (drop k runs)))
+  after_above ids r runs zero sorted have gap = runs_above ids runs
+      (sorted_rest (ids_of r) (flat runs) sorted) have (parts_of_gap text (map text_of ids) 0 gap).1
+  after_above [] r [] (suc k) sorted have gap = tt
+  after_above [] r (run ∷ runs) (suc k) sorted have gap = absurd have
+  after_above (id ∷ ids) r [] (suc k) sorted have gap = tt
+  after_above (id ∷ ids) r (run ∷ runs) (suc k) sorted have gap = after_above ids run runs k
+      (sorted_rest (ids_of r) (flat (run ∷ runs)) sorted) have.1 (less_gap ids id k gap)
+    where
+      less_gap : (ids : List ℕ) (id k : ℕ) → IsGap (map text_of (id ∷ ids)) text (suc k)
+          → IsGap (map text_of ids) text k
+      less_gap ids id k gap = (
+        omega (arith, gap.0),
+        (λ i less. gap.1 (suc i) (omega arith)),
+        λ i le less. gap.2 (suc i) (omega arith) (omega arith),
+      )
+
+  pub earlier_below : (ids : List ℕ) (r : Run) (runs : List Run) (k : ℕ)
+      → AreSorted (flat (r ∷ runs)) → HaveFirsts ids runs → IsGap (map text_of ids) text k
+      → AreBelow text (map text_of (flat (take k (r ∷ runs))))
+  earlier_below ids r runs zero sorted have gap = tt
+  earlier_below [] r runs (suc k) sorted have gap = absurd (omega (arith, gap.0))
+  earlier_below (id ∷ ids) r [] (suc k) sorted have gap = absurd have
+  earlier_below (id ∷ ids) r (run ∷ runs) (suc k) sorted have gap =
+      let next : slice_get (flat (run ∷ runs)) 0 ≡ Some id
+      = before_append (ids_of run) (flat runs) 0 id have.0 in
+      subst (AreBelow text) (sym (map-append text_of (ids_of r) (flat (take k (run ∷ runs)))))
+      (all_append (λ t. key_order t text ≡ Less) (map text_of (ids_of r))
+      (map text_of (flat (take k (run ∷ runs))))
+      (before_below (ids_of r) (flat (run ∷ runs)) id sorted next
+      (turned_back text (text_of id) (gap.1 0 (omega arith))))
+      (earlier_below ids run runs k (sorted_rest (ids_of r) (flat (run ∷ runs)) sorted) have.1 (
+        omega (arith, gap.0),
+        (λ i less. gap.1 (suc i) (omega arith)),
+        λ i le less. gap.2 (suc i) (omega arith) (omega arith),
+      )))
+
+  -- where a text goes in the run in which it goes, it goes among all
+  pub gap_in_flat : (ids : List ℕ) (runs : List Run) (k at : ℕ) (run : Run)
+      → AreSorted (flat runs) → HaveFirsts ids (drop 1 runs) → IsGap (map text_of ids) text k
+      → slice_get runs k ≡ Some run → IsGap (map text_of (ids_of run)) text at
+      → IsGap (map text_of (flat runs)) text (length (flat (take k runs)) + at)
+  gap_in_flat ids [] k at run sorted have gap is here = cc
+  gap_in_flat ids (r ∷ runs) k at run sorted have gap is here =
+      let own = ids_of run in
+      let before = flat (take k (r ∷ runs)) in
+      let after = flat (drop k runs) in
+      let parts = parts_of_gap text (map text_of own) at here in
+      let whole = flat_at (r ∷ runs) k run is ∙ parted before own after at in
+      let place : length (map text_of (before ++ take at own)) ≡ length before + at
+      = rw (length-map, length-append, length-take-le at own (rw length-map at here.0)) refl in
+      subst (λ n. IsGap (map text_of (flat (r ∷ runs))) text n) place
+      (subst (λ ts. IsGap ts text (length (map text_of (before ++ take at own))))
+      (sym (ap (map text_of) whole ∙ map-append text_of (before ++ take at own)
+      (drop at own ++ after)))
+      (gap_between text (map text_of (before ++ take at own)) (map text_of (drop at own ++ after))
+      (rw map-append (all_append (λ t. key_order t text ≡ Less) (map text_of before)
+      (map text_of (take at own)) (earlier_below ids r runs k sorted have gap)
+      (rw (← take-map) parts.0)))
+      (rw map-append (all_append (λ t. key_order text t ≡ Less) (map text_of (drop at own))
+      (map text_of after) (rw (← drop-map) parts.1) (after_above ids r runs k sorted have gap)))))
+
+  -- a text goes after the first id of each run but the first
+  pub after_first : (ids : List ℕ) (runs : List Run) (k at : ℕ) (run : Run)
+      → HaveFirsts ids (drop 1 runs) → IsGap (map text_of ids) text k
+      → slice_get runs k ≡ Some run → IsGap (map text_of (ids_of run)) text at → 0 < k → 0 < at
+  after_first ids [] k at run have gap is here past = cc
+  after_first ids (r ∷ runs) zero at run have gap is here past = absurd (omega (arith, past))
+  after_first [] (r ∷ runs) (suc k) at run have gap is here past = absurd (omega (arith, gap.0))
+  after_first (id ∷ ids) (r ∷ []) (suc k) at run have gap is here past = absurd have
+  after_first (id ∷ ids) (r ∷ r1 ∷ runs) (suc zero) zero run have gap is here past =
+      let same : r1 ≡ run = cc in
+      let first : slice_get (ids_of run) 0 ≡ Some id = rw (← same) have.0 in
+      let more : key_order text (text_of id) ≡ Greater = gap.1 0 (omega arith) in
+      let seen : Some (text_of id) ≡ slice_get (map text_of (ids_of run)) 0
+      = rw (slice_get-map, first) refl in
+      let less : key_order text (text_of id) ≡ Less = all_at (λ t. key_order text t ≡ Less)
+      (map text_of (ids_of run)) 0 (text_of id)
+      (parts_of_gap text (map text_of (ids_of run)) 0 here).1 seen in
+      cc
+  after_first (id ∷ ids) (r ∷ r1 ∷ runs) (suc zero) (suc at) run have gap is here past = omega arith
+  after_first (id ∷ ids) (r ∷ r1 ∷ runs) (suc (suc k)) at run have gap is here past =
+      after_first ids (r1 ∷ runs) (suc k) at run have.1 (
+        omega (arith, gap.0),
+        (λ i less. gap.1 (suc i) (omega arith)),
+        λ i le less. gap.2 (suc i) (omega arith) (omega arith),
+      ) is here (omega arith)
+
+  -- the text of an id that has it is among all
+  text_is : (ids : List ℕ) (k id : ℕ) → slice_get (map text_of ids) k ≡ Some text
+      → slice_get ids k ≡ Some id → Some (text_of id) ≡ Some text
+  text_is ids k id found is = rw (slice_get-map, is) at found
+
+  found_with : (all : List ℕ) (at id : ℕ) → slice_get all at ≡ Some id
+      → Some (text_of id) ≡ Some text → slice_get (map text_of all) at ≡ Some text
+  found_with all at id is same = rw (slice_get-map, is) same
+
+  -- what is found by the first ids, and in a run, is among all
+  pub found_first : (ids : List ℕ) (runs : List Run) (k id : ℕ) → HaveFirsts ids (drop 1 runs)
+      → slice_get (map text_of ids) k ≡ Some text → slice_get ids k ≡ Some id
+      → (at : ℕ) × (slice_get (map text_of (flat runs)) at ≡ Some text)
+      × (slice_get (flat runs) at ≡ Some id)
+  found_first [] [] k id have found is = cc
+  found_first (i ∷ ids) [] k id have found is = absurd have
+  found_first ids (r ∷ runs) k id have found is =
+      let there = first_in_flat ids runs k id have is in
+      let all = past_append (ids_of r) (flat runs) there.0 ∙ there.1 in (
+        length (ids_of r) + there.0,
+        found_with (flat (r ∷ runs)) (length (ids_of r) + there.0) id all
+            (text_is ids k id found is),
+        all,
+      )
+
+  pub found_in : (runs : List Run) (k at id : ℕ) (run : Run) → slice_get runs k ≡ Some run
+      → slice_get (map text_of (ids_of run)) at ≡ Some text → slice_get (ids_of run) at ≡ Some id
+      → (at : ℕ) × (slice_get (map text_of (flat runs)) at ≡ Some text)
+      × (slice_get (flat runs) at ≡ Some id)
+  found_in runs k at id run there found is =
+      let all = in_flat runs k run at id there is in (
+        length (flat (take k runs)) + at,
+        found_with (flat runs) (length (flat (take k runs)) + at) id all
+            (text_is (ids_of run) at id found is),
+        all,
+      )
+
+-- the ids of the run at an index
+pub ids_at_is : (runs : List Run) (k : ℕ) (run : Run) → slice_get runs k ≡ Some run
+    → ids_at runs k ≡ ids_of run
+ids_at_is [] k run is = cc
+ids_at_is (r ∷ runs) zero run is = let same : r ≡ run = cc in ap ids_of same
+ids_at_is (r ∷ runs) (suc k) run is = ids_at_is runs k run is
+
+-- a run that a text goes in is there, if there is any
+pub run_within : (text_of : ℕ → List ℕ) (text ids : List ℕ) (runs : List Run) (k : ℕ)
+    → HaveFirsts ids (drop 1 runs) → IsGap (map text_of ids) text k → k ≤ length runs - 1
+run_within text_of text ids runs k have gap =
+    let most : k ≤ length ids = rw length-map at gap.0 in
+    rw (have_length ids (drop 1 runs) have, length-drop) at most
+
+pub no_runs : (runs : List Run) (k : ℕ) → k ≤ length runs - 1 → length runs ≤ k
+    → (runs ≡ []) × (k ≡ 0)
+no_runs [] k most least = (refl, omega (arith, most))
+no_runs (run ∷ runs) k most least = absurd (omega (arith, most, least))
+
+-- where a text goes if there is no run
+pub gap_in_none : (text_of : ℕ → List ℕ) (text : List ℕ) (runs : List Run) (k : ℕ) → runs ≡ []
+    → IsGap (map text_of (flat runs)) text (length (flat (take k runs)) + 0)
+gap_in_none text_of text runs k none = subst
+    (λ runs. IsGap (map text_of (flat runs)) text (length (flat (take k runs)) + 0)) (sym none)
+    (rw take-nil (omega arith, (λ i less. absurd (omega arith)), λ i le less. absurd (omega arith)))
+
+-- an index of no text
+pub no_index : (text_of : ℕ → List ℕ) (index : Index) → index.runs.items ≡ []
+    → ids_of index.starts ≡ [] → IsRun text_of index.starts → IsIndex text_of index
+unfolding IsStrictlySortedBy
+no_index text_of index runs none starts = record {
+  sorted = subst (λ rs. IsStrictlySortedBy key_order (map text_of (flat rs))) (sym runs) tt;
+  runs = subst (AllByRecursion (IsRun text_of)) (sym runs) tt;
+  starts = starts;
+  firsts = subst (λ rs. HaveFirsts (ids_of index.starts) (drop 1 rs)) (sym runs)
+      (subst (λ ids. HaveFirsts ids []) (sym none) tt);
+}

@@ -1,0 +1,162 @@
+-- An index in which one run is changed.
+use Rattle.std.proofs.Common.{arith, ◌≡◌, ℕ, zero, suc, ◌+◌, ◌<◌, ◌≤◌, List, [], ◌∷◌, ◌++◌, map, length, take, drop, set, Some, Less, Greater, refl, sym, ap, subst, ◌∙◌, append_assoc}
+use Rattle.std.specs.Prelude.{slice_get}
+use Rattle.std.proofs.lemmas.List.{get_or_append_left, length-append, length-map, map-append}
+use Rattle.std.specs.List.{AllByRecursion, insert}
+use Rattle.std.specs.List.Sorted.{IsStrictlySortedBy}
+use Rattle.std.specs.Vec.{with_item}
+use Rattle.inline_uses.specs.Index.{HaveFirsts, IsIndex, IsRun, ids_of}
+use Rattle.inline_uses.specs.Symbols.{key_order, IsGap}
+use Rattle.inline_uses.specs.declared.index.Index.{Index}
+use Rattle.inline_uses.specs.declared.index.run.Run.{Run}
+use Rattle.inline_uses.proofs.InRuns.{flat, flat_at}
+use Rattle.inline_uses.proofs.RunEdits.{sorted_insert}
+use Rattle.inline_uses.proofs.Search.{inserted_seen}
+
+-- where a text goes among some, it goes among those after the first ones, and before the last ones
+pub gap_past : (text : List ℕ) (front rest : List (List ℕ)) (at : ℕ)
+    → IsGap (front ++ rest) text (length front + at) → IsGap rest text at
+gap_past text [] rest at gap =
+    let same : 0 + at ≡ at = omega arith in
+    subst (IsGap rest text) same gap
+gap_past text (t ∷ front) rest at gap =
+    let next : suc (length front) + at ≡ suc (length front + at) = omega arith in
+    let gap' = subst (IsGap (t ∷ (front ++ rest)) text) next gap in
+    gap_past text front rest at (
+      omega (arith, gap'.0),
+      (λ i less. gap'.1 (suc i) (omega arith)),
+      λ i le less. gap'.2 (suc i) (omega arith) (omega arith),
+    )
+
+pub gap_before : (text : List ℕ) (front rest : List (List ℕ)) (at : ℕ) → at ≤ length front
+    → IsGap (front ++ rest) text at → IsGap front text at
+gap_before text front rest at within gap = (
+  within,
+  (λ i less. subst (λ t. key_order text t ≡ Greater)
+      (get_or_append_left front rest [] i (omega arith)) (gap.1 i less)),
+  λ i le less. subst (λ t. key_order text t ≡ Less)
+      (get_or_append_left front rest [] i less)
+      (gap.2 i le (rw length-append (omega arith))),
+)
+
+-- where a text goes among all, it goes in its run
+pub gap_in_run : (text_of : ℕ → List ℕ) (text : List ℕ) (runs : List Run) (k at : ℕ) (run : Run)
+    → slice_get runs k ≡ Some run → at ≤ length (ids_of run)
+    → IsGap (map text_of (flat runs)) text (length (flat (take k runs)) + at)
+    → IsGap (map text_of (ids_of run)) text at
+gap_in_run text_of text runs k at run is within gap =
+    let before = map text_of (flat (take k runs)) in
+    let own = map text_of (ids_of run) in
+    let after = map text_of (flat (drop (suc k) runs)) in
+    let whole : map text_of (flat runs) ≡ before ++ (own ++ after)
+    = ap (map text_of) (flat_at runs k run is) ∙ rw (map-append, map-append) refl in
+    gap_before text own after at (rw length-map within) (gap_past text before (own ++ after) at
+    (rw length-map (subst (λ ts. IsGap ts text (length (flat (take k runs)) + at)) whole gap)))
+
+-- an insertion among some with others before them, and after them
+pub insert_past : (front rest : List ℕ) (at id : ℕ)
+    → insert (front ++ rest) (length front + at) id ≡ front ++ insert rest at id
+insert_past [] rest at id = let same : 0 + at ≡ at = omega arith in ap (λ i. insert rest i id) same
+insert_past (x ∷ front) rest at id =
+    let next : suc (length front) + at ≡ suc (length front + at) = omega arith in
+    ap (λ i. insert (x ∷ (front ++ rest)) i id) next
+    ∙ ap (λ ids. x ∷ ids) (insert_past front rest at id)
+
+pub insert_before : (front rest : List ℕ) (at id : ℕ) → at ≤ length front
+    → insert (front ++ rest) at id ≡ insert front at id ++ rest
+insert_before front rest zero id within = refl
+insert_before [] rest (suc at) id within = absurd (omega (arith, within))
+insert_before (x ∷ front) rest (suc at) id within =
+    ap (λ ids. x ∷ ids) (insert_before front rest at id (omega (arith, within)))
+
+-- the ids of all with other ids in one run
+pub flat_set : (runs : List Run) (k : ℕ) (old new : Run) → slice_get runs k ≡ Some old
+    → flat (set runs k new) ≡ flat (take k runs) ++ (ids_of new ++ flat (drop (suc k) runs))
+flat_set [] k old new is = cc
+flat_set (r ∷ runs) zero old new is = refl
+flat_set (r ∷ runs) (suc k) old new is = ap (λ ids. ids_of r ++ ids) (flat_set runs k old new is)
+    ∙ sym (append_assoc (ids_of r) (flat (take k runs)) (ids_of new ++ flat (drop (suc k) runs)))
+
+pub flat_same : (runs : List Run) (k : ℕ) (old new : Run) → slice_get runs k ≡ Some old
+    → ids_of new ≡ ids_of old → flat (set runs k new) ≡ flat runs
+flat_same runs k old new is same = flat_set runs k old new is
+    ∙ ap (λ ids. flat (take k runs) ++ (ids ++ flat (drop (suc k) runs))) same
+    ∙ sym (flat_at runs k old is)
+
+pub flat_insert : (runs : List Run) (k at id : ℕ) (old new : Run) → slice_get runs k ≡ Some old
+    → at ≤ length (ids_of old) → ids_of new ≡ insert (ids_of old) at id
+    → flat (set runs k new) ≡ insert (flat runs) (length (flat (take k runs)) + at) id
+flat_insert runs k at id old new is within grown =
+    let before = flat (take k runs) in
+    let after = flat (drop (suc k) runs) in
+    flat_set runs k old new is ∙ ap (λ ids. before ++ (ids ++ after)) grown
+    ∙ ap (λ ids. before ++ ids) (sym (insert_before (ids_of old) after at id within))
+    ∙ sym (insert_past before (ids_of old ++ after) at id)
+    ∙ ap (λ ids. insert ids (length before + at) id) (sym (flat_at runs k old is))
+
+pub all_set : {X : Type 0} (P : X → Type 0) (xs : List X) (k : ℕ) (new : X) → AllByRecursion P xs
+    → P new → AllByRecursion P (set xs k new)
+all_set P [] k new all is = tt
+all_set P (x ∷ xs) zero new all is = (is, all.1)
+all_set P (x ∷ xs) (suc k) new all is = (all.0, all_set P xs k new all.1 is)
+
+-- a run whose first id stays leaves the first ids
+pub firsts_set : (ids : List ℕ) (runs : List Run) (k : ℕ) (old new : Run) → HaveFirsts ids runs
+    → slice_get runs k ≡ Some old → slice_get (ids_of new) 0 ≡ slice_get (ids_of old) 0
+    → HaveFirsts ids (set runs k new)
+firsts_set [] [] k old new have is same = tt
+firsts_set [] (r ∷ runs) k old new have is same = absurd have
+firsts_set (id ∷ ids) [] k old new have is same = absurd have
+firsts_set (id ∷ ids) (r ∷ runs) zero old new have is same =
+    let here : r ≡ old = cc in
+    (same ∙ sym (ap (λ r. slice_get (ids_of r) 0) here) ∙ have.0, have.1)
+firsts_set (id ∷ ids) (r ∷ runs) (suc k) old new have is same =
+    (have.0, firsts_set ids runs k old new have.1 is same)
+
+pub other_firsts_set : (ids : List ℕ) (runs : List Run) (k : ℕ) (old new : Run)
+    → HaveFirsts ids (drop 1 runs) → slice_get runs k ≡ Some old
+    → (0 < k → slice_get (ids_of new) 0 ≡ slice_get (ids_of old) 0)
+    → HaveFirsts ids (drop 1 (set runs k new))
+other_firsts_set ids [] k old new have is same = cc
+other_firsts_set ids (r ∷ runs) zero old new have is same = have
+other_firsts_set ids (r ∷ runs) (suc k) old new have is same =
+    firsts_set ids runs k old new have is (same (omega arith))
+
+first_stays : (ids : List ℕ) (at id : ℕ) → 0 < at → at ≤ length ids
+    → slice_get (insert ids at id) 0 ≡ slice_get ids 0
+first_stays [] at id past within = absurd (omega (arith, past, within))
+first_stays (x ∷ ids) zero id past within = absurd (omega (arith, past))
+first_stays (x ∷ ids) (suc at) id past within = refl
+
+-- an index in which the ids of a run stay, and one in which a run gets one more
+module _ (text_of : ℕ → List ℕ) (index : Index) (k : ℕ) (old new : Run)
+    (is : IsIndex text_of index) (there : slice_get index.runs.items k ≡ Some old)
+    (run : IsRun text_of new)
+  where
+    pub with_same : ids_of new ≡ ids_of old
+        → IsIndex text_of (record index { runs = with_item index.runs k new })
+    with_same same = record {
+      sorted = subst (λ ids. IsStrictlySortedBy key_order (map text_of ids))
+          (sym (flat_same index.runs.items k old new there same)) is.sorted;
+      runs = all_set (IsRun text_of) index.runs.items k new is.runs run;
+      starts = is.starts;
+      firsts = other_firsts_set (ids_of index.starts) index.runs.items k old new is.firsts there
+          (λ past. ap (λ ids. slice_get ids 0) same);
+    }
+
+    pub with_more : (at id : ℕ) → at ≤ length (ids_of old) → ids_of new ≡ insert (ids_of old) at id
+        → (0 < k → 0 < at)
+        → IsGap (map text_of (flat index.runs.items)) (text_of id)
+        (length (flat (take k index.runs.items)) + at)
+        → IsIndex text_of (record index { runs = with_item index.runs k new })
+    with_more at id within grown after gap = record {
+      sorted = subst (λ ids. IsStrictlySortedBy key_order (map text_of ids))
+          (sym (flat_insert index.runs.items k at id old new there within grown))
+          (rw inserted_seen (sorted_insert (length (flat (take k index.runs.items)) + at)
+          (map text_of (flat index.runs.items)) (text_of id) is.sorted gap));
+      runs = all_set (IsRun text_of) index.runs.items k new is.runs run;
+      starts = is.starts;
+      firsts = other_firsts_set (ids_of index.starts) index.runs.items k old new is.firsts there
+          (λ past. ap (λ ids. slice_get ids 0) grown
+          ∙ first_stays (ids_of old) at id (after past) within);
+    }

@@ -1,0 +1,15 @@
+use Rattle.std.proofs.Common.{◌≡◌, take, sym}
+use Rattle.std.specs.Cmp.Lexicographic.{bytes_decides}
+use Rattle.inline_uses.proofs.RunGrown.{shared_with_first}
+use Rattle.inline_uses.proofs.index.run.Run.shared_front.Goals as goal
+
+pub returns-then-eq-clause-shared : goal.returns-then-eq-clause-shared
+returns-then-eq-clause-shared g c =
+    let front = c.args.self.now.front in
+    let same : take front c.as_bytes-known.result.now ≡ take front c.args.text.now
+    = (bytes_decides _ _).0
+    (rw (c.front_of.ensures, c.front_of-2.ensures, c.if-eq.true) at (sym c.eq.ensures)) in
+    shared_with_first (g.T.Texts.text_of c.args.texts.now) front c.args.text.now
+    c.args.self.now.marks.items c.in-Some.first.now
+    (rw c.deref.ensures.value at c.in-Some.ensures.value)
+    (rw (c.as_bytes-known.ensures.value, c.text.ensures) at same)
