@@ -1,12 +1,17 @@
 //! The words of a text: how often each is used, and where first.
 ghost use Rattle.std.specs.Prelude.{◌≡◌, ◌-◌, ◌^◌, List, [], ℕ, map, IfOk, OnOk, OnErr};
 ghost use Rattle.std.specs.List.Sorted.{IsPermutation, IsNonDecreasingBy};
-ghost use Rattle.word_index.specs.Index.{use_of, with_use, used, with_words, shown, AreWords};
+ghost use Rattle.std.specs.Cmp.Lexicographic.{nat_list_cmp_total, slice_cmp};
+ghost use Rattle.std.specs.Ordering.{nat_cmp};
+ghost use Rattle.std.specs.BTreeMap.Comparable.{le_lt_trans};
+ghost use Rattle.word_index.specs.Index.{bytes_at, use_of, with_use, used, with_words, shown, AreWords};
 
 use inlinable_string::laws::bytes_of_parts;
-use inlinable_string::{InlinableString, StringMake};
+use inlinable_string::{InlinableString, StringExt, StringMake};
 use std::alloc::{AllocError, Global};
+use std::cmp::Ordering;
 use std::collections::BTreeMap;
+use std::collections::btree_map::Comparable;
 use std::marker::Model;
 
 /// How often a word is used, and the number of the line of its first use.
@@ -62,9 +67,12 @@ impl Index {
         ensures err { OnErr result (self.new ≡ self.old) }
     {
         bytes_of_parts();
+        if let Some(uses) = self.uses.get_mut(Word(word)) {
+            *uses = used_again(Some(*uses), line);
+            return Ok(());
+        }
         let key = InlinableString::from(self.alloc, word)?;
-        let uses = used_again(self.uses.get(&key).copied(), line);
-        let Ok(_) = self.uses.insert(key, uses) else {
+        let Ok(_) = self.uses.insert(key, used_again(None, line)) else {
             return Err(AllocError);
         };
         Ok(())
@@ -83,6 +91,24 @@ impl Index {
         }
         ranked.sort_by_key(|entry: &(&InlinableString, Uses)| usize::MAX - entry.1.count)?;
         Ok(ranked)
+    }
+}
+
+/// A word that is searched for among the words of an index.
+#[derive(Clone, Copy)]
+struct Word<'a>(&'a str);
+
+impl Comparable<InlinableString> for Word<'_> {
+    ghost compare = { λ word key. slice_cmp nat_cmp word.0.now (bytes_at key) };
+
+    ghost respects_cmp = { λ word x y.
+        nat_list_cmp_total.congr word.0.now (bytes_at x) (bytes_at y) };
+
+    ghost below_greater = { λ word x y.
+        le_lt_trans nat_list_cmp_total word.0.now (bytes_at x) (bytes_at y) };
+
+    fn compare(&self, key: &InlinableString) -> Ordering {
+        self.0.cmp(key.as_str())
     }
 }
 
