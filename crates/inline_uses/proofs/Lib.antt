@@ -10,6 +10,7 @@ pub mod Members
 pub mod ReadBack
 pub mod Readable
 pub mod Remarked
+pub mod Rows
 pub mod RunEdits
 pub mod RunGrown
 pub mod RunSets

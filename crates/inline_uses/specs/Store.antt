@@ -43,7 +43,7 @@ entry_of entry = (bytes_at entry.0, bytes_at entry.1)
 
 -- the keys of a store with their values
 abbrev pub entries_of : Inside → Entries
-entries_of a = map entry_of a.entries.items
+entries_of a = map entry_of a.entries
 
 -- the entries with the members of a JSON object put in one after another, if each is a string
 abbrev pub with_members : Entries → Members → Option Entries

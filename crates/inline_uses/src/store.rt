@@ -9,20 +9,22 @@ use inlinable_string::laws::bytes_of_parts;
 use inlinable_string::{InlinableString, StringExt};
 use std::alloc::{AllocError, Global};
 use std::marker::Model;
+use window::Window;
 
 pub mod json;
+mod window;
 
 /// A key and its value.
 pub type Entry = (InlinableString, InlinableString);
 
 /// Texts under texts, in the order of their keys. A search takes a number of comparisons that is
-/// logarithmic in the number of keys, and an insertion or a removal moves the entries after it.
-/// Each text is stored once, and a look-up allocates nothing. A contract sees the list of the keys
-/// with their values, each as its bytes.
+/// logarithmic in the number of keys, and an insertion or a removal moves the entries on the
+/// shorter side of it. Each text is stored once, and a look-up allocates nothing. A contract sees
+/// the list of the keys with their values, each as its bytes.
 #[derive(Drop)]
 pub struct Store {
     alloc: Global,
-    entries: Vec<Entry>,
+    entries: Window,
 }
 
 impl Model for Store {
@@ -42,7 +44,7 @@ impl Store {
     {
         Store {
             alloc,
-            entries: Vec::new(alloc),
+            entries: Window::new(alloc),
         }
     }
 
@@ -59,7 +61,7 @@ impl Store {
         ensures { option_copied result ≡ value_of self.now key.now }
     {
         match self.search(key) {
-            Ok(at) => Some(self.entries[at].1.as_str()),
+            Ok(at) => Some(self.entries.as_slice()[at].1.as_str()),
             Err(_) => None,
         }
     }
@@ -75,7 +77,7 @@ impl Store {
         bytes_of_parts();
         let value = InlinableString::from(self.alloc, value)?;
         match self.search(key) {
-            Ok(at) => self.entries[at].1 = value,
+            Ok(at) => self.entries.set_value(at, value),
             Err(at) => {
                 let key = InlinableString::from(self.alloc, key)?;
                 self.entries.insert(at, (key, value))?;
@@ -91,7 +93,7 @@ impl Store {
     {
         match self.search(key) {
             Ok(at) => {
-                let _ = self.entries.remove(at);
+                self.entries.remove(at);
                 true
             }
             Err(_) => false,
@@ -103,7 +105,7 @@ impl Store {
         ensures all { map entry_of result.now ≡ self.now }
         ensures order { AreInOrder self.now }
     {
-        &self.entries
+        self.entries.as_slice()
     }
 
     /// Returns the keys from `from` up to and not including `to` with their values, in the order of
@@ -114,7 +116,7 @@ impl Store {
     {
         let start = self.first_from(from);
         let end = self.first_from(to).max(start);
-        &self.entries[start..end]
+        &self.entries.as_slice()[start..end]
     }
 
     /// The index of the first key that is not below this one.
@@ -139,6 +141,7 @@ impl Store {
     {
         bytes_of_parts();
         self.entries
+            .as_slice()
             .binary_search_by(|entry| entry.0.as_str().as_bytes().cmp(key.as_bytes()))
     }
 }

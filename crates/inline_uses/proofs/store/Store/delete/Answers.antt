@@ -7,14 +7,14 @@ pub invariant_of-self : goal.invariant_of-self
 invariant_of-self c =
     let old = c.args.self.now in
     let is = there c.args.key.now old c.in-Ok.at c.search.ensures.order c.in-Ok.ensures.found in
-    rw (c.remove.ensures.items, removed_seen, c.self.view_is, ← is.3)
+    rw (c.remove.ensures, removed_seen, c.self.view_is, ← is.3)
     (ordered_left old _ c.search.ensures.order)
 
 pub returns-in-Ok-clause-left : goal.returns-in-Ok-clause-left
 returns-in-Ok-clause-left c =
     let is = there c.args.key.now c.args.self.now c.in-Ok.at c.search.ensures.order
     c.in-Ok.ensures.found in
-    rw (c.remove.ensures.items, removed_seen, c.self.view_is) (sym is.3)
+    rw (c.remove.ensures, removed_seen, c.self.view_is) (sym is.3)
 
 pub returns-in-Ok-clause-found : goal.returns-in-Ok-clause-found
 returns-in-Ok-clause-found c =

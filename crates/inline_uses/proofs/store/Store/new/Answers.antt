@@ -3,4 +3,4 @@ use Rattle.inline_uses.proofs.store.Store.new.Goals as goal
 
 pub invariant_of-result : goal.invariant_of-result
 unfolding IsStrictlySortedBy
-invariant_of-result c = rw c.new.ensures.items tt
+invariant_of-result c = rw c.new.ensures tt

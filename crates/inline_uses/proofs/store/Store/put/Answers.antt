@@ -1,4 +1,7 @@
-use Rattle.std.proofs.Common.{rules, ◌≡◌, ℕ, List, map, get_or, set, Some, ap, sym, ◌∙◌}
+use Rattle.std.proofs.Common.{arith, rules, ◌≡◌, ℕ, List, map, length, get_or, set, Some, ap, sym, ◌∙◌}
+use Rattle.std.proofs.lemmas.List.{get_or_default, length-map}
+use Rattle.std.proofs.lemmas.Map.Entries.{length-keys_of}
+use Rattle.std.proofs.lemmas.Option.{slice_get_within}
 use Rattle.std.specs.Prelude.{slice_get}
 use Rattle.std.specs.List.{insert}
 use Rattle.std.specs.Map.{keys_of}
@@ -6,7 +9,6 @@ use Rattle.inlinable_string.specs.declared.inlinable_string.InlinableStringN.{In
 use Rattle.inline_uses.specs.Symbols.{bytes_at, IsGap}
 use Rattle.inline_uses.specs.Store.{Entries, AreInOrder, entry_of, with_value}
 use Rattle.inline_uses.proofs.Search.{replaced, none, inserted_seen, ordered_put}
-use Rattle.inline_uses.proofs.store.Store.put.Goals.{in-Heap-2, in-Inline-2}
 use Rattle.inline_uses.proofs.store.Store.put.Goals as goal
 
 -- the new entries are the old ones with a value under a key, and in order
@@ -23,10 +25,14 @@ module _ (old : Entries) (key value : List ℕ) (v : InlinableStringN 30) (at : 
     ordered new e = (e, rw e (ordered_put old key value order))
 
     -- in place of another value
-    over : (e : InlinableStringN 30 × InlinableStringN 30)
-        → slice_get (keys_of old) at ≡ Some key → e ≡ get_or items at e
-        → IsPut old key value (set items at (e.0, v))
-    over e found read = ordered _ (replaced entry_of items at e key (rw seen order) (rw seen found)
+    over : slice_get (keys_of old) at ≡ Some key
+        → IsPut old key value (set items at ((get_or items at (v, v)).0, v))
+    over found =
+        let e = get_or items at (v, v) in
+        let within = slice_get_within (keys_of old) at key found in
+        let read = get_or_default items at (v, v) e
+        (omega (arith, within, length-keys_of old, ap length seen, length-map items entry_of)) in
+        ordered _ (replaced entry_of items at e key (rw seen order) (rw seen found)
         read (e.0, v) value (ap (λ b. (bytes_at e.0, b)) is)
         ∙ ap (λ es. with_value es key value) seen)
 
@@ -37,39 +43,29 @@ module _ (old : Entries) (key value : List ℕ) (v : InlinableStringN 30) (at : 
         ∙ rw (seen, name, is) (sym ((none key old at gap).2 value)))
 
 pub invariant_of-self : goal.invariant_of-self
-invariant_of-self c = (over c.args.self.now c.args.key.now c.args.value.now c.in_ok-value.value
-    c.in-Ok.at
-    c.self.inside.entries.items c.self.view_is c.search.ensures.order (search rules)
-    c.index_mut.result.now c.in-Ok.ensures.found c.index_mut.ensures.value).1
-
-pub invariant_of-self-in-Ok-2 : goal.invariant_of-self-in-Ok-2
-invariant_of-self-in-Ok-2 c = (over c.args.self.now c.args.key.now c.args.value.now
-    c.in_ok-value.value c.in-Ok.at
-    c.self.inside.entries.items c.self.view_is c.search.ensures.order (search rules)
-    c.index_mut.result.now c.in-Ok.ensures.found c.index_mut.ensures.value).1
+invariant_of-self c = rw (c.set_value.ensures (c.in_ok-value.value, c.in_ok-value.value))
+    (over c.args.self.now c.args.key.now c.args.value.now
+    c.in_ok-value.value c.in-Ok.at c.self.inside.entries c.self.view_is c.search.ensures.order
+    (search rules) c.in-Ok.ensures.found).1
 
 pub returns-in-Ok-clause-ok : goal.returns-in-Ok-clause-ok
-returns-in-Ok-clause-ok c =
-    let put = over c.args.self.now c.args.key.now c.args.value.now c.in_ok-value.value c.in-Ok.at
-    c.self.inside.entries.items c.self.view_is c.search.ensures.order (search rules)
-    c.index_mut.result.now c.in-Ok.ensures.found c.index_mut.ensures.value in
-    elim c.match-index_mut-value.branch [
-      | in-Heap-2 w ↦ w.self-is ∙ put.0
-      | in-Inline-2 w ↦ w.self-is ∙ put.0
-    ]
+returns-in-Ok-clause-ok c = rw (c.set_value.ensures (c.in_ok-value.value, c.in_ok-value.value))
+    (over c.args.self.now c.args.key.now c.args.value.now
+    c.in_ok-value.value c.in-Ok.at c.self.inside.entries c.self.view_is c.search.ensures.order
+    (search rules) c.in-Ok.ensures.found).0
 
 pub invariant_of-self-in-Continue-branch-3 : goal.invariant_of-self-in-Continue-branch-3
 invariant_of-self-in-Continue-branch-3 c =
-    rw c.in_ok-insert-in-Err.ensures.items (anew c.args.self.now c.args.key.now c.args.value.now
+    rw c.in_ok-insert-in-Err.ensures (anew c.args.self.now c.args.key.now c.args.value.now
     c.in_ok-value.value c.in-Err.at
-    c.self.inside.entries.items c.self.view_is c.search.ensures.order (search rules)
+    c.self.inside.entries c.self.view_is c.search.ensures.order (search rules)
     c.in_ok-key-in-Err.key c.in-Err.ensures.gap (search rules)).1
 
 pub returns-in_ok-insert-in-Err-clause-ok : goal.returns-in_ok-insert-in-Err-clause-ok
 returns-in_ok-insert-in-Err-clause-ok c =
-    rw c.in_ok-insert-in-Err.ensures.items (anew c.args.self.now c.args.key.now c.args.value.now
+    rw c.in_ok-insert-in-Err.ensures (anew c.args.self.now c.args.key.now c.args.value.now
     c.in_ok-value.value c.in-Err.at
-    c.self.inside.entries.items c.self.view_is c.search.ensures.order (search rules)
+    c.self.inside.entries c.self.view_is c.search.ensures.order (search rules)
     c.in_ok-key-in-Err.key c.in-Err.ensures.gap (search rules)).0
 
 pub returns-in_err-key-in-Err-clause-short : goal.returns-in_err-key-in-Err-clause-short

@@ -10,7 +10,7 @@ returns-clause-between c =
     let es = c.args.self.now in
     let start = c.first_from-start in
     let end = c.first_from in
-    rw (c.deref.ensures.value, ← take-map, ← drop-map, c.self.view_is)
+    rw (c.as_slice.ensures, ← take-map, ← drop-map, c.self.view_is)
     (sym (run (λ k. not (is_gt (key_order c.args.from.now k)) && is_gt (key_order c.args.to.now k))
     es start.result (c.max-end.result - start.result)
     (λ k l b. rw (start.ensures.below k l) refl)

@@ -13,7 +13,7 @@ searched_for : (c : goal.After-binary_search_by)
     c.args.key.now))
     × IfErr c.binary_search_by.result (IsGap (keys_of c.args.self.now) c.args.key.now)
 searched_for c =
-    let items = c.self.inside.entries.items in
+    let items = c.self.inside.entries in
     let keys : map (λ e. bytes_at e.0) items ≡ keys_of c.args.self.now
     = sym (map-map (λ e. e.0) entry_of items) ∙ ap keys_of c.self.view_is in
     let by = always_returns_same _ _ _ (λ a r f k. search rules) in
@@ -21,8 +21,8 @@ searched_for c =
     (λ e. key_order (bytes_at e.0) c.args.key.now) by in
     rw (← keys) (searched (λ e. bytes_at e.0) items c.args.key.now c.binary_search_by.result
     (rw (keys ∙ sym (ap keys_of c.self.view_is)) c.self.invariant)
-    (rw c.deref.ensures.value at c.binary_search_by.ensures.bound)
-    (rw c.deref.ensures.value at position))
+    (rw c.as_slice.ensures at c.binary_search_by.ensures.bound)
+    (rw c.as_slice.ensures at position))
 
 pub returns-clause-found : goal.returns-clause-found
 returns-clause-found c = (searched_for c).0
