@@ -79,7 +79,8 @@ fn place_above(places: &[Place], random: &mut Random) -> Option<Place> {
     }
 }
 
-/// Looks for each key under the place of a node that comes near it.
+/// Looks for every other node under its parent, and under each of the others for a key that no node
+/// has.
 fn add_children(
     task: &Task,
     names: &Names,
@@ -87,13 +88,16 @@ fn add_children(
     digest: &mut Digest,
 ) -> Result<(), AllocError> {
     let mut key = String::new(task.alloc);
-    for number in 0..task.size {
-        names.write_key(number as u64, &mut key)?;
-        let parent = match tree.node(number) {
-            Some(node) => node.parent,
-            None => None,
+    for id in 0..tree.len() {
+        let found = match tree.node(id) {
+            Some(node) if id % 2 == 0 => tree.child(node.parent, node.key.as_str()),
+            _ => {
+                names.write_key(id as u64, &mut key)?;
+                key.push('-')?;
+                tree.child(Some(id), &key)
+            }
         };
-        digest.add_found(tree.child(parent, &key));
+        digest.add_found(found);
     }
     Ok(())
 }
