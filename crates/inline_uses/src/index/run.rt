@@ -14,6 +14,14 @@ use std::cmp::Ordering;
 /// With fewer ids a longer front saves no more than it costs.
 const MANY: usize = 4;
 
+/// How long the front is at most, so that what all texts have in common is found in bounded time
+/// whatever their length.
+const LONGEST: usize = 64;
+
+/// A front is shortened to a multiple of this, so sixteen times at most before it is lengthened
+/// again. Five bytes of a mark at least are of those that not all texts have in common.
+const STEP: usize = 4;
+
 /// Ids in the order of their texts, each beside the bytes of its text after the first `front`. All
 /// texts have these in common.
 #[derive(Drop)]
@@ -93,7 +101,7 @@ impl Run {
 
     /// Inserts the id of a text at the index at which it goes. There must be room for it. Whenever
     /// the ids are many, and their number is a power of two, the front is lengthened: so it stays
-    /// long, and each id pays for a bounded part of that.
+    /// long, and each id pays for a bounded part of that, and of what shortens it until then.
     pub(super) fn put<T: Texts>(&mut self, texts: &T, at: usize, id: usize)
         requires room { vec_len self.old.marks < vec_capacity self.old.marks }
         requires run { IsRun (T.text_of texts.now) self.old }
@@ -136,7 +144,7 @@ impl Run {
         let _ = self.marks.insert(at, mark);
     }
 
-    /// Returns how much of the front a text has too.
+    /// Returns how much of the front a text has too: all of it, or else full steps.
     fn shared_front<T: Texts>(&self, texts: &T, text: &[u8]) -> usize
         ensures most { result ≤ self.now.front }
         ensures shared { IsShared result text.now (map (T.text_of texts.now) (ids_of self.now)) }
@@ -148,7 +156,8 @@ impl Run {
         if front_of(known, self.front) == front_of(text, self.front) {
             return self.front;
         }
-        shared_len(known, text, self.front)
+        let shared = shared_len(known, text, self.front);
+        shared - shared % STEP
     }
 
     /// Moves the ids from `at` on into a run of their own. Fails only if an allocation does; the
@@ -172,7 +181,7 @@ impl Run {
         Ok(upper)
     }
 
-    /// Makes the front as long as the texts allow.
+    /// Makes the front as long as the texts allow, up to the longest.
     fn lengthen_front<T: Texts>(&mut self, texts: &T)
         requires { IsRun (T.text_of texts.now) self.old }
         ensures ids { ids_of self.new ≡ ids_of self.old }
@@ -182,7 +191,7 @@ impl Run {
             return;
         };
         let known = texts.text(first.id).as_bytes();
-        let front = shared_len(known, texts.text(last.id).as_bytes(), usize::MAX);
+        let front = shared_len(known, texts.text(last.id).as_bytes(), LONGEST);
         if self.front < front {
             self.mark_after(texts, front);
         }
