@@ -18,9 +18,9 @@ mod window;
 pub type Entry = (InlinableString, InlinableString);
 
 /// Texts under texts, in the order of their keys. A search takes a number of comparisons that is
-/// logarithmic in the number of keys, and an insertion or a removal moves the entries on the
-/// shorter side of it. Each text is stored once, and a look-up allocates nothing. A contract sees
-/// the list of the keys with their values, each as its bytes.
+/// logarithmic in the number of keys, and an insertion or a removal among many entries moves those
+/// on the shorter side of it. Each text is stored once, and a look-up allocates nothing. A contract
+/// sees the list of the keys with their values, each as its bytes.
 #[derive(Drop)]
 pub struct Store {
     alloc: Global,

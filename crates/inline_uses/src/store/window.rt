@@ -10,8 +10,8 @@ use std::marker::Model;
 /// With fewer entries no room is made before them: they move as fast.
 const MANY: usize = 64;
 
-/// Entries in a row, with room on both sides, so that an insertion or a removal moves only those on
-/// the shorter side of its index. A contract sees the list of the entries.
+/// Entries in a row, with room on both sides, so that an insertion or a removal among many moves
+/// only those on the shorter side of its index. A contract sees the list of the entries.
 #[derive(Drop)]
 pub(crate) struct Window {
     /// Blank entries, and after them the entries.
