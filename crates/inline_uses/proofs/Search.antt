@@ -59,6 +59,50 @@ module _ {X : Type 0} (f : X → List ℕ) (xs : List X) (key : List ℕ) where
         ),
       )
 
+-- a key goes among others from one index on, and not after another
+abbrev pub GoesWithin : List (List ℕ) → List ℕ → ℕ → ℕ → Type 0
+GoesWithin keys key start end = (start ≤ end) × (end ≤ length keys)
+    × ((i : ℕ) → i < start → key_order key (get_or keys i []) ≡ Greater)
+    × ((i : ℕ) → end ≤ i → i < length keys → key_order key (get_or keys i []) ≡ Less)
+
+-- a comparison to one of them narrows where it goes, or finds it
+module _ (keys : List (List ℕ)) (key : List ℕ) (start end at : ℕ)
+    (sorted : IsStrictlySortedBy key_order keys) (part : GoesWithin keys key start end)
+    (from : start ≤ at) (to : at < end)
+  where
+    pub goes_after : key_order (get_or keys at []) key ≡ Less → GoesWithin keys key (at + 1) end
+    goes_after below = (
+      omega (arith, to),
+      part.1,
+      (λ i less.
+          let before : i < at → key_order key (get_or keys i []) ≡ Greater
+          = λ l. turned _ key Less (nat_list_cmp_total.trans _ (get_or keys at []) key
+          (Less-from_sorted key_order keys i at [] sorted l (omega (arith, to, part.1))) below) in
+          let here : i ≡ at → key_order key (get_or keys i []) ≡ Greater
+          = λ e. rw e (turned _ key Less below) in
+          grind (arith, before, here)),
+      part.3,
+    )
+
+    pub goes_before : key_order (get_or keys at []) key ≡ Greater
+        → GoesWithin keys key start at
+    goes_before above = (
+      from,
+      omega (arith, to, part.1),
+      part.2,
+      λ i le less.
+          let here : key_order key (get_or keys at []) ≡ Less = turned _ key Greater above in
+          let after : at < i → key_order key (get_or keys i []) ≡ Less
+          = λ l. nat_list_cmp_total.trans key (get_or keys at []) _ here
+          (Less-from_sorted key_order keys at i [] sorted l less) in
+          let same : at ≡ i → key_order key (get_or keys i []) ≡ Less = λ e. rw (← e) here in
+          grind (arith, after, same),
+    )
+
+    pub is_there : key_order (get_or keys at []) key ≡ Equal → slice_get keys at ≡ Some key
+    is_there equal = slice_get-get_or keys at [] (omega (arith, to, part.1))
+        ∙ ap Some (exact_bytes _ _ equal)
+
 -- a key that is among others, each above one, is above it
 above : (key k : List ℕ) (ks : List (List ℕ)) (at : ℕ)
     → AllByRecursion (λ q. key_order k q ≡ Less) ks → slice_get ks at ≡ Some key

@@ -8,6 +8,7 @@ ghost use Rattle.inline_uses.specs.Store.{AreInOrder, entry_of, entries_between,
 use inlinable_string::laws::bytes_of_parts;
 use inlinable_string::{InlinableString, StringExt};
 use std::alloc::{AllocError, Global};
+use std::cmp::Ordering;
 use std::marker::Model;
 use window::Window;
 
@@ -139,9 +140,25 @@ impl Store {
         ensures found { IfOk result (λ at. slice_get (keys_of self.now) at ≡ Some key.now) }
         ensures gap { IfErr result (λ at. IsGap (keys_of self.now) key.now at) }
     {
-        bytes_of_parts();
-        self.entries
-            .as_slice()
-            .binary_search_by(|entry| entry.0.as_str().as_bytes().cmp(key.as_bytes()))
+        let entries = self.entries.as_slice();
+        let mut start = 0;
+        let mut end = entries.len();
+        while start < end {
+            let middle = start + (end - start) / 2;
+            match compare(&entries[middle], key) {
+                Ordering::Less => start = middle + 1,
+                Ordering::Equal => return Ok(middle),
+                Ordering::Greater => end = middle,
+            }
+        }
+        Err(start)
     }
+}
+
+/// Returns how the key of an entry compares to another.
+fn compare(entry: &Entry, key: &str) -> Ordering
+    ensures { result ≡ key_order (entry_of entry.now).0 key.now }
+{
+    bytes_of_parts();
+    entry.0.as_str().as_bytes().cmp(key.as_bytes())
 }
