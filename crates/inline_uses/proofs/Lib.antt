@@ -1,3 +1,4 @@
+pub mod Ascii
 pub mod Cursor
 pub mod Gaps
 pub mod Ids

@@ -1,3 +1,4 @@
+pub mod Ascii
 pub mod Editor
 pub mod Index
 pub mod Store

@@ -2,13 +2,16 @@
 //! text means goes into one buffer of `N` bytes.
 //!
 //! Letters, digits and white space are those of std. No contract says how long a call takes.
-ghost use Rattle.std.specs.Prelude.{◌≡◌, ◌≢◌, ◌+◌, ◌^◌, ◌<◌, ◌==◌, if◌then◌else◌, ◌++◌, ◌∷◌, [], List, ℕ, length, None, Some, Ok, IfOk, IfSome, IfNone, IsSomeAnd, IfErr, OnOk, OnErr, IsUtf8, drop};
+ghost use Rattle.std.specs.Prelude.{◌≡◌, ◌≢◌, ◌+◌, ◌^◌, ◌<◌, ◌==◌, if◌then◌else◌, ◌++◌, ◌∷◌, [], List, ℕ, length, None, Some, Ok, IfOk, IfSome, IfNone, IsSomeAnd, IfErr, OnOk, OnErr, IsUtf8, drop, take};
 ghost use Rattle.std.specs.List.{count_by, take_while};
-ghost use Rattle.std.specs.Str.{chars};
+ghost use Rattle.std.specs.Str.{chars, IsCharBoundary};
 ghost use Rattle.inlinable_string.specs.Text.{size};
 ghost use Rattle.inline_uses.specs.declared.tokens.Kind.{Kind};
 ghost use Rattle.inline_uses.specs.Tokens.{AreTokens, Fails, HasNoClose, IsStop, IsTextFault, IsToken, column_after, continues, escape_of, kind_at, kind_of, is_solid, is_solid_kind, newlines, slash_kind, unescaped};
 
+mod ascii;
+
+use ascii::ascii_len;
 use inlinable_string::InlineStringN;
 use inlinable_string::laws::{sizes_of_parts, steps_are_over_characters};
 
@@ -137,14 +140,27 @@ pub fn unescape(letter: char) -> Option<char>
     }
 }
 
+/// Returns how many bytes the characters have with which a token of the kind goes on.
+fn len_while(kind: Kind, source: &str) -> usize
+    ensures end { IsCharBoundary source.now result }
+    ensures front { chars (take result source.now) ≡ take_while (continues kind) (chars source.now) }
+{
+    match source.find(move |ch: char| !kind.goes_on_with(ch)) {
+        Some(end) => end,
+        None => source.len(),
+    }
+}
+
 /// Splits a source after the characters with which a token of the kind goes on.
 fn split_while(kind: Kind, source: &str) -> (&str, &str)
     ensures parts { source.now ≡ result.0.now ++ result.1.now }
     ensures front { chars result.0.now ≡ take_while (continues kind) (chars source.now) }
 {
-    match source.find(move |ch: char| !kind.goes_on_with(ch)) {
-        Some(end) => source.split_at(end),
-        None => (source, ""),
+    let passed = ascii_len(kind, source);
+    let (front, rest) = source.split_at(passed);
+    match rest.as_bytes().first() {
+        Some(next) if next.is_ascii() => (front, rest),
+        _ => source.split_at(passed + len_while(kind, rest)),
     }
 }
 

@@ -1,0 +1,62 @@
+//! The ASCII characters with which a token goes on. Each is one byte, so none is decoded.
+ghost use Rattle.std.specs.Prelude.{◌≡◌};
+ghost use Rattle.std.specs.List.{prefix_len};
+ghost use Rattle.inline_uses.specs.declared.tokens.Kind.{Kind};
+ghost use Rattle.inline_uses.specs.Ascii.{class_of, goes_on_in_ascii};
+
+use super::Kind;
+
+/// A letter, a digit or `_`.
+const NAME: u8 = 1;
+
+/// White space.
+const SPACE: u8 = 2;
+
+/// Any character except the end of a line.
+const LINE: u8 = 4;
+
+/// For each byte a digit, whose low three bits are the flags above: all are zero where the byte is
+/// no ASCII character.
+static CLASSES: [u8; 256] = *b"\
+    44444444462666444444444444444444\
+    64444444444444445555555555444444\
+    45555555555555555555555555544445\
+    45555555555555555555555555544444\
+    00000000000000000000000000000000\
+    00000000000000000000000000000000\
+    00000000000000000000000000000000\
+    00000000000000000000000000000000";
+
+/// Returns the flag of the ASCII characters with which a token of this kind goes on.
+fn class_of(kind: Kind) -> u8
+    ensures { result ≡ class_of kind }
+{
+    match kind {
+        Kind::Word | Kind::Number => NAME,
+        Kind::Space => SPACE,
+        Kind::LineComment => LINE,
+        Kind::BlockComment | Kind::Text | Kind::Mark(_) => 0,
+    }
+}
+
+/// Returns whether the byte is an ASCII character of this class.
+#[inline]
+fn is_of_class(byte: u8, class: u8) -> bool
+    ensures { (kind : Kind) → class ≡ class_of kind → result ≡ goes_on_in_ascii kind byte }
+{
+    CLASSES[byte as usize] & class != 0
+}
+
+/// Returns how many ASCII characters there are before the first character that is none, or with
+/// which a token of this kind does not go on.
+pub(super) fn ascii_len(kind: Kind, source: &str) -> usize
+    ensures { result ≡ prefix_len (goes_on_in_ascii kind) source.now }
+{
+    let class = class_of(kind);
+    let bytes = source.as_bytes();
+    let mut len = 0;
+    while len < bytes.len() && is_of_class(bytes[len], class) {
+        len += 1;
+    }
+    len
+}
