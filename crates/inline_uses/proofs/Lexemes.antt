@@ -1,18 +1,18 @@
 -- What tokens begin with, what is written between quotes, and where a source may be cut.
-use Rattle.std.proofs.Common.{◌≡◌, ◌≢◌, ℕ, ◌+◌, ◌-◌, ◌≤◌, ◌<◌, List, [], ◌∷◌, ◌++◌, length, take, drop, Bool, true, false, cond, ◌==◌, Option, Some, None, IfSome, refl, sym, ap, ◌∙◌, arith, append_assoc, length-append, lit<}
+use Rattle.std.proofs.Common.{◌≡◌, ◌≢◌, ℕ, ◌-◌, ◌≤◌, ◌<◌, List, [], ◌∷◌, ◌++◌, length, take, drop, Bool, true, false, cond, ◌==◌, Option, Some, None, IfSome, refl, sym, ap, ◌∙◌, arith, append_assoc, length-append, lit<}
 use Rattle.std.specs.Char.{encode_utf8}
 use Rattle.std.specs.Str.{chars, IsUtf8, IsCharBoundary}
 use Rattle.std.specs.Prelude.{slice_get}
 use Rattle.std.specs.Str.Pattern.{LacksTextAt}
 use Rattle.std.specs.List.{take_while}
 use Rattle.std.proofs.Math.Seq.{drop-append_seam, get_or-append_seam, take-append_seam}
-use Rattle.std.proofs.lemmas.List.Sums.{take_while-cons, sum_by-cons}
+use Rattle.std.proofs.lemmas.List.Sums.{take_while-cons}
 use Rattle.std.proofs.lemmas.Option.{same_Some}
 use Rattle.std.proofs.lemmas.Str.{encodes-chars, encodes-append, encodes_same, IsUtf8-take, IsUtf8-drop, IsUtf8-past_char, IsCharBoundary-at_seam, IsCharBoundary-before_ascii}
 use Rattle.inlinable_string.specs.Text.{bytes_of}
 use Rattle.inline_uses.specs.declared.tokens.Kind.{Kind}
 use Rattle.inline_uses.specs.declared.tokens.Kind.TheVariants.{Space, Word, Number, LineComment, BlockComment, Text, Mark}
-use Rattle.inline_uses.specs.Tokens.{kind_of, kind_at, continues, escape_of, with_char, unescaped_from, unescaped, HasNoClose, newlines, IsToken}
+use Rattle.inline_uses.specs.Tokens.{kind_of, kind_at, continues, escape_of, with_char, unescaped_from, unescaped, HasNoClose, IsToken}
 
 pub text_begins : (c : ℕ) (next : Option ℕ) → kind_of c next ≡ Text → c ≡ 34
 text_begins c None is = grind arith
@@ -220,20 +220,6 @@ pub nothing_left : (source : List ℕ) → IsUtf8 source → kind_at (chars sour
     → source ≡ []
 nothing_left source utf8 is =
     sym (encodes-chars source utf8) ∙ ap bytes_of (none_at (chars source) is)
-
--- a character more in a line, or a line more
-pub lines-cons : (line c : ℕ) (text : List ℕ)
-    → line + newlines (c ∷ text) ≡ cond (c == 10) (line + 1) line + newlines text
-lines-cons line c text =
-    let more = sum_by-cons (λ d. cond (d == 10) 1 0) c text in grind (arith, more)
-
-pub line_fits : (b : Bool) (line size more most : ℕ) → line + more < most → size < more
-    → cond b (line + 1) line + size < most
-line_fits b line size more most fits less = grind arith
-
-pub column_fits : (b : Bool) (column size more most : ℕ) → column + more < most → size < more
-    → cond b 1 (column + 1) + size < most
-column_fits b column size more most fits less = grind arith
 
 pub some_length : (xs : List ℕ) → xs ≢ [] → 0 < length xs
 some_length [] some = absurd (some refl)

@@ -10,8 +10,10 @@ ghost use Rattle.inline_uses.specs.declared.tokens.Kind.{Kind};
 ghost use Rattle.inline_uses.specs.Tokens.{AreTokens, Fails, HasNoClose, IsStop, IsTextFault, IsToken, column_after, continues, escape_of, kind_at, kind_of, is_solid, is_solid_kind, newlines, slash_kind, unescaped};
 
 mod ascii;
+mod extent;
 
 use ascii::ascii_len;
+use extent::Extent;
 use inlinable_string::InlineStringN;
 use inlinable_string::laws::{sizes_of_parts, steps_are_over_characters};
 
@@ -389,25 +391,6 @@ pub struct Position {
 }
 
 impl Position {
-    /// Returns the place after `ch`, which is here.
-    fn after_char(self, ch: char) -> Position
-        ensures line { self.line + 1 < 2 ^ 64
-            → result.line ≡ (if ch == 10 then self.line + 1 else self.line) }
-        ensures column { self.column + 1 < 2 ^ 64
-            → result.column ≡ (if ch == 10 then 1 else self.column + 1) }
-    {
-        if ch == '\n' {
-            return Position {
-                line: self.line.saturating_add(1),
-                column: 1,
-            };
-        }
-        Position {
-            line: self.line,
-            column: self.column.saturating_add(1),
-        }
-    }
-
     /// Returns the place after `text`, which begins here. A count that would exceed `usize::MAX`
     /// is not exact.
     pub fn after(self, text: &str) -> Position
@@ -416,13 +399,12 @@ impl Position {
         ensures column { self.column + length text.now < 2 ^ 64
             → result.column ≡ column_after self.column (chars text.now) }
     {
-        let mut at = self;
-        let mut rest = text;
-        while let Some((ch, after)) = split_first(rest) {
-            at = at.after_char(ch);
-            rest = after;
+        let extent = Extent::of(text);
+        let start = if extent.newlines == 0 { self.column } else { 1 };
+        Position {
+            line: self.line.saturating_add(extent.newlines),
+            column: start.saturating_add(extent.last_line),
         }
-        at
     }
 }
 

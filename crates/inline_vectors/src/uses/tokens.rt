@@ -121,3 +121,22 @@ fn faults_are_found_and_empty_the_buffer(rt: HostRuntime) -> Result<(), Fail> {
     }
     Ok(())
 }
+
+#[test]
+fn places_stop_at_the_largest_counts(rt: HostRuntime) -> Result<(), Fail> {
+    let largest = usize::MAX;
+    let at = Position {
+        line: largest - 1,
+        column: largest - 2,
+    };
+    for (text, line, column) in [
+        ("", largest - 1, largest - 2),
+        ("é", largest - 1, largest - 1),
+        ("€xyz", largest - 1, largest),
+        ("😀\n", largest, 1),
+        ("x\n\n\né€😀x", largest, 5),
+    ] {
+        assert_eq!(rt; (at.after(text), text), (Position { line, column }, text));
+    }
+    Ok(())
+}
