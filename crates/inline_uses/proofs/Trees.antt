@@ -1,10 +1,11 @@
 -- A tree with one more node at the end of its list.
-use Rattle.std.proofs.Common.{◌≡◌, ◌<◌, ◌≤◌, ◌↔◌, suc, inl, inr, ℕ, List, [], ◌∷◌, ◌++◌, length, Bool, true, false, cond, Option, Some, None, Ordering, Less, Equal, Greater, is_eq, refl, ap, subst, sym, ◌∙◌, arith, rules}
+use Rattle.std.proofs.Common.{◌≡◌, ◌<◌, ◌≤◌, ◌↔◌, suc, inl, inr, ℕ, List, [], ◌∷◌, ◌++◌, length, Bool, true, false, cond, Option, Some, None, IsSome, Ordering, Less, Equal, Greater, is_eq, refl, ap, subst, sym, ◌∙◌, arith, rules}
 use Rattle.std.specs.Prelude.{slice_get}
 use denote.Ref.{Bor}
-use Rattle.std.specs.BTreeMap.{BTreeMap, get}
+use Rattle.std.specs.BTreeMap.{BTreeMap, get, is_at}
 use Rattle.std.specs.Bool.{Decides}
 use Rattle.std.specs.Cmp.Lexicographic.{slice_cmp}
+use Rattle.std.specs.Map.{lookup}
 use Rattle.std.specs.Option.{option_cmp}
 use Rattle.std.specs.Ordering.{nat_cmp, ordering_then}
 use Rattle.std.specs.Str.{chars}
@@ -97,6 +98,34 @@ found nodes parent key old new n count none text was sets place k id is_text =
         | inr newer ↦ let f : false ≡ true = told.1 newer.1 in cc
       ],
     )
+
+-- what finds a node is the map's entries alone
+pub found_in : (nodes : List Node) (ids : BTreeMap (Option ℕ × List ℕ) ℕ)
+    → (es : List ((Option ℕ × List ℕ) × ℕ)) → ids.entries ≡ es → AreFound nodes ids
+    → (place : Option ℕ) (key : List ℕ) (id : ℕ) → chars (bytes_of key) ≡ key
+    → (lookup (is_at (place_order (place, key))) es ≡ Some id)
+    ↔ (slice_get nodes id ≡ Some (node_at place key))
+found_in nodes ids es same found = rw (← same) found
+
+-- a key that the map has not is of no node
+pub no_node : (nodes : List Node) (place : Option ℕ) (key : List ℕ)
+    → (ids : BTreeMap (Option ℕ × List ℕ) ℕ) → AreFound nodes ids → chars (bytes_of key) ≡ key
+    → get place_order ids (place, key) ≡ None
+    → (id : ℕ) → ¬ (slice_get nodes id ≡ Some (node_at place key))
+no_node nodes place key ids found text none id is =
+    let some : get place_order ids (place, key) ≡ Some id = (found place key id text).1 is in cc
+
+-- and one that it has is of a node
+pub some_node : (nodes : List Node) (place : Option ℕ) (key : List ℕ)
+    → (ids : BTreeMap (Option ℕ × List ℕ) ℕ) → AreFound nodes ids → chars (bytes_of key) ≡ key
+    → IsSome (get place_order ids (place, key))
+    → (id : ℕ) × (slice_get nodes id ≡ Some (node_at place key))
+some_node nodes place key ids found text some = by (get place_order ids (place, key)) refl some
+  where
+    by : (o : Option ℕ) → get place_order ids (place, key) ≡ o → IsSome o
+        → (id : ℕ) × (slice_get nodes id ≡ Some (node_at place key))
+    by None is h = cc
+    by (Some id) is h = (id, (found place key id text).0 is)
 
 -- the keys from a place down, with the key of the node at the place before them
 pub above : (nodes : List Node) (at id : ℕ) (node : Node) (keys : List (List ℕ)) → IsTree nodes

@@ -9,6 +9,7 @@ use inlinable_string::laws::{bytes_of_parts, sizes_of_parts};
 use inlinable_string::{InlinableString, InlineStringN, StringExt, StringMake};
 use std::alloc::{AllocError, Global};
 use std::collections::BTreeMap;
+use std::collections::btree_map::Entry;
 use std::marker::Model;
 
 pub mod json;
@@ -133,30 +134,38 @@ impl Tree {
         if !self.has(place) {
             return Err(Fault::NoNode);
         }
-        match self.child(place, key) {
-            Some(_) => Err(Fault::Taken),
-            None => Ok(self.put(place, short)?),
-        }
+        self.put(place, short)
     }
 
-    /// Puts a node under a place that has none with its key.
-    fn put(&mut self, parent: Option<usize>, key: InlineStringN<16>) -> Result<usize, AllocError>
+    /// Puts a node under a place, unless one with its key is there. One search of the map finds
+    /// that, and where the key goes, and only a key that is new allocates.
+    fn put(&mut self, parent: Option<usize>, key: InlineStringN<16>) -> Result<usize, Fault>
         requires place { IsPlaceOf self.old parent }
-        requires none { (id : ℕ) → ¬ (slice_get self.old id ≡ Some (node_at parent key)) }
         requires text { chars (bytes_of key) ≡ key }
         requires short { size key ≤ 16 }
         ensures id { IfOk result (λ id. id ≡ length self.old) }
         ensures ok { OnOk result (self.new ≡ self.old ++ node_at parent key ∷ []) }
         ensures err { OnErr result (self.new ≡ self.old) }
+        ensures taken { (result ≡ Err Fault.Taken)
+            ↔ ((id : ℕ) × (slice_get self.old id ≡ Some (node_at parent key))) }
+        ensures fault { IfErr result (λ fault. (fault ≡ Fault.Taken) ⊎ (fault ≡ Fault.NoMemory)) }
     {
-        let copy = key.clone()?;
+        let node = Node {
+            parent,
+            key: key.copy(),
+        };
         let id = self.nodes.len();
-        self.nodes.push(Node { parent, key: copy })?;
-        match self.ids.insert((parent, key), id) {
-            Ok(_) => Ok(id),
-            Err(_) => {
-                let _ = self.nodes.pop();
-                Err(AllocError)
+        let Ok(entry) = self.ids.entry((parent, key)) else {
+            return Err(Fault::NoMemory);
+        };
+        match entry {
+            Entry::Occupied(_) => Err(Fault::Taken),
+            Entry::Vacant(vacant) => {
+                if self.nodes.push(node).is_err() {
+                    return Err(Fault::NoMemory);
+                }
+                vacant.insert(id);
+                Ok(id)
             }
         }
     }

@@ -96,9 +96,11 @@ fn without_memory_a_tree_stays_as_it_is(rt: HostRuntime) -> Result<(), Fail> {
     let deep = add_deep(&mut tree).map_err(|_| "refused")?;
     let hoard = Hoard::take(rt.alloc()).expect(&rt, NEEDS_THE_PROVED_BUILD);
     let (last, refused) = add_until_refused(&mut tree, deep);
+    let taken = tree.add(None, DEEP[0]);
     let path = tree.path(rt.alloc(), deep);
     drop(hoard);
     assert!(rt; refused == Some(Fault::NoMemory));
+    assert!(rt; taken == Err(Fault::Taken));
     assert!(rt; tree.child(Some(last), "next").is_none());
     let next = tree.len();
     assert!(rt; tree.add(Some(last), "next") == Ok(next));
