@@ -23,3 +23,4 @@ pub mod Shown
 pub mod Tables
 pub mod Trees
 pub mod Under
+pub mod Words

@@ -153,6 +153,17 @@ fn len_while(kind: Kind, source: &str) -> usize
     }
 }
 
+/// Splits a source before the end of the line.
+fn split_line(source: &str) -> (&str, &str)
+    ensures parts { source.now ≡ result.0.now ++ result.1.now }
+    ensures front { chars result.0.now ≡ take_while (continues Kind.LineComment) (chars source.now) }
+{
+    match source.find('\n') {
+        Some(end) => source.split_at(end),
+        None => (source, ""),
+    }
+}
+
 /// Splits a source after the characters with which a token of the kind goes on.
 fn split_while(kind: Kind, source: &str) -> (&str, &str)
     ensures parts { source.now ≡ result.0.now ++ result.1.now }
@@ -321,7 +332,8 @@ fn read_token<'a, const N: usize>(
     ensures err { IfErr result (λ fault. Fails N kind (chars source.now) fault) }
 {
     match kind {
-        Kind::Space | Kind::LineComment => Ok(split_while(kind, source)),
+        Kind::Space => Ok(split_while(kind, source)),
+        Kind::LineComment => Ok(split_line(source)),
         Kind::Mark(_) => Ok(split_mark(source)),
         Kind::Word | Kind::Number => {
             let (text, rest) = split_while(kind, source);
