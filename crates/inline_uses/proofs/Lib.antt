@@ -6,6 +6,7 @@ pub mod Ids
 pub mod InRuns
 pub mod IndexMarks
 pub mod IndexRuns
+pub mod Letters
 pub mod Lexemes
 pub mod Listed
 pub mod Members

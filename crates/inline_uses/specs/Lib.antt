@@ -1,6 +1,7 @@
 pub mod Ascii
 pub mod Editor
 pub mod Index
+pub mod Letters
 pub mod Store
 pub mod Symbols
 pub mod Tokens

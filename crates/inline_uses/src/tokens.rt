@@ -11,11 +11,13 @@ ghost use Rattle.inline_uses.specs.Tokens.{AreTokens, Fails, HasNoClose, IsStop,
 
 mod ascii;
 mod extent;
+mod letters;
 
 use ascii::ascii_len;
 use extent::Extent;
 use inlinable_string::InlineStringN;
 use inlinable_string::laws::{sizes_of_parts, steps_are_over_characters};
+use letters::is_letter;
 
 /// Why a source has no next token.
 #[derive(Clone, Copy, Debug, PartialEq, Eq)]
@@ -56,7 +58,7 @@ impl Kind {
     {
         match self {
             Kind::Space => ch.is_whitespace(),
-            Kind::Word => ch == '_' || ch.is_alphanumeric(),
+            Kind::Word => ch == '_' || is_letter(ch) || ch.is_numeric(),
             Kind::Number => ch == '_' || ch.is_ascii_alphanumeric(),
             Kind::LineComment => ch != '\n',
             Kind::BlockComment | Kind::Text | Kind::Mark(_) => false,
@@ -111,7 +113,7 @@ fn kind_of(first: char, next: Option<char>) -> Kind
         slash_kind(next)
     } else if first.is_ascii_digit() {
         Kind::Number
-    } else if first == '_' || first.is_alphabetic() {
+    } else if first == '_' || is_letter(first) {
         Kind::Word
     } else if first.is_whitespace() {
         Kind::Space
@@ -125,7 +127,10 @@ pub fn kind_at(source: &str) -> Option<Kind>
     ensures { result ≡ kind_at (chars source.now) }
 {
     let (first, rest) = split_first(source)?;
-    Some(kind_of(first, rest.chars().next()))
+    if first != '/' {
+        return Some(kind_of(first, None));
+    }
+    Some(slash_kind(rest.chars().next()))
 }
 
 /// The character that `letter` means after a `\`.
