@@ -13,7 +13,7 @@ mod ascii;
 mod extent;
 mod letters;
 
-use ascii::ascii_len;
+use ascii::{ascii_len, kind_of_ascii};
 use extent::Extent;
 use inlinable_string::InlineStringN;
 use inlinable_string::laws::{sizes_of_parts, steps_are_over_characters};
@@ -107,13 +107,9 @@ fn slash_kind(next: Option<char>) -> Kind
 fn kind_of(first: char, next: Option<char>) -> Kind
     ensures { result ≡ kind_of first next }
 {
-    if first == '"' {
-        Kind::Text
-    } else if first == '/' {
-        slash_kind(next)
-    } else if first.is_ascii_digit() {
-        Kind::Number
-    } else if first == '_' || is_letter(first) {
+    if first.is_ascii() {
+        kind_of_ascii(first as u8, next)
+    } else if is_letter(first) {
         Kind::Word
     } else if first.is_whitespace() {
         Kind::Space
@@ -148,6 +144,7 @@ pub fn unescape(letter: char) -> Option<char>
 }
 
 /// Returns how many bytes the characters have with which a token of the kind goes on.
+#[inline(never)]
 fn len_while(kind: Kind, source: &str) -> usize
     ensures end { IsCharBoundary source.now result }
     ensures front { chars (take result source.now) ≡ take_while (continues kind) (chars source.now) }

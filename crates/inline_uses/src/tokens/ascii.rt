@@ -1,10 +1,11 @@
 //! The ASCII characters with which a token goes on. Each is one byte, so none is decoded.
-ghost use Rattle.std.specs.Prelude.{◌≡◌};
+ghost use Rattle.std.specs.Prelude.{◌≡◌, ◌<◌};
 ghost use Rattle.std.specs.List.{prefix_len};
 ghost use Rattle.inline_uses.specs.declared.tokens.Kind.{Kind};
 ghost use Rattle.inline_uses.specs.Ascii.{class_of, goes_on_in_ascii};
+ghost use Rattle.inline_uses.specs.Tokens.{kind_of};
 
-use super::Kind;
+use super::{Kind, slash_kind};
 
 /// A letter, a digit or `_`.
 const NAME: u8 = 1;
@@ -45,6 +46,29 @@ fn is_of_class(byte: u8, class: u8) -> bool
     ensures { (kind : Kind) → class ≡ class_of kind → result ≡ goes_on_in_ascii kind byte }
 {
     CLASSES[byte as usize] & class != 0
+}
+
+/// Returns the kind of a token that begins with the ASCII character `first`, before `next`.
+#[inline]
+pub(super) fn kind_of_ascii(first: u8, next: Option<char>) -> Kind
+    requires { first < 128 }
+    ensures { result ≡ kind_of first next }
+{
+    if is_of_class(first, SPACE) {
+        return Kind::Space;
+    }
+    if is_of_class(first, NAME) {
+        return if first.is_ascii_digit() {
+            Kind::Number
+        } else {
+            Kind::Word
+        };
+    }
+    match first {
+        b'"' => Kind::Text,
+        b'/' => slash_kind(next),
+        _ => Kind::Mark(char::from(first)),
+    }
 }
 
 /// Returns how many ASCII characters there are before the first character that is none, or with
