@@ -28,7 +28,7 @@ later_byte : (column n : ℕ) → column_past column (128 + n % 64) ≡ column
 later_byte column n = grind (arith, nat_tests)
 
 -- what is true of the bytes of a character, by how many it has
-by_width : (c : ℕ) (P : List ℕ → Type 0) → (c < 128 → P (c ∷ []))
+pub by_width : (c : ℕ) (P : List ℕ → Type 0) → (c < 128 → P (c ∷ []))
     → ((b : ℕ) → 128 ≤ c → 192 ≤ b → P (b ∷ (128 + c % 64) ∷ []))
     → ((b : ℕ) → 128 ≤ c → 192 ≤ b → P (b ∷ (128 + c / 64 % 64) ∷ (128 + c % 64) ∷ []))
     → ((b : ℕ) → 128 ≤ c → 192 ≤ b

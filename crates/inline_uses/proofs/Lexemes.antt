@@ -10,9 +10,11 @@ use Rattle.std.proofs.lemmas.List.Sums.{take_while-cons}
 use Rattle.std.proofs.lemmas.Option.{same_Some}
 use Rattle.std.proofs.lemmas.Str.{encodes-chars, encodes-append, encodes_same, IsUtf8-take, IsUtf8-drop, IsUtf8-past_char, IsCharBoundary-at_seam, IsCharBoundary-before_ascii}
 use Rattle.inlinable_string.specs.Text.{bytes_of}
+use Rattle.inline_uses.specs.declared.tokens.Fault.{Fault}
+use Rattle.inline_uses.specs.declared.tokens.Fault.TheVariants.{TooLong, Unterminated, BadEscape}
 use Rattle.inline_uses.specs.declared.tokens.Kind.{Kind}
 use Rattle.inline_uses.specs.declared.tokens.Kind.TheVariants.{Space, Word, Number, LineComment, BlockComment, Text, Mark}
-use Rattle.inline_uses.specs.Tokens.{kind_of, kind_at, continues, escape_of, with_char, unescaped_from, unescaped, HasNoClose, IsToken}
+use Rattle.inline_uses.specs.Tokens.{kind_of, kind_at, continues, escape_of, with_char, unescaped_from, unescaped, HasNoClose, IsStop, StopsAt, IsToken}
 
 pub text_begins : (c : ℕ) (next : Option ℕ) → kind_of c next ≡ Text → c ≡ 34
 text_begins c None is = grind arith
@@ -90,6 +92,22 @@ longer false (c ∷ xs) ys n last = more_by (c == 34) (c == 92) c (unescaped_fro
 pub unescaped-append : (xs ys m n : List ℕ) → unescaped xs ≡ Some m → unescaped ys ≡ Some n
     → unescaped (xs ++ ys) ≡ Some (m ++ n)
 unescaped-append xs ys m n is last = rw is at (longer false xs ys n last)
+
+-- the same, of a source that begins with a text
+pub reads_on : (source inside word xs m rest : List ℕ) → source ≡ inside ++ (xs ++ rest)
+    → unescaped inside ≡ Some word → unescaped xs ≡ Some m
+    → (source ≡ (inside ++ xs) ++ rest) × (unescaped (inside ++ xs) ≡ Some (word ++ m))
+reads_on source inside word xs m rest whole is next = (
+  whole ∙ sym (append_assoc inside xs rest),
+  unescaped-append inside xs word m is next,
+)
+
+-- a text that fits stops where what follows it does
+pub stops : (N : ℕ) (fault : Fault) (word rest : List ℕ) → IsStop fault rest
+    → StopsAt N fault word rest
+stops N TooLong word rest is = absurd is
+stops N Unterminated word rest is = is
+stops N (BadEscape left) word rest is = is
 
 pub escaped_one : (letter c : ℕ) → escape_of letter ≡ Some c
     → unescaped (92 ∷ letter ∷ []) ≡ Some (c ∷ [])

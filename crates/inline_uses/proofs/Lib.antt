@@ -10,6 +10,7 @@ pub mod Letters
 pub mod Lexemes
 pub mod Listed
 pub mod Members
+pub mod PlainTexts
 pub mod ReadBack
 pub mod Readable
 pub mod Remarked

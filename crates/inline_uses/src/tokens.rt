@@ -12,12 +12,14 @@ ghost use Rattle.inline_uses.specs.Tokens.{AreTokens, Fails, HasNoClose, IsStop,
 mod ascii;
 mod extent;
 mod letters;
+mod plain;
 
 use ascii::{ascii_len, kind_of_ascii};
 use extent::Extent;
 use inlinable_string::InlineStringN;
 use inlinable_string::laws::{sizes_of_parts, steps_are_over_characters};
 use letters::is_letter;
+use plain::split_plain;
 
 /// Why a source has no next token.
 #[derive(Clone, Copy, Debug, PartialEq, Eq)]
@@ -89,6 +91,7 @@ fn split_first(source: &str) -> Option<(char, &str)>
 /// A law: the characters of a text in two parts are those of the first and then of the second.
 fn chars_of_parts(text: &str, rest: &str)
     ensures joined { chars (text.now ++ rest.now) ≡ chars text.now ++ chars rest.now }
+    ensures text_utf8 { IsUtf8 text.now }
     ensures utf8 { IsUtf8 rest.now }
 {}
 
@@ -252,7 +255,13 @@ fn read_text<'a, const N: usize>(
     sizes_of_parts();
     let mut rest = source;
     loop {
-        let (ch, after) = match read_char(rest) {
+        let (plain, stop) = split_plain(rest, N);
+        chars_of_parts(plain, stop);
+        match word.push_str(plain) {
+            Ok(()) => {}
+            Err(_) => return Err(Fault::TooLong),
+        }
+        let (ch, after) = match read_char(stop) {
             Ok(read) => read,
             Err(fault) => return Err(fault),
         };

@@ -103,6 +103,11 @@ const FAULTS: &[(&str, Fault)] = &[
     ("éééé1", Fault::TooLong),
     // What comes first is found first.
     ("\"abcdefgh\\n\\q", Fault::TooLong),
+    ("\"abcdefghi\\q", Fault::TooLong),
+    ("\"abcdefghi", Fault::TooLong),
+    ("\"abcdéé€€\\n\"", Fault::TooLong),
+    ("\"abcd\\nefgh", Fault::TooLong),
+    ("\"abcd\\nef\\", Fault::Unterminated),
     ("\"abcdefgh\\q", Fault::BadEscape(2)),
     ("\"é\\u{41}\"", Fault::BadEscape(7)),
     ("\"a // b\n", Fault::Unterminated),
