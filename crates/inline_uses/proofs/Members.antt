@@ -51,6 +51,14 @@ in_turn done (e ∷ more) h =
     rw (goes_last done e more h)
     (in_turn (done ++ e ∷ []) more (rw append_assoc h) ∙ append_assoc done (e ∷ []) more)
 
+-- a key that is below those after it goes first
+pub goes_first : (before : Entries) (e : List ℕ × List ℕ) (after : Entries)
+    → AreInOrder (before ++ e ∷ after) → with_value after e.0 e.1 ≡ e ∷ after
+unfolding IsStrictlySortedBy
+goes_first [] e [] h = refl
+goes_first [] e (d ∷ after) h = rw h.0.0 refl
+goes_first (b ∷ before) e after h = goes_first before e after h.1
+
 -- entries in order, put in one after another, are themselves
 pub all_in_turn : (entries : Entries) → AreInOrder entries → with_all [] entries ≡ entries
 all_in_turn entries h = in_turn [] entries h
