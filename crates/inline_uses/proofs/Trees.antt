@@ -13,6 +13,7 @@ use Rattle.inlinable_string.specs.Text.{bytes_of, size}
 use Rattle.std.proofs.lemmas.Cmp.{ranked, tied_itself, nat_cmp_total, nat_list_cmp_total}
 use Rattle.std.proofs.lemmas.List.{append_assoc, length-append}
 use Rattle.std.proofs.lemmas.Map.Lookups.{exact_bytes}
+use Rattle.std.proofs.lemmas.Option.{slice_get_within}
 use Rattle.serde_json.specs.Data.{Data, Members, member}
 use Rattle.inline_uses.specs.Tree.{node_at, IsPlaceOf, IsTree, place_order, AreFound, Leads, listed, listed_members}
 use Rattle.inline_uses.specs.declared.tree.Node.{Node}
@@ -126,6 +127,15 @@ some_node nodes place key ids found text some = by (get place_order ids (place, 
         → (id : ℕ) × (slice_get nodes id ≡ Some (node_at place key))
     by None is h = cc
     by (Some id) is h = (id, (found place key id text).0 is)
+
+-- what a node is under is a place
+pub is_place : (nodes : List Node) (place : Option ℕ) (key : List ℕ) (id : ℕ) → IsTree nodes
+    → slice_get nodes id ≡ Some (node_at place key) → IsPlaceOf nodes place
+is_place nodes None key id tree is = search rules
+is_place nodes (Some p) key id tree is =
+    let earlier : p < id = tree.later id p key is in
+    let within : id < length nodes = slice_get_within nodes id (node_at (Some p) key) is in
+    omega (arith, earlier, within)
 
 -- the keys from a place down, with the key of the node at the place before them
 pub above : (nodes : List Node) (at id : ℕ) (node : Node) (keys : List (List ℕ)) → IsTree nodes

@@ -2,6 +2,7 @@ pub mod Ascii
 pub mod Editor
 pub mod Index
 pub mod Letters
+pub mod PlacedKeys
 pub mod Store
 pub mod Symbols
 pub mod Tokens

@@ -5,6 +5,7 @@ ghost use Rattle.inlinable_string.specs.Text.{bytes_of, size};
 ghost use Rattle.inlinable_string.specs.Values.{inlinable_state};
 ghost use Rattle.inline_uses.specs.Tree.{node_at, IsPlaceOf, IsTree, Leads, joined};
 
+use crate::tree::placed_key::PlacedKey;
 use inlinable_string::laws::{bytes_of_parts, sizes_of_parts};
 use inlinable_string::{InlinableString, InlineStringN, StringExt, StringMake};
 use std::alloc::{AllocError, Global};
@@ -13,6 +14,7 @@ use std::collections::btree_map::Entry;
 use std::marker::Model;
 
 pub mod json;
+mod placed_key;
 
 /// How many objects may be nested in the JSON of a tree, the outermost included.
 pub const LEVELS: usize = 128;
@@ -56,7 +58,7 @@ impl From<AllocError> for Fault {
 #[derive(Drop)]
 pub struct Tree {
     nodes: Vec<Node>,
-    ids: BTreeMap<(Option<usize>, InlineStringN<16>), usize>,
+    ids: BTreeMap<PlacedKey, usize>,
 }
 
 impl Model for Tree {
@@ -106,7 +108,10 @@ impl Tree {
         sizes_of_parts();
         let ids = &self.ids;
         let key: InlineStringN<16> = key.parse().ok()?;
-        ids.get(&(place, key)).copied()
+        if !self.has(place) {
+            return None;
+        }
+        ids.get(&PlacedKey::new(place, key)).copied()
     }
 
     /// Adds a node with this key under a place, after the others, and returns its number. A fault
@@ -155,7 +160,7 @@ impl Tree {
             key: key.copy(),
         };
         let id = self.nodes.len();
-        let Ok(entry) = self.ids.entry((parent, key)) else {
+        let Ok(entry) = self.ids.entry(PlacedKey::new(parent, key)) else {
             return Err(Fault::NoMemory);
         };
         match entry {

@@ -4,6 +4,7 @@ ghost use Rattle.serde_json.specs.Find.{as_object};
 ghost use Rattle.serde_json.specs.View.{view};
 ghost use Rattle.inline_uses.specs.Tree.{node_at, IsPlaceOf, IsShown, HaveSamePaths, Leads, listed, IsReadable, IsFaultOf};
 
+use crate::tree::placed_key::PlacedKey;
 use crate::tree::{Fault, LEVELS, Tree};
 use inlinable_string::InlineStringN;
 use inlinable_string::laws::bytes_of_parts;
@@ -86,10 +87,10 @@ impl Tree {
             Some(id) => id + 1,
             None => 0,
         };
-        let first = (place, InlineStringN::new());
-        let end = (Some(next), InlineStringN::new());
+        let first = PlacedKey::new(place, InlineStringN::new());
+        let end = PlacedKey::new(Some(next), InlineStringN::new());
         for (entry, id) in self.ids.range(first..end) {
-            let key = entry.1.as_str();
+            let key = entry.key().as_str();
             if below == 0 {
                 return Err(Fault::TooDeep);
             }

@@ -30,9 +30,10 @@ loop-entry-init t c =
       | in-None w ↦ w.next-is ∙ rw w.in-None.is refl
     ] in
     let items = c.range-entry-items in
-    let (all, inside) = range_is c.args.place (Included (c.match-place.place, c.new.result))
-    (Excluded (Some c.match-place.next, c.new-2.result)) ids items.result
-    (rw (place, c.new.ensures) refl) (rw (next, c.new-2.ensures) refl)
+    let (all, inside) = range_is c.args.place (Included c.new-first.result)
+    (Excluded c.new-end.result) ids items.result
+    (rw (c.new-first.ensures, place, c.new.ensures) refl)
+    (rw (c.new-end.ensures, next, c.new-2.ensures) refl)
     (items.ensures.between tt) (items.ensures.in_range tt).0 in
     record {
       shown = rw (
@@ -55,31 +56,33 @@ loop-entry-preserved t c =
     let ms = members_view c.loop-entry.members.entries in
     let tree : IsTree nodes = subst IsTree c.self.view_is c.self.invariant.0 in
     let was = rw c.in-Some-2.ensures.steps at c.loop-entry.invariant in
-    let text : chars (bytes_of key) ≡ key
-    = ap chars (sym c.as_str-key.ensures.value) ∙ c.as_str-key.ensures.text in
+    let text : chars (bytes_of key) ≡ key = rw c.key.ensures at
+    (ap chars (sym c.as_str-key.ensures.value) ∙ c.as_str-key.ensures.text) in
     let is : slice_get nodes n ≡ Some (node_at c.args.place key) = was.under.0 text in
     let some : 0 < c.args.below = search rules in
     let readable : IsReadable c.args.below v
     = subst (λ below. IsReadable below v) (omega (arith, some)) c.in_ok-value.ensures.readable in
     record {
-      shown = rw (c.in_ok-put.ensures.ok, c.as_str-key.ensures.value)
+      shown = rw (c.in_ok-put.ensures.ok, c.as_str-key.ensures.value, c.key.ensures)
           (put_in nodes c.args.place n key v ms tree is c.in-Some-2.entry.now.0
           c.next.new.self text c.in_ok-value.ensures.shown
           was.shown);
       under = was.under.1;
-      readable = rw (c.in_ok-put.ensures.ok, c.as_str-key.ensures.value)
+      readable = rw (c.in_ok-put.ensures.ok, c.as_str-key.ensures.value, c.key.ensures)
           (readable_put c.args.below (bytes_of key) v ms (tree.short n _ is) readable was.readable);
     }
 
 pub object-requires : goal.object-requires
 object-requires t c =
-    let text = ap chars (sym c.as_str-key.ensures.value) ∙ c.as_str-key.ensures.text in
+    let text = rw c.key.ensures at
+    (ap chars (sym c.as_str-key.ensures.value) ∙ c.as_str-key.ensures.text) in
     let is = (rw c.in-Some-2.ensures.steps at c.loop-entry.invariant).under.0 text in
     (search rules, slice_get_within c.args.self.now c.in-Some-2.id.now _ is)
 
 pub returns-then-below-eq0-clause-fault : goal.returns-then-below-eq0-clause-fault
 returns-then-below-eq0-clause-fault t c =
-    let text = ap chars (sym c.as_str-key.ensures.value) ∙ c.as_str-key.ensures.text in
+    let text = rw c.key.ensures at
+    (ap chars (sym c.as_str-key.ensures.value) ∙ c.as_str-key.ensures.text) in
     let is = (rw c.in-Some-2.ensures.steps at c.loop-entry.invariant).under.0 text in
     let deep : suc c.args.below ≤ 1 = rw c.if-below-eq0.true (omega arith) in
     let n = c.in-Some-2.id.now in
@@ -102,7 +105,8 @@ returns-clause-shown t c =
 
 pub returns-in_err-value-clause-fault : goal.returns-in_err-value-clause-fault
 returns-in_err-value-clause-fault t c =
-    let text = ap chars (sym c.as_str-key.ensures.value) ∙ c.as_str-key.ensures.text in
+    let text = rw c.key.ensures at
+    (ap chars (sym c.as_str-key.ensures.value) ∙ c.as_str-key.ensures.text) in
     let is = (rw c.in-Some-2.ensures.steps at c.loop-entry.invariant).under.0 text in
     let key = c.in-Some-2.entry.now.1 in
     let f = c.in_err-value.field-0.0 in

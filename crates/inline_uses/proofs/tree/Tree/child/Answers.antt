@@ -1,9 +1,10 @@
-use Rattle.std.proofs.Common.{rules, ◌≡◌, ◌≤◌, Some, None, length, sym, ap, arith, ◌∙◌}
+use Rattle.std.proofs.Common.{rules, ◌≡◌, ◌≤◌, Some, None, length, sym, ap, subst, arith, ◌∙◌}
 use Rattle.std.specs.Prelude.{◌<◌}
 use Rattle.std.specs.BTreeMap.{get}
 use Rattle.std.specs.Str.{chars}
 use Rattle.inlinable_string.specs.Text.{bytes_of, size}
-use Rattle.inline_uses.specs.Tree.{node_at, place_order}
+use Rattle.inline_uses.specs.Tree.{node_at, IsPlaceOf, IsTree, place_order}
+use Rattle.inline_uses.proofs.Trees.{is_place}
 use Rattle.inline_uses.proofs.tree.Tree.child.Goals as goal
 
 pub returns-in_err-key : goal.returns-in_err-key
@@ -26,6 +27,15 @@ returns c =
     = ap chars (c.bytes_of_parts.ensures.string c.args.key.now c.utf8.key) in
     let key : c.in_ok-key.key ≡ chars c.args.key.now = search rules in
     let is : get place_order c.self.inside.ids (c.args.place, chars c.args.key.now)
-    ≡ c.copied.result = rw (← key) (search rules) in
+    ≡ c.copied.result = rw (← key, ← c.new.ensures) (search rules) in
     rw (← c.self.view_is, ← is) (λ id.
     c.self.invariant.1 c.args.place (chars c.args.key.now) id text)
+
+pub returns-then-not-has : goal.returns-then-not-has
+returns-then-not-has c =
+    let none : ¬ (IsPlaceOf c.args.self.now c.args.place) = search rules in
+    let tree : IsTree c.args.self.now = subst IsTree c.self.view_is c.self.invariant.0 in
+    λ id. (
+      (λ h. cc),
+      λ is. absurd (none (is_place c.args.self.now c.args.place (chars c.args.key.now) id tree is)),
+    )
