@@ -45,5 +45,6 @@ long_run_is_letters c =
     either _ _ z (letters c 0xC0 0xD6 refl) (either _ _ z (letters c 0xD8 0xF6 refl)
     (either _ _ z (letters c 0xF8 0x2C1 refl) (either _ _ z (letters c 0x3A3 0x3F5 refl)
     (either _ _ z (letters c 0x3F7 0x481 refl) (either _ _ z (letters c 0x48A 0x52F refl)
+    (either _ _ z (letters c 0x620 0x657 refl) (either _ _ z (letters c 0x1E00 0x1F15 refl)
     (either _ _ z (letters c 0x3041 0x3096 refl) (either _ _ z (letters c 0x30A1 0x30FA refl)
-    (either _ _ z (letters c 0x4E00 0xA48C refl) (letters c 0xAC00 0xD7A3 refl)))))))))
+    (either _ _ z (letters c 0x4E00 0xA48C refl) (letters c 0xAC00 0xD7A3 refl)))))))))))

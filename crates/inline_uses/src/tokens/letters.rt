@@ -4,7 +4,7 @@ ghost use Rattle.std.specs.Char.Unicode.Alphabetic.{is_alphabetic};
 ghost use Rattle.inline_uses.specs.Letters.{is_in_long_run};
 
 /// Returns whether the character is in one of the long runs of letters: Latin, Greek, Cyrillic,
-/// kana, the ideographs and Hangul.
+/// Arabic, kana, the ideographs and Hangul.
 #[inline]
 fn is_in_long_run(ch: char) -> bool
     ensures { result ≡ is_in_long_run ch }
@@ -17,6 +17,8 @@ fn is_in_long_run(ch: char) -> bool
             | '\u{3a3}'..='\u{3f5}'
             | '\u{3f7}'..='\u{481}'
             | '\u{48a}'..='\u{52f}'
+            | '\u{620}'..='\u{657}'
+            | '\u{1e00}'..='\u{1f15}'
             | '\u{3041}'..='\u{3096}'
             | '\u{30a1}'..='\u{30fa}'
             | '\u{4e00}'..='\u{a48c}'
