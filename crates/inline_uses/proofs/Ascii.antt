@@ -35,7 +35,10 @@ unfolding agree_below
 agree_at f g zero h b lt = absurd (omega arith)
 agree_at f g (suc n) h b lt =
     let both = both_of (f n) (g n) (agree_below f g n) h in
-    elim (cases_eq b n) [ inl same ↦ rw same both.0 | inr other ↦ agree_at f g n both.1 b (omega arith) ]
+    elim (cases_eq b n) [
+      | inl same ↦ rw same both.0
+      | inr other ↦ agree_at f g n both.1 b (omega arith)
+    ]
 
 abbrev has_flag : ℕ → ℕ → Bool
 has_flag flag b = not (nat_eq (bit_and (get_or CLASSES b 0) flag) 0)
@@ -124,7 +127,8 @@ taken_before t s utf8 short low =
     let next : drop n s ≡ encode_utf8 b ++ drop (suc n) s =
     drop-cons s n 0 short ∙ ap (λ l. l ++ drop (suc n) s) (sym (encode_ascii b low)) in
     let left : chars (drop n s) ≡ b ∷ chars (drop (suc n) s) =
-    chars_past_char (drop n s) (drop (suc n) s) b (IsUtf8-drop s n utf8 (cut_after t s utf8)) next in
+    chars_past_char (drop n s) (drop (suc n) s) b (IsUtf8-drop s n utf8 (cut_after t s utf8))
+    next in
     let none : take_while t (chars (drop n s)) ≡ [] =
     ap (take_while t) left ∙ take_while-cons t b (chars (drop (suc n) s))
     ∙ ap (λ x. cond x (b ∷ take_while t (chars (drop (suc n) s))) []) stops in

@@ -150,7 +150,8 @@ pub fn unescape(letter: char) -> Option<char>
 #[inline(never)]
 fn len_while(kind: Kind, source: &str) -> usize
     ensures end { IsCharBoundary source.now result }
-    ensures front { chars (take result source.now) ≡ take_while (continues kind) (chars source.now) }
+    ensures front { chars (take result source.now)
+        ≡ take_while (continues kind) (chars source.now) }
 {
     match source.find(move |ch: char| !kind.goes_on_with(ch)) {
         Some(end) => end,
@@ -161,7 +162,8 @@ fn len_while(kind: Kind, source: &str) -> usize
 /// Splits a source before the end of the line.
 fn split_line(source: &str) -> (&str, &str)
     ensures parts { source.now ≡ result.0.now ++ result.1.now }
-    ensures front { chars result.0.now ≡ take_while (continues Kind.LineComment) (chars source.now) }
+    ensures front { chars result.0.now
+        ≡ take_while (continues Kind.LineComment) (chars source.now) }
 {
     match source.find('\n') {
         Some(end) => source.split_at(end),

@@ -83,7 +83,8 @@ returns-in-Err-push-clause-err g c =
     let more = reads_on (chars c.args.source.now) (so_far.0 ++ plain) (c.loop-read.word ++ plain)
     next.0 (c.in-Some.ch ∷ []) (chars c.in-Ok-read_char.read.1.now)
     (run.0 ∙ ap (λ l. (so_far.0 ++ plain) ++ l) next.1) run.1 next.2 in
-    let joined = c.sizes_of_parts.ensures.joined (c.loop-read.word ++ plain) (c.in-Some.ch ∷ []) in (
+    let word = c.loop-read.word ++ plain in
+    let joined = c.sizes_of_parts.ensures.joined word (c.in-Some.ch ∷ []) in (
       (so_far.0 ++ plain) ++ next.0,
       (c.loop-read.word ++ plain) ++ c.in-Some.ch ∷ [],
       chars c.in-Ok-read_char.read.1.now,
