@@ -35,15 +35,11 @@ loop-entry-init t c =
     (rw (c.new-first.ensures, place, c.new.ensures) refl)
     (rw (c.new-end.ensures, next, c.new-2.ensures) refl)
     (items.ensures.between tt) (items.ensures.in_range tt).0 in
+    let iter = c.into_iter-entry-iterator.ensures.into_iter_gives in
     record {
-      shown = rw (
-        c.into_iter-entry-iterator.ensures.into_iter_gives,
-        all,
-        c.new-members.ensures.empty,
-      )
+      shown = rw (iter, all, c.new-members.ensures.empty)
           (none_shown nodes c.args.place ids found);
-      under = rw c.into_iter-entry-iterator.ensures.into_iter_gives
-          (all_under nodes c.args.place ids _ found inside);
+      under = rw iter (all_under nodes c.args.place ids _ found inside);
       readable = rw c.new-members.ensures.empty (search rules);
     }
 
