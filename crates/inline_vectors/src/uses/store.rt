@@ -7,6 +7,7 @@ use test_support::letters::LETTERS_31;
 use test_support::{Hoard, NEEDS_THE_PROVED_BUILD};
 
 mod json;
+mod window;
 
 /// What is put, in its order, and what a scan then finds.
 const PUT: &[(&str, &str)] = &[
