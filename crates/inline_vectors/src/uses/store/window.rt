@@ -1,4 +1,4 @@
-//! Stores of so many keys that there is room on both sides of their entries, each beside a table of
+//! Stores of enough keys for room on both sides of their entries, each beside a table of
 //! the values that its keys have.
 use inlinable_string::{InlinableString, StringExt, StringMake};
 use inline_uses::store::{Entry, Store};
