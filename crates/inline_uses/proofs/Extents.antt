@@ -1,21 +1,16 @@
 -- How many lines and characters a text has, in its bytes.
-use Rattle.std.proofs.Common.{◌≡◌, ℕ, ◌+◌, ◌/◌, ◌%◌, ◌≤◌, ◌<◌, List, [], ◌∷◌, ◌++◌, cond, ◌==◌, ◌||◌, refl, sym, ap, ◌∙◌, arith, nat_lt, nat_le}
+use Rattle.std.proofs.Common.{◌≡◌, ℕ, ◌+◌, ◌-◌, ◌/◌, ◌%◌, ◌≤◌, ◌<◌, List, [], ◌∷◌, ◌++◌, length, length-drop, take, take_all, drop, cond, ◌==◌, refl, sym, ap, ◌∙◌, arith, nat_lt}
 use Rattle.std.specs.Char.{encode_utf8}
+use Rattle.std.specs.List.{count_by}
 use Rattle.std.specs.Str.{chars, IsUtf8}
 use Rattle.std.proofs.lemmas.Bool.{cond_both, ltb-true, ltb-false}
 use Rattle.std.proofs.lemmas.Bool.Decides.{nat_tests}
 use Rattle.std.proofs.lemmas.List.Sums.{sum_by-cons, sum_by-append}
+use Rattle.std.proofs.lemmas.Simd.{chunk-drop}
 use Rattle.std.proofs.lemmas.Str.{encodes-chars}
 use Rattle.inlinable_string.specs.Text.{bytes_of}
+use Rattle.inline_uses.specs.Extents.{column_past, column_past_bytes}
 use Rattle.inline_uses.specs.Tokens.{column_after, newlines}
-
--- the column after a byte of a text
-abbrev pub column_past : ℕ → ℕ → ℕ
-column_past column b = cond (b == 10) 1 (cond (nat_lt b 128 || nat_le 192 b) (column + 1) column)
-
-abbrev pub column_past_bytes : ℕ → List ℕ → ℕ
-column_past_bytes column [] = column
-column_past_bytes column (b ∷ bs) = column_past_bytes (column_past column b) bs
 
 only_byte : (column c : ℕ) → c < 128 → column_past column c ≡ cond (c == 10) 1 (column + 1)
 only_byte column c low = grind (arith, nat_tests)
@@ -84,3 +79,53 @@ newlines_bytes (c ∷ cs) =
 -- the lines of a text
 pub newlines_of_bytes : (s : List ℕ) → IsUtf8 s → newlines s ≡ newlines (chars s)
 newlines_of_bytes s utf8 = ap newlines (sym (encodes-chars s utf8)) ∙ newlines_bytes (chars s)
+
+-- the bytes after the first one of a character are those from 128 to 191
+pub later_counted : (bs : List ℕ)
+    → (count_by (λ b. nat_lt b 128) bs ≤ count_by (λ b. nat_lt b 192) bs)
+    × (count_by (λ b. nat_lt b 192) bs ≤ length bs)
+later_counted [] = (omega arith, omega arith)
+later_counted (b ∷ bs) =
+    let ascii = sum_by-cons (λ d. cond (nat_lt d 128) 1 0) b bs in
+    let below = sum_by-cons (λ d. cond (nat_lt d 192) 1 0) b bs in
+    let more = later_counted bs in
+    (grind (arith, nat_tests, ascii, below, more.0), grind (arith, nat_tests, below, more.1))
+
+one_column : (column b m n : ℕ) → cond (b == 10) 1 0 + n ≡ 0
+    → (n ≡ 0) × (column_past column b + m + cond (nat_lt b 192) 1 0
+    ≡ column + (cond (nat_lt b 128) 1 0 + (m + 1)))
+one_column column b m n none = (omega arith, grind (arith, nat_tests))
+
+-- bytes without a newline
+pub one_line : (column : ℕ) (bs : List ℕ) → newlines bs ≡ 0
+    → column_past_bytes column bs + count_by (λ b. nat_lt b 192) bs
+    ≡ column + (count_by (λ b. nat_lt b 128) bs + length bs)
+one_line column [] none = omega arith
+one_line column (b ∷ bs) none =
+    let ends = sum_by-cons (λ d. cond (d == 10) 1 0) b bs in
+    let ascii = sum_by-cons (λ d. cond (nat_lt d 128) 1 0) b bs in
+    let below = sum_by-cons (λ d. cond (nat_lt d 192) 1 0) b bs in
+    let first = one_column column b 0 (newlines bs) (sym ends ∙ none) in
+    let more = one_line (column_past column b) bs first.0 in
+    omega (arith, more, first.1, ascii, below)
+
+column-append : (column : ℕ) (xs ys : List ℕ) → column_past_bytes column (xs ++ ys)
+    ≡ column_past_bytes (column_past_bytes column xs) ys
+column-append column [] ys = refl
+column-append column (x ∷ xs) ys = column-append (column_past column x) xs ys
+
+-- n bytes more
+pub newlines_more : (at n m : ℕ) (bs : List ℕ) → m ≡ at + n
+    → newlines (drop at bs) ≡ newlines (take n (drop at bs)) + newlines (drop m bs)
+newlines_more at n m bs is = rw is (ap newlines (chunk-drop at n bs)
+    ∙ sum_by-append (λ b. cond (b == 10) 1 0) (take n (drop at bs)) (drop (at + n) bs))
+
+pub column_more : (column at n m : ℕ) (bs : List ℕ) → m ≡ at + n
+    → column_past_bytes column (drop at bs)
+    ≡ column_past_bytes (column_past_bytes column (take n (drop at bs))) (drop m bs)
+column_more column at n m bs is = rw is (ap (column_past_bytes column) (chunk-drop at n bs)
+    ∙ column-append column (take n (drop at bs)) (drop (at + n) bs))
+
+-- all bytes that are left
+pub all_left : (at : ℕ) (bs : List ℕ) → take (length bs - at) (drop at bs) ≡ drop at bs
+all_left at bs = take_all (length bs - at) (drop at bs) (omega (arith, length-drop at bs))

@@ -1,5 +1,6 @@
 pub mod Ascii
 pub mod Editor
+pub mod Extents
 pub mod Index
 pub mod Letters
 pub mod PlacedKeys

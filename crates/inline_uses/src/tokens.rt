@@ -277,7 +277,9 @@ fn read_text<'a, const N: usize>(
     }
 }
 
-/// Reads the text that a source begins with into the buffer.
+/// Reads the text that a source begins with into the buffer. Out of line, so that other tokens take
+/// no more registers for it.
+#[inline(never)]
 fn read_quoted<'a, const N: usize>(
     word: &mut InlineStringN<N>,
     source: &'a str,
