@@ -127,8 +127,8 @@ taken_before t s utf8 short low =
     let next : drop n s ≡ encode_utf8 b ++ drop (suc n) s =
     drop-cons s n 0 short ∙ ap (λ l. l ++ drop (suc n) s) (sym (encode_ascii b low)) in
     let left : chars (drop n s) ≡ b ∷ chars (drop (suc n) s) =
-    chars_past_char (drop n s) (drop (suc n) s) b (IsUtf8-drop s n utf8 (cut_after t s utf8))
-    next in
+    chars_past_char (drop n s) (drop (suc n) s) b (IsUtf8-drop s n utf8 (cut_after t s utf8)) next
+    in
     let none : take_while t (chars (drop n s)) ≡ [] =
     ap (take_while t) left ∙ take_while-cons t b (chars (drop (suc n) s))
     ∙ ap (λ x. cond x (b ∷ take_while t (chars (drop (suc n) s))) []) stops in

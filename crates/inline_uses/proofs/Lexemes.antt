@@ -1,20 +1,18 @@
 -- What tokens begin with, what is written between quotes, and where a source may be cut.
-use Rattle.std.proofs.Common.{◌≡◌, ◌≢◌, ℕ, ◌-◌, ◌≤◌, ◌<◌, List, [], ◌∷◌, ◌++◌, length, take, drop, Bool, true, false, cond, ◌==◌, Option, Some, None, IfSome, refl, sym, ap, ◌∙◌, arith, append_assoc, length-append, lit<}
+use Rattle.std.proofs.Common.{◌≡◌, ◌≢◌, ℕ, ◌+◌, ◌-◌, ◌≤◌, ◌<◌, List, [], ◌∷◌, ◌++◌, length, take, drop, Bool, true, false, cond, ◌==◌, Option, Some, None, IfSome, refl, sym, ap, ◌∙◌, arith, append_assoc, length-append, lit<}
 use Rattle.std.specs.Char.{encode_utf8}
 use Rattle.std.specs.Str.{chars, IsUtf8, IsCharBoundary}
 use Rattle.std.specs.Prelude.{slice_get}
 use Rattle.std.specs.Str.Pattern.{LacksTextAt}
 use Rattle.std.specs.List.{take_while}
 use Rattle.std.proofs.Math.Seq.{drop-append_seam, get_or-append_seam, take-append_seam}
-use Rattle.std.proofs.lemmas.List.Sums.{take_while-cons}
+use Rattle.std.proofs.lemmas.List.Sums.{take_while-cons, sum_by-cons}
 use Rattle.std.proofs.lemmas.Option.{same_Some}
 use Rattle.std.proofs.lemmas.Str.{encodes-chars, encodes-append, encodes_same, IsUtf8-take, IsUtf8-drop, IsUtf8-past_char, IsCharBoundary-at_seam, IsCharBoundary-before_ascii}
 use Rattle.inlinable_string.specs.Text.{bytes_of}
-use Rattle.inline_uses.specs.declared.tokens.Fault.{Fault}
-use Rattle.inline_uses.specs.declared.tokens.Fault.TheVariants.{TooLong, Unterminated, BadEscape}
 use Rattle.inline_uses.specs.declared.tokens.Kind.{Kind}
 use Rattle.inline_uses.specs.declared.tokens.Kind.TheVariants.{Space, Word, Number, LineComment, BlockComment, Text, Mark}
-use Rattle.inline_uses.specs.Tokens.{kind_of, kind_at, continues, escape_of, with_char, unescaped_from, unescaped, HasNoClose, IsStop, StopsAt, IsToken}
+use Rattle.inline_uses.specs.Tokens.{kind_of, kind_at, continues, escape_of, with_char, unescaped_from, unescaped, HasNoClose, newlines, IsToken}
 
 pub text_begins : (c : ℕ) (next : Option ℕ) → kind_of c next ≡ Text → c ≡ 34
 text_begins c None is = grind arith
@@ -92,22 +90,6 @@ longer false (c ∷ xs) ys n last = more_by (c == 34) (c == 92) c (unescaped_fro
 pub unescaped-append : (xs ys m n : List ℕ) → unescaped xs ≡ Some m → unescaped ys ≡ Some n
     → unescaped (xs ++ ys) ≡ Some (m ++ n)
 unescaped-append xs ys m n is last = rw is at (longer false xs ys n last)
-
--- the same, of a source that begins with a text
-pub reads_on : (source inside word xs m rest : List ℕ) → source ≡ inside ++ (xs ++ rest)
-    → unescaped inside ≡ Some word → unescaped xs ≡ Some m
-    → (source ≡ (inside ++ xs) ++ rest) × (unescaped (inside ++ xs) ≡ Some (word ++ m))
-reads_on source inside word xs m rest whole is next = (
-  whole ∙ sym (append_assoc inside xs rest),
-  unescaped-append inside xs word m is next,
-)
-
--- a text that fits stops where what follows it does
-pub stops : (N : ℕ) (fault : Fault) (word rest : List ℕ) → IsStop fault rest
-    → StopsAt N fault word rest
-stops N TooLong word rest is = absurd is
-stops N Unterminated word rest is = is
-stops N (BadEscape left) word rest is = is
 
 pub escaped_one : (letter c : ℕ) → escape_of letter ≡ Some c
     → unescaped (92 ∷ letter ∷ []) ≡ Some (c ∷ [])
@@ -238,6 +220,20 @@ pub nothing_left : (source : List ℕ) → IsUtf8 source → kind_at (chars sour
     → source ≡ []
 nothing_left source utf8 is =
     sym (encodes-chars source utf8) ∙ ap bytes_of (none_at (chars source) is)
+
+-- a character more in a line, or a line more
+pub lines-cons : (line c : ℕ) (text : List ℕ)
+    → line + newlines (c ∷ text) ≡ cond (c == 10) (line + 1) line + newlines text
+lines-cons line c text =
+    let more = sum_by-cons (λ d. cond (d == 10) 1 0) c text in grind (arith, more)
+
+pub line_fits : (b : Bool) (line size more most : ℕ) → line + more < most → size < more
+    → cond b (line + 1) line + size < most
+line_fits b line size more most fits less = grind arith
+
+pub column_fits : (b : Bool) (column size more most : ℕ) → column + more < most → size < more
+    → cond b 1 (column + 1) + size < most
+column_fits b column size more most fits less = grind arith
 
 pub some_length : (xs : List ℕ) → xs ≢ [] → 0 < length xs
 some_length [] some = absurd (some refl)

@@ -1,6 +1,5 @@
 pub mod Ascii
 pub mod Cursor
-pub mod Extents
 pub mod Gaps
 pub mod Ids
 pub mod InRuns
@@ -10,7 +9,6 @@ pub mod Letters
 pub mod Lexemes
 pub mod Listed
 pub mod Members
-pub mod PlainTexts
 pub mod ReadBack
 pub mod Readable
 pub mod Remarked

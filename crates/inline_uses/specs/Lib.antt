@@ -1,6 +1,5 @@
 pub mod Ascii
 pub mod Editor
-pub mod Extents
 pub mod Index
 pub mod Letters
 pub mod PlacedKeys

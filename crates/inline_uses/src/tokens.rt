@@ -10,16 +10,12 @@ ghost use Rattle.inline_uses.specs.declared.tokens.Kind.{Kind};
 ghost use Rattle.inline_uses.specs.Tokens.{AreTokens, Fails, HasNoClose, IsStop, IsTextFault, IsToken, column_after, continues, escape_of, kind_at, kind_of, is_solid, is_solid_kind, newlines, slash_kind, unescaped};
 
 mod ascii;
-mod extent;
 mod letters;
-mod plain;
 
 use ascii::{ascii_len, kind_of_ascii};
-use extent::Extent;
 use inlinable_string::InlineStringN;
 use inlinable_string::laws::{sizes_of_parts, steps_are_over_characters};
 use letters::is_letter;
-use plain::split_plain;
 
 /// Why a source has no next token.
 #[derive(Clone, Copy, Debug, PartialEq, Eq)]
@@ -91,7 +87,6 @@ fn split_first(source: &str) -> Option<(char, &str)>
 /// A law: the characters of a text in two parts are those of the first and then of the second.
 fn chars_of_parts(text: &str, rest: &str)
     ensures joined { chars (text.now ++ rest.now) ≡ chars text.now ++ chars rest.now }
-    ensures text_utf8 { IsUtf8 text.now }
     ensures utf8 { IsUtf8 rest.now }
 {}
 
@@ -257,13 +252,7 @@ fn read_text<'a, const N: usize>(
     sizes_of_parts();
     let mut rest = source;
     loop {
-        let (plain, stop) = split_plain(rest, N);
-        chars_of_parts(plain, stop);
-        match word.push_str(plain) {
-            Ok(()) => {}
-            Err(_) => return Err(Fault::TooLong),
-        }
-        let (ch, after) = match read_char(stop) {
+        let (ch, after) = match read_char(rest) {
             Ok(read) => read,
             Err(fault) => return Err(fault),
         };
@@ -277,9 +266,7 @@ fn read_text<'a, const N: usize>(
     }
 }
 
-/// Reads the text that a source begins with into the buffer. Out of line, so that other tokens take
-/// no more registers for it.
-#[inline(never)]
+/// Reads the text that a source begins with into the buffer.
 fn read_quoted<'a, const N: usize>(
     word: &mut InlineStringN<N>,
     source: &'a str,
@@ -418,6 +405,25 @@ pub struct Position {
 }
 
 impl Position {
+    /// Returns the place after `ch`, which is here.
+    fn after_char(self, ch: char) -> Position
+        ensures line { self.line + 1 < 2 ^ 64
+            → result.line ≡ (if ch == 10 then self.line + 1 else self.line) }
+        ensures column { self.column + 1 < 2 ^ 64
+            → result.column ≡ (if ch == 10 then 1 else self.column + 1) }
+    {
+        if ch == '\n' {
+            return Position {
+                line: self.line.saturating_add(1),
+                column: 1,
+            };
+        }
+        Position {
+            line: self.line,
+            column: self.column.saturating_add(1),
+        }
+    }
+
     /// Returns the place after `text`, which begins here. A count that would exceed `usize::MAX`
     /// is not exact.
     pub fn after(self, text: &str) -> Position
@@ -426,12 +432,13 @@ impl Position {
         ensures column { self.column + length text.now < 2 ^ 64
             → result.column ≡ column_after self.column (chars text.now) }
     {
-        let extent = Extent::of(text);
-        let start = if extent.newlines == 0 { self.column } else { 1 };
-        Position {
-            line: self.line.saturating_add(extent.newlines),
-            column: start.saturating_add(extent.last_line),
+        let mut at = self;
+        let mut rest = text;
+        while let Some((ch, after)) = split_first(rest) {
+            at = at.after_char(ch);
+            rest = after;
         }
+        at
     }
 }
 

@@ -8,20 +8,18 @@ pub loop-len-preserved : goal.loop-len-preserved
 loop-len-preserved c =
     let kind = c.args.kind in
     let bytes = c.as_bytes-bytes.result.now in
-    let passes = sym (c.is_of_class.ensures kind c.class_of-class.ensures)
-    ∙ c.if-is_of_class.true in
+    let is = c.is_of_class.ensures kind c.class_of-class.ensures in
     let one = prefix_len-drop_yes (goes_on_in_ascii kind) bytes c.loop-len.len 0 (omega arith)
-    passes in
+    (sym is ∙ c.if-is_of_class.true) in
     (c.loop-len.invariant.0, omega arith, omega (arith, one, c.loop-len.invariant.2))
 
 pub returns-else-is_of_class : goal.returns-else-is_of_class
 returns-else-is_of_class c =
     let kind = c.args.kind in
     let bytes = c.as_bytes-bytes.result.now in
-    let stops = sym (c.is_of_class.ensures kind c.class_of-class.ensures)
-    ∙ c.if-is_of_class.false in
+    let is = c.is_of_class.ensures kind c.class_of-class.ensures in
     let none = prefix_len-drop_no (goes_on_in_ascii kind) bytes c.loop-len.len 0 (omega arith)
-    stops in
+    (sym is ∙ c.if-is_of_class.false) in
     let counted : c.loop-len.len ≡ prefix_len (goes_on_in_ascii kind) bytes =
     omega (arith, none, c.loop-len.invariant.2) in
     counted ∙ ap (prefix_len (goes_on_in_ascii kind)) c.loop-len.invariant.0
