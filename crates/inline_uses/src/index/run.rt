@@ -19,7 +19,7 @@ const MANY: usize = 4;
 const LONGEST: usize = 64;
 
 /// A front is shortened to a multiple of this, so sixteen times at most before it is lengthened
-/// again. Five bytes of a mark at least are of those that not all texts have in common.
+/// again, and at most three bytes of a mark are lost to what all texts have in common.
 const STEP: usize = 4;
 
 /// Ids in the order of their texts, each beside the bytes of its text after the first `front`. All
