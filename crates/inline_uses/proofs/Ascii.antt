@@ -1,5 +1,5 @@
 -- The table of the ASCII characters with which tokens go on, and a text that begins with some.
-use Rattle.std.proofs.Common.{Option, ◌≢◌, ◌≡◌, ℕ, zero, suc, ◌+◌, ◌<◌, List, [], ◌∷◌, ◌++◌, length, take, drop, get_or, Bool, true, false, ◌&&◌, not, cond, nat_eq, nat_lt, bit_and, inl, inr, refl, sym, ap, ◌∙◌, arith, lit<, take-add}
+use Rattle.std.proofs.Common.{None, ◌≢◌, ◌≡◌, ℕ, zero, suc, ◌+◌, ◌<◌, List, [], ◌∷◌, ◌++◌, length, take, drop, get_or, Bool, true, false, ◌&&◌, not, cond, nat_eq, nat_lt, bit_and, inl, inr, refl, sym, ap, ◌∙◌, arith, lit<, take-add}
 use Rattle.std.proofs.UnicodeAscii.{is_alphabetic_ascii, is_numeric_ascii}
 use Rattle.std.proofs.lemmas.Bool.Decides.{nat_tests}
 use Rattle.std.specs.Char.{is_ascii_digit}
@@ -161,20 +161,20 @@ pub ends_later : (kind : Kind) (s : List ℕ) (n m : ℕ)
     → chars (take (n + m) s) ≡ take_while (continues kind) (chars s)
 ends_later kind s n m is more = rw is (taken_with (continues kind) s m (rw is at more))
 
--- what the classes of a character say of the token that it begins
-pub space_begins : (b : ℕ) (next : Option ℕ) → b < 128 → goes_on_in_ascii Space b ≡ true
-    → kind_of b next ≡ Space
-space_begins b next low is =
+-- what the classes of a character say of the token that it is alone
+pub space_begins : (b : ℕ) → b < 128 → goes_on_in_ascii Space b ≡ true
+    → kind_of b None ≡ Space
+space_begins b low is =
     let letter = is_alphabetic_ascii b low in grind (arith, nat_tests, letter)
 
-pub word_begins : (b : ℕ) (next : Option ℕ) → b < 128 → goes_on_in_ascii Word b ≡ true
-    → is_ascii_digit b ≡ false → kind_of b next ≡ Word
-word_begins b next low is none =
+pub word_begins : (b : ℕ) → b < 128 → goes_on_in_ascii Word b ≡ true
+    → is_ascii_digit b ≡ false → kind_of b None ≡ Word
+word_begins b low is none =
     let letter = is_alphabetic_ascii b low in
     let number = is_numeric_ascii b low in grind (arith, nat_tests, letter, number)
 
-pub mark_begins : (b : ℕ) (next : Option ℕ) → b < 128 → goes_on_in_ascii Space b ≡ false
-    → goes_on_in_ascii Word b ≡ false → b ≢ 34 → b ≢ 47 → kind_of b next ≡ Mark b
-mark_begins b next low space word quote slash =
+pub mark_begins : (b : ℕ) → b < 128 → goes_on_in_ascii Space b ≡ false
+    → goes_on_in_ascii Word b ≡ false → b ≢ 34 → kind_of b None ≡ Mark b
+mark_begins b low space word quote =
     let letter = is_alphabetic_ascii b low in
     let number = is_numeric_ascii b low in grind (arith, nat_tests, letter, number)

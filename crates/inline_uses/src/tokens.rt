@@ -101,12 +101,13 @@ fn slash_kind(next: Option<char>) -> Kind
     }
 }
 
-/// The kind of a token that begins with `first`, before `next`.
-fn kind_of(first: char, next: Option<char>) -> Kind
-    ensures { result ≡ kind_of first next }
+/// The kind of the token that `first` is where nothing follows it. Only a token that begins with
+/// `/` may have another kind where something does.
+fn kind_of(first: char) -> Kind
+    ensures { result ≡ kind_of first None }
 {
     if first.is_ascii() {
-        kind_of_ascii(first as u8, next)
+        kind_of_ascii(first as u8)
     } else if is_letter(first) {
         Kind::Word
     } else if first.is_whitespace() {
@@ -122,7 +123,7 @@ pub fn kind_at(source: &str) -> Option<Kind>
 {
     let (first, rest) = split_first(source)?;
     if first != '/' {
-        return Some(kind_of(first, None));
+        return Some(kind_of(first));
     }
     Some(slash_kind(rest.chars().next()))
 }
@@ -144,6 +145,7 @@ pub fn unescape(letter: char) -> Option<char>
 /// Returns how many bytes the characters have with which a token of the kind goes on.
 #[inline(never)]
 fn len_while(kind: Kind, source: &str) -> usize
+    requires { kind ≢ Kind.LineComment }
     ensures end { IsCharBoundary source.now result }
     ensures front { chars (take result source.now)
         ≡ take_while (continues kind) (chars source.now) }
@@ -166,8 +168,10 @@ fn split_line(source: &str) -> (&str, &str)
     }
 }
 
-/// Splits a source after the characters with which a token of the kind goes on.
+/// Splits a source after the characters with which a token of the kind goes on. It looks at each of
+/// them, so a line comment, of which only the end counts, goes by `split_line`.
 fn split_while(kind: Kind, source: &str) -> (&str, &str)
+    requires { kind ≢ Kind.LineComment }
     ensures parts { source.now ≡ result.0.now ++ result.1.now }
     ensures front { chars result.0.now ≡ take_while (continues kind) (chars source.now) }
 {

@@ -1,11 +1,11 @@
 //! The ASCII characters with which a token goes on. Each is one byte, so none is decoded.
-ghost use Rattle.std.specs.Prelude.{◌≡◌, ◌<◌};
+ghost use Rattle.std.specs.Prelude.{◌≡◌, ◌≢◌, ◌<◌, None};
 ghost use Rattle.std.specs.List.{prefix_len};
 ghost use Rattle.inline_uses.specs.declared.tokens.Kind.{Kind};
 ghost use Rattle.inline_uses.specs.Ascii.{class_of, goes_on_in_ascii};
 ghost use Rattle.inline_uses.specs.Tokens.{kind_of};
 
-use super::{Kind, slash_kind};
+use super::Kind;
 
 /// A letter, a digit or `_`.
 const NAME: u8 = 1;
@@ -13,46 +13,44 @@ const NAME: u8 = 1;
 /// White space.
 const SPACE: u8 = 2;
 
-/// Any character except the end of a line.
-const LINE: u8 = 4;
-
-/// For each byte a digit, whose low three bits are the flags above: all are zero where the byte is
+/// For each byte a digit, whose low two bits are the flags above: both are zero where the byte is
 /// no ASCII character.
 static CLASSES: [u8; 256] = *b"\
-    44444444462666444444444444444444\
-    64444444444444445555555555444444\
-    45555555555555555555555555544445\
-    45555555555555555555555555544444\
+    00000000022222000000000000000000\
+    20000000000000001111111111000000\
+    01111111111111111111111111100001\
+    01111111111111111111111111100000\
     00000000000000000000000000000000\
     00000000000000000000000000000000\
     00000000000000000000000000000000\
     00000000000000000000000000000000";
 
-/// Returns the flag of the ASCII characters with which a token of this kind goes on.
+/// Returns the flag of the ASCII characters with which a token of this kind goes on, and 0 for a
+/// line comment, which ends at one character alone.
 fn class_of(kind: Kind) -> u8
     ensures { result ≡ class_of kind }
 {
     match kind {
         Kind::Word | Kind::Number => NAME,
         Kind::Space => SPACE,
-        Kind::LineComment => LINE,
-        Kind::BlockComment | Kind::Text | Kind::Mark(_) => 0,
+        Kind::LineComment | Kind::BlockComment | Kind::Text | Kind::Mark(_) => 0,
     }
 }
 
 /// Returns whether the byte is an ASCII character of this class.
 #[inline]
 fn is_of_class(byte: u8, class: u8) -> bool
-    ensures { (kind : Kind) → class ≡ class_of kind → result ≡ goes_on_in_ascii kind byte }
+    ensures { (kind : Kind) → kind ≢ Kind.LineComment → class ≡ class_of kind
+        → result ≡ goes_on_in_ascii kind byte }
 {
     CLASSES[byte as usize] & class != 0
 }
 
-/// Returns the kind of a token that begins with the ASCII character `first`, before `next`.
+/// Returns the kind of the token that the ASCII character `first` is where nothing follows it.
 #[inline]
-pub(super) fn kind_of_ascii(first: u8, next: Option<char>) -> Kind
+pub(super) fn kind_of_ascii(first: u8) -> Kind
     requires { first < 128 }
-    ensures { result ≡ kind_of first next }
+    ensures { result ≡ kind_of first None }
 {
     if is_of_class(first, SPACE) {
         return Kind::Space;
@@ -66,7 +64,6 @@ pub(super) fn kind_of_ascii(first: u8, next: Option<char>) -> Kind
     }
     match first {
         b'"' => Kind::Text,
-        b'/' => slash_kind(next),
         _ => Kind::Mark(char::from(first)),
     }
 }
@@ -74,6 +71,7 @@ pub(super) fn kind_of_ascii(first: u8, next: Option<char>) -> Kind
 /// Returns how many ASCII characters there are before the first character that is none, or with
 /// which a token of this kind does not go on.
 pub(super) fn ascii_len(kind: Kind, source: &str) -> usize
+    requires { kind ≢ Kind.LineComment }
     ensures { result ≡ prefix_len (goes_on_in_ascii kind) source.now }
 {
     let class = class_of(kind);

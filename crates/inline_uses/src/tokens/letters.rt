@@ -1,13 +1,13 @@
-//! Letters, of which std searches a table with all runs.
+//! Letters, of which std searches a table with all ranges.
 ghost use Rattle.std.specs.Prelude.{◌≡◌};
 ghost use Rattle.std.specs.Char.Unicode.Alphabetic.{is_alphabetic};
-ghost use Rattle.inline_uses.specs.Letters.{is_in_long_run};
+ghost use Rattle.inline_uses.specs.Letters.{is_in_long_range};
 
-/// Returns whether the character is in one of the long runs of letters: Latin, Greek, Cyrillic,
+/// Returns whether the character is in one of the long ranges of letters: Latin, Greek, Cyrillic,
 /// Arabic, kana, the ideographs and Hangul.
 #[inline]
-fn is_in_long_run(ch: char) -> bool
-    ensures { result ≡ is_in_long_run ch }
+fn is_in_long_range(ch: char) -> bool
+    ensures { result ≡ is_in_long_range ch }
 {
     matches!(
         ch,
@@ -33,5 +33,5 @@ pub(super) fn is_letter(ch: char) -> bool
     if ch.is_ascii() {
         return ch.is_ascii_alphabetic();
     }
-    is_in_long_run(ch) || ch.is_alphabetic()
+    is_in_long_range(ch) || ch.is_alphabetic()
 }

@@ -5,18 +5,18 @@ use Rattle.inline_uses.proofs.tokens.ascii.kind_of_ascii.Goals as goal
 
 pub returns-then-is_of_class : goal.returns-then-is_of_class
 returns-then-is_of_class c =
-    let is = sym (c.is_of_class.ensures Space refl) ∙ c.if-is_of_class.true in
-    sym (space_begins c.args.first c.args.next c.requires is)
+    let is = sym (c.is_of_class.ensures Space (λ e. cc) refl) ∙ c.if-is_of_class.true in
+    sym (space_begins c.args.first c.requires is)
 
 pub returns-else-is_ascii_digit : goal.returns-else-is_ascii_digit
 returns-else-is_ascii_digit c =
-    let is = sym (c.is_of_class-2.ensures Word refl) ∙ c.if-is_of_class-2.true in
+    let is = sym (c.is_of_class-2.ensures Word (λ e. cc) refl) ∙ c.if-is_of_class-2.true in
     let none = sym c.is_ascii_digit.ensures.value ∙ c.if-is_ascii_digit.false in
-    sym (word_begins c.args.first c.args.next c.requires is none)
+    sym (word_begins c.args.first c.requires is none)
 
 pub returns-in_default : goal.returns-in_default
 returns-in_default c =
-    let space = sym (c.is_of_class.ensures Space refl) ∙ c.if-is_of_class.false in
-    let word = sym (c.is_of_class-2.ensures Word refl) ∙ c.if-is_of_class-2.false in
+    let space = sym (c.is_of_class.ensures Space (λ e. cc) refl) ∙ c.if-is_of_class.false in
+    let word = sym (c.is_of_class-2.ensures Word (λ e. cc) refl) ∙ c.if-is_of_class-2.false in
     ap Mark c.from.ensures
-    ∙ sym (mark_begins c.args.first c.args.next c.requires space word (omega arith) (omega arith))
+    ∙ sym (mark_begins c.args.first c.requires space word (omega arith))
