@@ -3,6 +3,7 @@ pub mod Editor
 pub mod Index
 pub mod Letters
 pub mod PlacedKeys
+pub mod Rows
 pub mod Store
 pub mod Symbols
 pub mod Tokens

@@ -19,9 +19,11 @@ mod window;
 pub type Entry = (InlinableString, InlinableString);
 
 /// Texts under texts, in the order of their keys. A search takes a number of comparisons that is
-/// logarithmic in the number of keys, and an insertion or a removal among many entries moves those
-/// on the shorter side of it. Each text is stored once, and a look-up allocates nothing. A contract
-/// sees the list of the keys with their values, each as its bytes.
+/// logarithmic in the number of keys, and allocates nothing. Each text is stored once. An insertion
+/// or a removal among 64 entries or more moves those on its shorter side, and among fewer those
+/// after it; where that side has no room for an insertion, a pass over all entries makes it, for at
+/// least an eighth of their number. A contract sees the list of the keys with their values, each as
+/// its bytes.
 #[derive(Drop)]
 pub struct Store {
     alloc: Global,

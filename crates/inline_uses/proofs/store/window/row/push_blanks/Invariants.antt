@@ -1,5 +1,5 @@
 use Rattle.std.proofs.Common.{◌≡◌, ◌+◌, take, vec_len, vec_capacity}
-use Rattle.inline_uses.proofs.store.window.push_blanks.Given as goal
+use Rattle.inline_uses.proofs.store.window.row.push_blanks.Given as goal
 
 abbrev pub invariant-loop : goal.invariant-loop
 invariant-loop l = (take (vec_len l.initial.cells) l.cells.items ≡ l.initial.cells.items)
