@@ -1,15 +1,17 @@
 -- The ids of texts in the order of their texts, and how a new text is found among them.
-use Rattle.std.proofs.Common.{arith, ◌≡◌, ◌↔◌, ℕ, suc, ◌<◌, List, [], ◌∷◌, ◌++◌, length, map, take, drop, get_or, Some, Bool, true, false, cond, is_eq, refl, sym, ap, subst, ◌∙◌, inl, inr}
+use Rattle.std.proofs.Common.{arith, ◌≡◌, ◌↔◌, ℕ, suc, ◌+◌, ◌<◌, List, [], ◌∷◌, ◌++◌, length, map, take, drop, get_or, Some, Bool, true, false, cond, is_eq, refl, sym, ap, subst, ◌∙◌, inl, inr}
 use Rattle.std.specs.Prelude.{slice_get}
-use Rattle.std.specs.List.{AllByRecursion, insert}
-use Rattle.std.specs.List.Sorted.{IsStrictlySortedBy}
+use Rattle.std.specs.List.{AllByRecursion, insert, range_with_len}
+use Rattle.std.specs.List.Sorted.{IsPermutation, IsStrictlySortedBy}
 use Rattle.std.specs.Map.{keys_of, lookup}
 use Rattle.std.specs.BTreeMap.{is_at}
 use Rattle.std.specs.Ordering.{eq_by_cmp}
 use Rattle.std.specs.Cmp.{Equal-is}
 use Rattle.std.proofs.lemmas.Cmp.{nat_list_cmp_total, tied_itself, eq_by_cmp_equiv}
-use Rattle.std.proofs.lemmas.List.{get_or_append_left, length-append}
+use Rattle.std.proofs.lemmas.List.{get_or_append_left, length-append, map-id}
 use Rattle.std.proofs.lemmas.List.Elements.{All-from_recursion, recursion_from_All, All-append, All-cons, All-drop, All-take, All-weaker}
+use Rattle.std.proofs.lemmas.List.FromFn.{map-range_with_len_more}
+use Rattle.std.proofs.lemmas.List.Sorted.{IsPermutation-insert, IsPermutation-push_more, IsPermutation-refl}
 use Rattle.std.proofs.lemmas.Map.{lookup-insert, none_passes_from_lookup}
 use Rattle.std.proofs.lemmas.Map.Lookups.{exact_bytes}
 use Rattle.std.proofs.lemmas.Option.{get_or_from_slice_get}
@@ -37,6 +39,20 @@ with_ids_more texts text [] all = refl
 with_ids_more texts text (id ∷ ids) all =
     rw (get_or_append_left texts (text ∷ []) [] id all.0)
     (ap (λ rest. (text_at texts id, id) ∷ rest) (with_ids_more texts text ids all.1))
+
+next : (n : ℕ) → range_with_len 0 (suc n) ≡ range_with_len 0 n ++ n ∷ []
+next n =
+    let more : n + 1 ≡ suc n = omega arith in
+    subst (λ k. range_with_len 0 k ≡ range_with_len 0 n ++ n ∷ []) more
+    (sym (map-id (range_with_len 0 (n + 1)))
+    ∙ map-range_with_len_more (λ i. i) 0 n n (omega arith)
+    ∙ ap (λ ids. ids ++ n ∷ []) (map-id (range_with_len 0 n)))
+
+-- with the next id all are there
+all_more : (n : ℕ) (ids : List ℕ) (at : ℕ) → IsPermutation (range_with_len 0 n) ids
+    → IsPermutation (range_with_len 0 (suc n)) (insert ids at n)
+all_more n ids at all = rw (next n) (IsPermutation-push_more (range_with_len 0 n) ids
+    (insert ids at n) n all (IsPermutation-insert ids at n))
 
 module _ (texts : List (List ℕ)) (ids : List ℕ) (text : List ℕ) (at : ℕ)
     (order : IsOrderOf texts ids) (gap : IsGap (keys_of (with_ids texts ids)) text at)
@@ -97,6 +113,7 @@ module _ (texts : List (List ℕ)) (ids : List ℕ) (text : List ℕ) (at : ℕ)
               (All-append (λ id. id < suc n) (take at ids) (n ∷ drop at ids)
               (All-take (λ id. id < suc n) at ids below) (All-cons (λ id. id < suc n) n _
               (omega arith) (All-drop (λ id. id < suc n) at ids below))));
+          all = rw count (all_more n ids at order.all);
           found = λ q id. rw (grown, looks q)
               (found_anew q id (eq_by_cmp key_order text q) refl);
         }
@@ -159,4 +176,9 @@ module _ (texts : List (List ℕ)) (text : List ℕ) where
 
 pub empty : IsOrderOf [] []
 unfolding IsStrictlySortedBy
-empty = record { sorted = tt; within = tt; found = λ text id. ((λ h. cc), λ h. cc) }
+empty = record {
+  sorted = tt;
+  within = tt;
+  all = IsPermutation-refl [];
+  found = λ text id. ((λ h. cc), λ h. cc);
+}

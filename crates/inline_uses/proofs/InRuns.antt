@@ -1,18 +1,19 @@
 -- The ids of runs together, and where a text goes among them.
-use Rattle.std.proofs.Common.{arith, ◌≡◌, ℕ, zero, suc, ◌+◌, ◌-◌, ◌<◌, ◌≤◌, List, [], ◌∷◌, ◌++◌, map, length, take, drop, Some, Less, Greater, refl, sym, ap, subst, ◌∙◌, append_assoc}
+use Rattle.std.proofs.Common.{arith, ◌≡◌, ℕ, zero, suc, ◌+◌, ◌-◌, ◌<◌, ◌≤◌, List, [], ◌∷◌, ◌++◌, map, length, take, drop, set, Some, Less, Greater, refl, sym, ap, subst, ◌∙◌, append_assoc}
 use Rattle.std.specs.Prelude.{slice_get}
-use Rattle.std.proofs.Math.Seq.{take-nil}
 use Rattle.std.proofs.lemmas.Cmp.{nat_list_cmp_total}
-use Rattle.std.proofs.lemmas.List.{drop-map, length-drop, length-append, length-map, length-take-le, map-append, take-append-drop, take-map}
+use Rattle.std.proofs.lemmas.List.{drop-map, length-append, length-map, length-take-le, map-append, take-append-drop, take-map}
 use Rattle.std.proofs.lemmas.Option.{slice_get-map}
+use Rattle.std.proofs.Math.Seq.{take-append_seam}
+use Rattle.std.proofs.lemmas.List.Elements.{All-append, All-from_recursion, All-weaker, recursion_from_All}
 use Rattle.std.specs.List.{AllByRecursion, flat_map}
 use Rattle.std.specs.List.Sorted.{IsStrictlySortedBy}
-use Rattle.inline_uses.specs.Index.{HaveFirsts, IsIndex, IsRun, ids_at, ids_of}
+use Rattle.inline_uses.specs.Index.{HaveFirsts, IsIndex, IsOrdered, ids_at, ids_of}
 use Rattle.inline_uses.specs.declared.index.Index.{Index}
 use Rattle.inline_uses.specs.Symbols.{key_order, IsGap}
 use Rattle.inline_uses.specs.declared.index.run.Run.{Run}
 use Rattle.inline_uses.proofs.Gaps.{AreAbove, AreBelow, gap_between, parts_of_gap, turned_back}
-use Rattle.inline_uses.proofs.RunEdits.{all_at}
+use Rattle.inline_uses.proofs.RunEdits.{all_at, all_take}
 use Rattle.inline_uses.proofs.Tables.{before_append}
 
 -- the ids of runs
@@ -71,18 +72,18 @@ flat_at (r ∷ runs) (suc k) run is =
 
 all_weaker : {X : Type 0} (P Q : X → Type 0) → ((x : X) → P x → Q x) → (xs : List X)
     → AllByRecursion P xs → AllByRecursion Q xs
-all_weaker P Q weaker [] all = tt
-all_weaker P Q weaker (x ∷ xs) all = (weaker x all.0, all_weaker P Q weaker xs all.1)
+all_weaker P Q weaker xs all =
+    recursion_from_All Q xs (All-weaker P Q weaker xs (All-from_recursion P xs all))
 
 all_front : {X : Type 0} (P : X → Type 0) (xs ys : List X) → AllByRecursion P (xs ++ ys)
     → AllByRecursion P xs
-all_front P [] ys all = tt
-all_front P (x ∷ xs) ys all = (all.0, all_front P xs ys all.1)
+all_front P xs ys all =
+    subst (AllByRecursion P) (take-append_seam xs ys) (all_take P (length xs) (xs ++ ys) all)
 
 pub all_append : {X : Type 0} (P : X → Type 0) (xs ys : List X) → AllByRecursion P xs
     → AllByRecursion P ys → AllByRecursion P (xs ++ ys)
-all_append P [] ys front rest = rest
-all_append P (x ∷ xs) ys front rest = (front.0, all_append P xs ys front.1 rest)
+all_append P xs ys front rest = recursion_from_All P (xs ++ ys)
+    (All-append P xs ys (All-from_recursion P xs front) (All-from_recursion P ys rest))
 
 parted : {X : Type 0} (before own after : List X) (at : ℕ)
     → before ++ (own ++ after) ≡ (before ++ take at own) ++ (drop at own ++ after)
@@ -281,33 +282,47 @@ ids_at_is [] k run is = cc
 ids_at_is (r ∷ runs) zero run is = let same : r ≡ run = cc in ap ids_of same
 ids_at_is (r ∷ runs) (suc k) run is = ids_at_is runs k run is
 
--- a run that a text goes in is there, if there is any
+-- a run that a text goes in is there
 pub run_within : (text_of : ℕ → List ℕ) (text ids : List ℕ) (runs : List Run) (k : ℕ)
-    → HaveFirsts ids (drop 1 runs) → IsGap (map text_of ids) text k → k ≤ length runs - 1
+    → HaveFirsts ids runs → IsGap (map text_of ids) text k → k ≤ length runs
 run_within text_of text ids runs k have gap =
-    let most : k ≤ length ids = rw length-map at gap.0 in
-    rw (have_length ids (drop 1 runs) have, length-drop) at most
+    rw (have_length ids runs have) at (rw length-map at gap.0)
 
-pub no_runs : (runs : List Run) (k : ℕ) → k ≤ length runs - 1 → length runs ≤ k
-    → (runs ≡ []) × (k ≡ 0)
-no_runs [] k most least = (refl, omega (arith, most))
-no_runs (run ∷ runs) k most least = absurd (omega (arith, most, least))
+-- the first run, and a later one, among all
+pub first_there : (first : Run) (later : List Run) (k : ℕ) → k ≡ 0
+    → slice_get (first ∷ later) k ≡ Some first
+first_there first later k none = rw none refl
 
--- where a text goes if there is no run
-pub gap_in_none : (text_of : ℕ → List ℕ) (text : List ℕ) (runs : List Run) (k : ℕ) → runs ≡ []
-    → IsGap (map text_of (flat runs)) text (length (flat (take k runs)) + 0)
-gap_in_none text_of text runs k none = subst
-    (λ runs. IsGap (map text_of (flat runs)) text (length (flat (take k runs)) + 0)) (sym none)
-    (rw take-nil (omega arith, (λ i less. absurd (omega arith)), λ i le less. absurd (omega arith)))
+pub first_set : (first new : Run) (later : List Run) (k : ℕ) → k ≡ 0
+    → new ∷ later ≡ set (first ∷ later) k new
+first_set first new later k none = rw none refl
+
+pub later_there : (first : Run) (later : List Run) (k : ℕ) (run : Run) → 0 < k
+    → slice_get later (k - 1) ≡ Some run → slice_get (first ∷ later) k ≡ Some run
+later_there first later zero run past is = absurd (omega (arith, past))
+later_there first later (suc k) run past is =
+    let before : suc k - 1 ≡ k = omega arith in
+    subst (λ i. slice_get later i ≡ Some run) before is
+
+pub later_set : (first new : Run) (later : List Run) (k : ℕ) → 0 < k
+    → first ∷ set later (k - 1) new ≡ set (first ∷ later) k new
+later_set first new later zero past = absurd (omega (arith, past))
+later_set first new later (suc k) past =
+    let before : suc k - 1 ≡ k = omega arith in
+    ap (λ i. first ∷ set later i new) before
 
 -- an index of no text
-pub no_index : (text_of : ℕ → List ℕ) (index : Index) → index.runs.items ≡ []
-    → ids_of index.starts ≡ [] → IsRun text_of index.starts → IsIndex text_of index
+pub no_index : (text_of : ℕ → List ℕ) (index : Index) → ids_of index.first ≡ []
+    → index.later.items ≡ [] → ids_of index.starts ≡ [] → IsOrdered text_of index.first
+    → IsOrdered text_of index.starts → IsIndex text_of index
 unfolding IsStrictlySortedBy
-no_index text_of index runs none starts = record {
-  sorted = subst (λ rs. IsStrictlySortedBy key_order (map text_of (flat rs))) (sym runs) tt;
-  runs = subst (AllByRecursion (IsRun text_of)) (sym runs) tt;
+no_index text_of index none no_later no_starts first starts = record {
+  sorted = rw (no_later, none) tt;
+  runs = (first, subst (AllByRecursion (IsOrdered text_of)) (sym no_later) tt);
+  short = (
+    rw none (omega arith),
+    subst (AllByRecursion (λ run. length (ids_of run) ≤ 256)) (sym no_later) tt,
+  );
   starts = starts;
-  firsts = subst (λ rs. HaveFirsts (ids_of index.starts) (drop 1 rs)) (sym runs)
-      (subst (λ ids. HaveFirsts ids []) (sym none) tt);
+  firsts = rw (no_later, no_starts) tt;
 }

@@ -1,41 +1,20 @@
 -- What a search in a run of an index finds.
-use Rattle.std.proofs.Common.{arith, ◌≡◌, ℕ, ◌<◌, ◌≤◌, List, [], ◌∷◌, map, length, take, drop, get_or, Result, Ok, Err, Ordering, Less, Equal, Greater, sym, subst, ◌∙◌}
-use Rattle.std.proofs.lemmas.List.{append-nil}
+use Rattle.std.proofs.Common.{arith, ◌≡◌, ℕ, ◌<◌, List, [], ◌∷◌, map, length, take, drop, get_or, Ordering, Less, Equal, Greater, sym, ap, subst, ◌∙◌}
+use Rattle.std.proofs.lemmas.List.{append-nil, get_or-map, length-map}
 use Rattle.std.proofs.lemmas.List.Elements.{All-from_recursion, All-get_or}
 use Rattle.std.proofs.lemmas.Map.Lookups.{exact_bytes}
-use Rattle.std.proofs.lemmas.Simd.{map-map}
-use Rattle.std.specs.Prelude.{IfOk, IfErr, Some, slice_get}
+use Rattle.std.proofs.lemmas.Option.{slice_get-get_or}
+use Rattle.std.specs.Prelude.{Some, slice_get}
 use Rattle.std.specs.Int.{from_be_bytes, w64}
 use Rattle.std.specs.List.{AllByRecursion}
-use Rattle.std.specs.List.Sorted.{IsBinarySearchResult, IsSearchInRange, IsStrictlySortedBy}
-use Rattle.std.specs.Ordering.{ordering_index}
+use Rattle.std.specs.List.Sorted.{IsStrictlySortedBy}
+use Rattle.std.specs.Ordering.{match_ordering, nat_cmp}
 use Rattle.inline_uses.specs.Symbols.{key_order, IsGap}
-use Rattle.inline_uses.specs.Index.{IsMark, IsRun, compare_fronts, front_of, mark_order}
+use Rattle.inline_uses.specs.Index.{IsMark, IsOrdered, compare_fronts, first_front, mark_order}
 use Rattle.inline_uses.specs.declared.index.mark.Mark.{Mark}
 use Rattle.inline_uses.specs.declared.index.run.Run.{Run}
 use Rattle.inline_uses.proofs.Gaps.{AreBelow, AreAbove, gap_between, turned_back}
-use Rattle.inline_uses.proofs.Search.{searched}
 use Rattle.inline_uses.proofs.IndexMarks.{AreBytes, front_decides, mark_decides}
-
--- a search by an order is one by another that compares the elements as it does
-module _ {X : Type 0} (g h : X → Ordering) (xs : List X)
-    (same : AllByRecursion (λ x. g x ≡ h x) xs)
-  where
-    at_index : (i : ℕ) (d : X) → i < length xs → h (get_or xs i d) ≡ g (get_or xs i d)
-    at_index i d within = sym (All-get_or (λ x. g x ≡ h x) xs i d within
-        (All-from_recursion (λ x. g x ≡ h x) xs same))
-
-    pub same_search : (r : Result ℕ ℕ) → IsSearchInRange r (length xs)
-        → IsBinarySearchResult g xs r → IsBinarySearchResult h xs r
-    same_search (Ok at) within found = λ d. at_index at d within ∙ found d
-    same_search (Err at) within found = λ rises.
-        let parts = found (λ i j d le less. subst (λ o. ordering_index o ≤ ordering_index (g
-        (get_or xs j d))) (at_index i d (omega (arith, le, less)))
-        (subst (λ o. ordering_index (h (get_or xs i d)) ≤ ordering_index o)
-        (at_index j d less) (rises i j d le less))) in (
-          (λ k d le less. at_index k d (omega (arith, less, within)) ∙ parts.0 k d le less),
-          λ k d le less. at_index k d less ∙ parts.1 k d le less,
-        )
 
 -- the marks of a run compare as the texts do, to one that has their front
 marks_decide : (text_of : ℕ → List ℕ) (len : ℕ) (front text : List ℕ) (marks : List Mark)
@@ -75,7 +54,7 @@ texts_of text_of marks = map text_of (map (λ m. m.id) marks)
 -- marks have the front of their first text
 abbrev pub AreMarks : (ℕ → List ℕ) → ℕ → List Mark → Type 0
 AreMarks text_of len marks =
-    AllByRecursion (IsMark text_of len (front_of len (texts_of text_of marks))) marks
+    AllByRecursion (IsMark text_of len (first_front len (texts_of text_of marks))) marks
 
 -- what a search among marks finds: the text, or where it goes
 module _ (text_of : ℕ → List ℕ) (len : ℕ) (text : List ℕ) where
@@ -104,24 +83,61 @@ module _ (text_of : ℕ → List ℕ) (len : ℕ) (text : List ℕ) where
   all_decide (m ∷ marks) are bytes equal = marks_decide text_of len _ text (m ∷ marks) are bytes
       (sym (exact_bytes (take len (text_of m.id)) (take len text) equal))
 
-  pub among : (marks : List Mark) → AreMarks text_of len marks → AreBytes text
-      → compare_fronts len (texts_of text_of marks) text ≡ Equal
-      → IsStrictlySortedBy key_order (texts_of text_of marks) → (r : Result ℕ ℕ)
-      → IsSearchInRange r (length marks)
-      → IsBinarySearchResult (mark_order text_of (from_be_bytes w64 (drop len text)) text) marks r
-      → (IfOk r (λ at. slice_get (texts_of text_of marks) at ≡ Some text))
-      × IfErr r (IsGap (texts_of text_of marks) text)
-  among marks are bytes equal sorted r within found =
-      let seen : map (λ m. text_of m.id) marks ≡ texts_of text_of marks
-      = sym (map-map text_of (λ m. m.id) marks) in
-      subst (λ ts. (IfOk r (λ at. slice_get ts at ≡ Some text)) × IfErr r (IsGap ts text)) seen
-      (searched (λ m. text_of m.id) marks text r
-      (subst (λ ts. IsStrictlySortedBy key_order ts) (sym seen) sorted) within
-      (same_search (mark_order text_of (from_be_bytes w64 (drop len text)) text)
-      (λ m. key_order (text_of m.id) text) marks (all_decide marks are bytes equal) r within found))
+-- what a comparison to the mark at an index says of its text
+module _ (text_of : ℕ → List ℕ) (text : List ℕ) (marks : List Mark) (at : ℕ) (mark : Mark)
+    (within : at < length marks) (read : mark ≡ get_or marks at mark)
+  where
+    text_seen : get_or (texts_of text_of marks) at [] ≡ text_of mark.id
+    text_seen = get_or-map text_of (map (λ m. m.id) marks) at mark.id [] (rw length-map within)
+        ∙ ap text_of (get_or-map (λ m. m.id) marks at mark mark.id within)
+        ∙ ap (λ m. text_of m.id) (sym read)
+
+    -- by its text
+    pub by_text : (o : Ordering) → o ≡ key_order (text_of mark.id) text
+        → key_order (get_or (texts_of text_of marks) at []) text ≡ o
+    by_text o is = ap (λ t. key_order t text) text_seen ∙ sym is
+
+    -- by its bits
+    pub by_mark : (len : ℕ) → AreMarks text_of len marks → AreBytes text
+        → compare_fronts len (texts_of text_of marks) text ≡ Equal → (o : Ordering)
+        → o ≡ mark_order text_of (from_be_bytes w64 (drop len text)) text mark
+        → key_order (get_or (texts_of text_of marks) at []) text ≡ o
+    by_mark len are bytes equal o is = by_text o (is
+        ∙ subst (λ m. mark_order text_of (from_be_bytes w64 (drop len text)) text m
+        ≡ key_order (text_of m.id) text) (sym read)
+        (All-get_or (λ m. mark_order text_of (from_be_bytes w64 (drop len text)) text m
+        ≡ key_order (text_of m.id) text) marks at mark within
+        (All-from_recursion (λ m. mark_order text_of (from_be_bytes w64 (drop len text)) text m
+        ≡ key_order (text_of m.id) text) marks
+        (all_decide text_of len text marks are bytes equal))))
+
+    pub found_at : key_order (text_of mark.id) text ≡ Equal
+        → slice_get (texts_of text_of marks) at ≡ Some text
+    found_at equal = slice_get-get_or (texts_of text_of marks) at []
+        (rw (length-map, length-map) within)
+        ∙ ap Some (text_seen ∙ exact_bytes (text_of mark.id) text equal)
+
+-- a mark that compares as equal has the text
+pub equal_mark : (text_of : ℕ → List ℕ) (bits : ℕ) (text : List ℕ) (mark : Mark)
+    → mark_order text_of bits text mark ≡ Equal → key_order (text_of mark.id) text ≡ Equal
+equal_mark text_of bits text mark equal = by (nat_cmp mark.bits bits) equal
+  where
+    by : (o : Ordering) → match_ordering o Less (key_order (text_of mark.id) text) Greater ≡ Equal
+        → key_order (text_of mark.id) text ≡ Equal
+    by Less e = cc
+    by Equal e = e
+    by Greater e = cc
+
+-- where a text goes among none
+pub gap_in_none : (texts : List (List ℕ)) (text : List ℕ) → length texts ≡ 0 → IsGap texts text 0
+gap_in_none texts text none = (
+  omega arith,
+  (λ i less. absurd (omega (arith, less))),
+  λ i le less. absurd (omega (arith, less, none)),
+)
 
 -- a run of no id
-pub no_run : (text_of : ℕ → List ℕ) (run : Run) → run.marks.items ≡ [] → IsRun text_of run
+pub no_run : (text_of : ℕ → List ℕ) (run : Run) → run.marks.items ≡ [] → IsOrdered text_of run
 unfolding IsStrictlySortedBy
 no_run text_of run none = record {
   sorted = subst (λ ms. IsStrictlySortedBy key_order (texts_of text_of ms)) (sym none) tt;

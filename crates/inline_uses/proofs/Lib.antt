@@ -14,6 +14,7 @@ pub mod Readable
 pub mod Remarked
 pub mod Rows
 pub mod RunEdits
+mod RunFronts
 pub mod RunGrown
 pub mod RunSets
 pub mod RunSplits

@@ -4,7 +4,7 @@ use Rattle.std.proofs.lemmas.List.{get_or-map, length-map}
 use Rattle.std.specs.Int.{from_be_bytes, w64}
 use Rattle.std.specs.List.{AllByRecursion}
 use Rattle.std.specs.Vec.{with_item}
-use Rattle.inline_uses.specs.Index.{IsMark, front_of, ids_of}
+use Rattle.inline_uses.specs.Index.{IsMark, first_front, ids_of}
 use Rattle.inline_uses.specs.declared.index.mark.Mark.{Mark}
 use Rattle.inline_uses.specs.declared.index.run.Run.{Run}
 use Rattle.inline_uses.proofs.IndexMarks.{AreBytes}
@@ -14,7 +14,7 @@ pub record IsMarkedTo (text_of : ℕ → List ℕ) (len i : ℕ) (old run : Run)
   pub front_is : run.front ≡ len
   pub ids : ids_of run ≡ ids_of old
   pub marked : AllByRecursion
-      (IsMark text_of len (front_of len (map text_of (ids_of old)))) (take i run.marks.items)
+      (IsMark text_of len (first_front len (map text_of (ids_of old)))) (take i run.marks.items)
 
 -- the mark at an index gets other bits
 module _ (text_of : ℕ → List ℕ) (len : ℕ) (front : List ℕ) (new : Mark) where
@@ -48,7 +48,7 @@ begins_at len front text_of (x ∷ ids) (suc i) id all within read =
 pub marked_more : (text_of : ℕ → List ℕ) (len i bits : ℕ) (old run : Run) (item : Mark)
     → i < length run.marks.items → item ≡ get_or run.marks.items i item
     → bits ≡ from_be_bytes w64 (drop len (text_of item.id)) → AreBytes (text_of item.id)
-    → AllByRecursion (λ text. take len text ≡ front_of len (map text_of (ids_of old)))
+    → AllByRecursion (λ text. take len text ≡ first_front len (map text_of (ids_of old)))
     (map text_of (ids_of old))
     → IsMarkedTo text_of len i old run
     → IsMarkedTo text_of len (i + 1) old (record {
@@ -56,7 +56,7 @@ pub marked_more : (text_of : ℕ → List ℕ) (len i bits : ℕ) (old run : Run
       marks = with_item run.marks i (record { bits = bits; id = item.id });
     })
 marked_more text_of len i bits old run item within read are bytes all marked =
-    let front = front_of len (map text_of (ids_of old)) in
+    let front = first_front len (map text_of (ids_of old)) in
     let new : Mark = record { bits = bits; id = item.id } in
     let count : i < length (ids_of old) = rw (← marked.ids, length-map) within in
     let seen : item.id ≡ get_or (ids_of old) i item.id = rw (← marked.ids)

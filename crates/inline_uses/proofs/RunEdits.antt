@@ -1,11 +1,12 @@
 -- What edits leave of a run: a part of it, and one id more.
 use Rattle.std.proofs.Common.{arith, ◌≡◌, ℕ, zero, suc, ◌-◌, List, [], ◌∷◌, length, take, drop, Global, Vec, Less, refl, sym, ap, subst, ◌∙◌}
 use Rattle.std.proofs.lemmas.List.{drop-map, length-map, take-map}
+use Rattle.std.proofs.lemmas.List.Elements.{All-drop, All-from_recursion, All-take, recursion_from_All}
 use Rattle.std.proofs.lemmas.Option.{slice_get-map}
 use Rattle.std.specs.Prelude.{Some, slice_get}
 use Rattle.std.specs.List.{AllByRecursion, insert}
 use Rattle.std.specs.List.Sorted.{IsStrictlySortedBy}
-use Rattle.inline_uses.specs.Index.{IsMark, IsRun, front_of}
+use Rattle.inline_uses.specs.Index.{IsMark, IsOrdered, first_front}
 use Rattle.inline_uses.specs.Symbols.{key_order, IsGap}
 use Rattle.inline_uses.specs.declared.index.mark.Mark.{Mark}
 use Rattle.inline_uses.specs.declared.index.run.Run.{Run}
@@ -16,14 +17,12 @@ use Rattle.inline_uses.proofs.IndexRuns.{AreMarks, texts_of}
 -- a fact of each of some is one of each of a part, and of these with one more
 module _ {X : Type 0} (P : X → Type 0) where
   pub all_take : (n : ℕ) (xs : List X) → AllByRecursion P xs → AllByRecursion P (take n xs)
-  all_take zero xs all = tt
-  all_take (suc n) [] all = tt
-  all_take (suc n) (x ∷ xs) all = (all.0, all_take n xs all.1)
+  all_take n xs all =
+      recursion_from_All P (take n xs) (All-take P n xs (All-from_recursion P xs all))
 
   pub all_drop : (n : ℕ) (xs : List X) → AllByRecursion P xs → AllByRecursion P (drop n xs)
-  all_drop zero xs all = all
-  all_drop (suc n) [] all = tt
-  all_drop (suc n) (x ∷ xs) all = all_drop n xs all.1
+  all_drop n xs all =
+      recursion_from_All P (drop n xs) (All-drop P n xs (All-from_recursion P xs all))
 
   pub all_insert : (at : ℕ) (xs : List X) (new : X) → AllByRecursion P xs → P new
       → AllByRecursion P (insert xs at new)
@@ -104,7 +103,8 @@ pub lengthened : (text_of : ℕ → List ℕ) (n : ℕ) (marks : List Mark) (fir
     → Some first ≡ slice_get marks 0 → Some last ≡ slice_get marks (length marks - 1)
     → IsStrictlySortedBy key_order (texts_of text_of marks)
     → take n (text_of first.id) ≡ take n (text_of last.id)
-    → AllByRecursion (λ t. take n t ≡ front_of n (texts_of text_of marks)) (texts_of text_of marks)
+    → AllByRecursion (λ t. take n t ≡ first_front n (texts_of text_of marks))
+    (texts_of text_of marks)
 unfolding IsStrictlySortedBy
 lengthened text_of n [] first last is ends sorted same = tt
 lengthened text_of n (m ∷ marks) first last is ends sorted same =
@@ -120,13 +120,13 @@ lengthened text_of n (m ∷ marks) first last is ends sorted same =
 
 -- both parts of a run are runs
 module _ (text_of : ℕ → List ℕ) (run : Run) (at : ℕ) (marks : Vec Mark Global)
-    (is : IsRun text_of run)
+    (is : IsOrdered text_of run)
   where
     abbrev front : List ℕ
-    front = front_of run.front (texts_of text_of run.marks.items)
+    front = first_front run.front (texts_of text_of run.marks.items)
 
     pub lower_run : marks.items ≡ take at run.marks.items
-        → IsRun text_of (record { front = run.front; marks = marks })
+        → IsOrdered text_of (record { front = run.front; marks = marks })
     lower_run part = record {
       sorted = subst (λ ms. IsStrictlySortedBy key_order (texts_of text_of ms)) (sym part)
           (rw (← take-map, ← take-map)
@@ -137,7 +137,7 @@ module _ (text_of : ℕ → List ℕ) (run : Run) (at : ℕ) (marks : Vec Mark G
     }
 
     pub upper_run : marks.items ≡ drop at run.marks.items
-        → IsRun text_of (record { front = run.front; marks = marks })
+        → IsOrdered text_of (record { front = run.front; marks = marks })
     upper_run part = record {
       sorted = subst (λ ms. IsStrictlySortedBy key_order (texts_of text_of ms)) (sym part)
           (rw (← drop-map, ← drop-map)

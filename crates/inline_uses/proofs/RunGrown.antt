@@ -5,7 +5,7 @@ use Rattle.std.specs.Int.{from_be_bytes, w64}
 use Rattle.std.specs.Prelude.{Some, slice_get}
 use Rattle.std.specs.List.{AllByRecursion, insert}
 use Rattle.std.specs.List.Sorted.{IsStrictlySortedBy}
-use Rattle.inline_uses.specs.Index.{IsMark, IsRun, IsShared, front_of}
+use Rattle.inline_uses.specs.Index.{IsMark, IsOrdered, IsShared, first_front}
 use Rattle.inline_uses.specs.Symbols.{key_order, IsGap}
 use Rattle.inline_uses.specs.declared.index.mark.Mark.{Mark}
 use Rattle.inline_uses.specs.declared.index.run.Run.{Run}
@@ -22,6 +22,15 @@ shared_with_first text_of len text [] first is same = tt
 shared_with_first text_of len text (m ∷ marks) first is same =
     let it : first ≡ m = cc in
     subst (λ mark. take len (text_of mark.id) ≡ take len text) it same
+
+-- the first id is that of the first mark
+pub first_id : (marks : List Mark) (first : Mark) (id : ℕ) → Some first ≡ slice_get marks 0
+    → slice_get (map (λ m. m.id) marks) 0 ≡ Some id → first.id ≡ id
+first_id [] first id is there = cc
+first_id (m ∷ marks) first id is there =
+    let it : first ≡ m = cc in
+    let same : m.id ≡ id = cc in
+    ap (λ m. m.id) it ∙ same
 
 -- texts that begin so begin with each front of that
 begin_less : (text_of : ℕ → List ℕ) (n len : ℕ) (front text : List ℕ) (marks : List Mark) → n ≤ len
@@ -44,7 +53,7 @@ begin_all text_of n len text (m ∷ marks) less are shared =
 
 front_grown : (n : ℕ) (text : List ℕ) (ts : List (List ℕ)) (at : ℕ)
     → AllByRecursion (λ t. take n t ≡ take n text) ts
-    → front_of n (insert ts at text) ≡ take n text
+    → first_front n (insert ts at text) ≡ take n text
 front_grown n text ts zero all = refl
 front_grown n text [] (suc at) all = refl
 front_grown n text (t ∷ ts) (suc at) all = all.0
@@ -73,7 +82,7 @@ module _ (text_of : ℕ → List ℕ) (len : ℕ) (marks : List Mark) (new : Mar
 
     -- all begin as the new text does, as far as it has their front
     pub grown_shared : (n : ℕ) → n ≤ len → IsShared n (text_of new.id) (texts_of text_of marks)
-        → AllByRecursion (λ t. take n t ≡ front_of n (texts_of text_of (insert marks at new)))
+        → AllByRecursion (λ t. take n t ≡ first_front n (texts_of text_of (insert marks at new)))
         (texts_of text_of (insert marks at new))
     grown_shared n less shared =
         let all = begin_all text_of n len (text_of new.id) marks less are shared in
@@ -89,7 +98,7 @@ module _ (text_of : ℕ → List ℕ) (len : ℕ) (marks : List Mark) (new : Mar
         new (own_front text_of len (text_of new.id) marks are shared) is)
 
 -- a run with one mark more, where its text goes
-module _ (text_of : ℕ → List ℕ) (old new : Run) (mark : Mark) (at : ℕ) (is : IsRun text_of old)
+module _ (text_of : ℕ → List ℕ) (old new : Run) (mark : Mark) (at : ℕ) (is : IsOrdered text_of old)
     (gap : IsGap (texts_of text_of old.marks.items) (text_of mark.id) at)
     (marks : new.marks.items ≡ insert old.marks.items at mark)
   where
@@ -99,16 +108,16 @@ module _ (text_of : ℕ → List ℕ) (old new : Run) (mark : Mark) (at : ℕ) (
 
     pub run_shared : (n : ℕ) → n ≤ old.front
         → IsShared n (text_of mark.id) (texts_of text_of old.marks.items)
-        → AllByRecursion (λ t. take n t ≡ front_of n (texts_of text_of new.marks.items))
+        → AllByRecursion (λ t. take n t ≡ first_front n (texts_of text_of new.marks.items))
         (texts_of text_of new.marks.items)
     run_shared n less shared = subst (λ ms. AllByRecursion (λ t. take n t
-        ≡ front_of n (texts_of text_of ms)) (texts_of text_of ms)) (sym marks)
+        ≡ first_front n (texts_of text_of ms)) (texts_of text_of ms)) (sym marks)
         (grown_shared text_of old.front old.marks.items mark at is.marks n less shared)
 
     pub run_grown : new.front ≡ old.front
         → IsShared old.front (text_of mark.id) (texts_of text_of old.marks.items)
         → mark.bits ≡ from_be_bytes w64 (drop old.front (text_of mark.id))
-        → AreBytes (text_of mark.id) → IsRun text_of new
+        → AreBytes (text_of mark.id) → IsOrdered text_of new
     run_grown front shared bits bytes = record {
       sorted = run_sorted;
       marks = subst (λ len. AreMarks text_of len new.marks.items) (sym front)

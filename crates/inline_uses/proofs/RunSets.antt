@@ -1,16 +1,18 @@
 -- An index in which one run is changed.
 use Rattle.std.proofs.Common.{arith, ◌≡◌, ℕ, zero, suc, ◌+◌, ◌<◌, ◌≤◌, List, [], ◌∷◌, ◌++◌, map, length, take, drop, set, Some, Less, Greater, refl, sym, ap, subst, ◌∙◌, append_assoc}
-use Rattle.std.specs.Prelude.{slice_get}
+use Rattle.std.specs.Prelude.{Result, Ok, Err, OnOk, OnErr, ⊤, slice_get}
 use Rattle.std.proofs.lemmas.List.{get_or_append_left, length-append, length-map, map-append}
+use Rattle.std.proofs.lemmas.List.Edits.{length-insert}
+use Rattle.std.proofs.lemmas.List.Elements.{All-from_recursion, All-set, recursion_from_All}
 use Rattle.std.specs.List.{AllByRecursion, insert}
 use Rattle.std.specs.List.Sorted.{IsStrictlySortedBy}
-use Rattle.std.specs.Vec.{with_item}
-use Rattle.inline_uses.specs.Index.{HaveFirsts, IsIndex, IsRun, ids_of}
+use Rattle.inline_uses.specs.Index.{HaveFirsts, IsIndex, IsOrdered, ids_of, runs_of}
 use Rattle.inline_uses.specs.Symbols.{key_order, IsGap}
+use Rattle.std.specs.declared.alloc.AllocError.{AllocError}
 use Rattle.inline_uses.specs.declared.index.Index.{Index}
 use Rattle.inline_uses.specs.declared.index.run.Run.{Run}
 use Rattle.inline_uses.proofs.InRuns.{flat, flat_at}
-use Rattle.inline_uses.proofs.RunEdits.{sorted_insert}
+use Rattle.inline_uses.proofs.RunEdits.{all_at, sorted_insert}
 use Rattle.inline_uses.proofs.Search.{inserted_seen}
 
 -- where a text goes among some, it goes among those after the first ones, and before the last ones
@@ -96,9 +98,8 @@ flat_insert runs k at id old new is within grown =
 
 pub all_set : {X : Type 0} (P : X → Type 0) (xs : List X) (k : ℕ) (new : X) → AllByRecursion P xs
     → P new → AllByRecursion P (set xs k new)
-all_set P [] k new all is = tt
-all_set P (x ∷ xs) zero new all is = (is, all.1)
-all_set P (x ∷ xs) (suc k) new all is = (all.0, all_set P xs k new all.1 is)
+all_set P xs k new all is =
+    recursion_from_All P (set xs k new) (All-set P xs k new is (All-from_recursion P xs all))
 
 -- a run whose first id stays leaves the first ids
 pub firsts_set : (ids : List ℕ) (runs : List Run) (k : ℕ) (old new : Run) → HaveFirsts ids runs
@@ -128,35 +129,74 @@ first_stays [] at id past within = absurd (omega (arith, past, within))
 first_stays (x ∷ ids) zero id past within = absurd (omega (arith, past))
 first_stays (x ∷ ids) (suc at) id past within = refl
 
--- an index in which the ids of a run stay, and one in which a run gets one more
-module _ (text_of : ℕ → List ℕ) (index : Index) (k : ℕ) (old new : Run)
-    (is : IsIndex text_of index) (there : slice_get index.runs.items k ≡ Some old)
-    (run : IsRun text_of new)
+abbrev pub IsShort : Run → Type 0
+IsShort run = length (ids_of run) ≤ 256
+
+-- an index in which a run is changed
+module _ (text_of : ℕ → List ℕ) (before after : Index) (k : ℕ) (old new : Run)
+    (is : IsIndex text_of before) (there : slice_get (runs_of before) k ≡ Some old)
+    (runs : runs_of after ≡ set (runs_of before) k new) (starts : after.starts ≡ before.starts)
+    (run : IsOrdered text_of new)
   where
-    pub with_same : ids_of new ≡ ids_of old
-        → IsIndex text_of (record index { runs = with_item index.runs k new })
-    with_same same = record {
-      sorted = subst (λ ids. IsStrictlySortedBy key_order (map text_of ids))
-          (sym (flat_same index.runs.items k old new there same)) is.sorted;
-      runs = all_set (IsRun text_of) index.runs.items k new is.runs run;
-      starts = is.starts;
-      firsts = other_firsts_set (ids_of index.starts) index.runs.items k old new is.firsts there
-          (λ past. ap (λ ids. slice_get ids 0) same);
+    changed : (ids : List ℕ) → flat (set (runs_of before) k new) ≡ ids
+        → IsStrictlySortedBy key_order (map text_of ids) → length (ids_of new) ≤ 256
+        → (0 < k → slice_get (ids_of new) 0 ≡ slice_get (ids_of old) 0) → IsIndex text_of after
+    changed ids flat_is sorted few first = record {
+      sorted = subst (λ rs. IsStrictlySortedBy key_order (map text_of (flat rs))) (sym runs)
+          (subst (λ ids. IsStrictlySortedBy key_order (map text_of ids)) (sym flat_is) sorted);
+      runs = subst (AllByRecursion (IsOrdered text_of)) (sym runs)
+          (all_set (IsOrdered text_of) (runs_of before) k new is.runs run);
+      short = subst (AllByRecursion IsShort) (sym runs)
+          (all_set IsShort (runs_of before) k new is.short few);
+      starts = subst (IsOrdered text_of) (sym starts) is.starts;
+      firsts = subst (λ run. HaveFirsts (ids_of run) after.later.items) (sym starts)
+          (subst (λ rs. HaveFirsts (ids_of before.starts) (drop 1 rs)) (sym runs)
+          (other_firsts_set (ids_of before.starts) (runs_of before) k old new is.firsts there
+          first));
     }
 
+    -- its ids stay
+    pub with_same : ids_of new ≡ ids_of old
+        → IsIndex text_of after × (flat (runs_of after) ≡ flat (runs_of before))
+    with_same same =
+        let all = flat_same (runs_of before) k old new there same in (
+          changed (flat (runs_of before)) all is.sorted
+              (subst (λ ids. length ids ≤ 256) (sym same)
+              (all_at IsShort (runs_of before) k old is.short (sym there)))
+              (λ past. ap (λ ids. slice_get ids 0) same),
+          ap flat runs ∙ all,
+        )
+
+    -- it gets one more
     pub with_more : (at id : ℕ) → at ≤ length (ids_of old) → ids_of new ≡ insert (ids_of old) at id
-        → (0 < k → 0 < at)
-        → IsGap (map text_of (flat index.runs.items)) (text_of id)
-        (length (flat (take k index.runs.items)) + at)
-        → IsIndex text_of (record index { runs = with_item index.runs k new })
-    with_more at id within grown after gap = record {
-      sorted = subst (λ ids. IsStrictlySortedBy key_order (map text_of ids))
-          (sym (flat_insert index.runs.items k at id old new there within grown))
-          (rw inserted_seen (sorted_insert (length (flat (take k index.runs.items)) + at)
-          (map text_of (flat index.runs.items)) (text_of id) is.sorted gap));
-      runs = all_set (IsRun text_of) index.runs.items k new is.runs run;
-      starts = is.starts;
-      firsts = other_firsts_set (ids_of index.starts) index.runs.items k old new is.firsts there
-          (λ past. ap (λ ids. slice_get ids 0) grown
-          ∙ first_stays (ids_of old) at id (after past) within);
-    }
+        → length (ids_of old) < 256 → (0 < k → 0 < at)
+        → IsGap (map text_of (flat (runs_of before))) (text_of id)
+        (length (flat (take k (runs_of before))) + at)
+        → IsIndex text_of after × (flat (runs_of after)
+        ≡ insert (flat (runs_of before)) (length (flat (take k (runs_of before))) + at) id)
+    with_more at id within grown few past gap =
+        let place = length (flat (take k (runs_of before))) + at in
+        let all = flat_insert (runs_of before) k at id old new there within grown in (
+          changed (insert (flat (runs_of before)) place id) all
+              (rw inserted_seen (sorted_insert place (map text_of (flat (runs_of before)))
+              (text_of id) is.sorted gap))
+              (rw (grown, length-insert (ids_of old) at id within) (omega (arith, few)))
+              (λ some. ap (λ ids. slice_get ids 0) grown
+              ∙ first_stays (ids_of old) at id (past some) within),
+          ap flat runs ∙ all,
+        )
+
+    -- it gets one more, or its ids stay
+    pub with_added : (at id : ℕ) (r : Result ⊤ AllocError) → at ≤ length (ids_of old)
+        → OnOk r (ids_of new ≡ insert (ids_of old) at id) → OnErr r (ids_of new ≡ ids_of old)
+        → length (ids_of old) < 256 → (0 < k → 0 < at)
+        → IsGap (map text_of (flat (runs_of before))) (text_of id)
+        (length (flat (take k (runs_of before))) + at)
+        → IsIndex text_of after
+        × (OnOk r (flat (runs_of after)
+        ≡ insert (flat (runs_of before)) (length (flat (take k (runs_of before))) + at) id))
+        × OnErr r (flat (runs_of after) ≡ flat (runs_of before))
+    with_added at id (Ok u) within ok err few past gap =
+        let more = with_more at id within ok few past gap in (more.0, more.1, tt)
+    with_added at id (Err e) within ok err few past gap =
+        let same = with_same err in (same.0, tt, same.1)

@@ -1,11 +1,12 @@
 -- An index in which a run is split.
 use Rattle.std.proofs.Common.{arith, ◌≡◌, ℕ, zero, suc, ◌+◌, ◌<◌, ◌≤◌, List, [], ◌∷◌, ◌++◌, map, length, take, drop, set, Some, Less, refl, sym, ap, subst, ◌∙◌, ◌⊎◌, inl, inr, add-one, append_assoc}
-use Rattle.std.specs.Prelude.{slice_get}
-use Rattle.std.proofs.lemmas.List.{append-nil, length-append, length-drop, length-map, length-take-le, map-append, take-append-drop}
+use Rattle.std.specs.Prelude.{Err, IfOk, Ok, OnErr, OnOk, Result, slice_get}
+use Rattle.std.proofs.lemmas.List.{append-nil, length-append, length-drop, length-map, length-take, length-take-le, map-append, take-append-drop}
 use Rattle.std.proofs.lemmas.Option.{slice_get-map, slice_get_within}
 use Rattle.std.specs.List.{AllByRecursion, insert}
 use Rattle.std.specs.List.Sorted.{IsStrictlySortedBy}
-use Rattle.inline_uses.specs.Index.{HaveFirsts, IsIndex, IsRun, IsSpot, ids_at, ids_of, index_of}
+use Rattle.std.specs.declared.alloc.AllocError.{AllocError}
+use Rattle.inline_uses.specs.Index.{HaveFirsts, IsChanged, IsIndex, IsOrdered, IsSplit, IsSpot, ids_at, ids_of, index_of, runs_of}
 use Rattle.inline_uses.specs.Symbols.{key_order, IsGap}
 use Rattle.inline_uses.specs.declared.index.Index.{Index}
 use Rattle.inline_uses.specs.declared.index.Spot.{Spot}
@@ -13,7 +14,7 @@ use Rattle.inline_uses.specs.declared.index.run.Run.{Run}
 use Rattle.inline_uses.proofs.Gaps.{AreAbove, AreBelow, gap_between}
 use Rattle.inline_uses.proofs.InRuns.{flat, ids_at_is, in_flat, past_append, sorted_rest}
 use Rattle.inline_uses.proofs.RunEdits.{all_at, all_insert}
-use Rattle.inline_uses.proofs.RunSets.{all_set}
+use Rattle.inline_uses.proofs.RunSets.{IsShort, all_set}
 use Rattle.inline_uses.proofs.Tables.{before_append}
 
 -- the runs after a split
@@ -147,39 +148,80 @@ module _ (text_of : ℕ → List ℕ) where
 
 -- an index with the same ids
 pub same_index : (text_of : ℕ → List ℕ) (old new : Index) → IsIndex text_of old
-    → new.runs.items ≡ old.runs.items → ids_of new.starts ≡ ids_of old.starts
-    → IsRun text_of new.starts → IsIndex text_of new
+    → runs_of new ≡ runs_of old → ids_of new.starts ≡ ids_of old.starts
+    → IsOrdered text_of new.starts → IsIndex text_of new
 same_index text_of old new is runs ids starts = record {
   sorted = subst (λ rs. IsStrictlySortedBy key_order (map text_of (flat rs))) (sym runs) is.sorted;
-  runs = subst (AllByRecursion (IsRun text_of)) (sym runs) is.runs;
+  runs = subst (AllByRecursion (IsOrdered text_of)) (sym runs) is.runs;
+  short = subst (AllByRecursion IsShort) (sym runs) is.short;
   starts = starts;
   firsts = subst (λ rs. HaveFirsts (ids_of new.starts) (drop 1 rs)) (sym runs)
-      (subst (λ ids. HaveFirsts ids (drop 1 old.runs.items)) (sym ids) is.firsts);
+      (subst (λ ids. HaveFirsts ids old.later.items) (sym ids) is.firsts);
 }
 
 -- an index in which a run is split
 pub split_index : (text_of : ℕ → List ℕ) (before after : Index) (k h first : ℕ)
-    (old lower upper : Run) → IsIndex text_of before → slice_get before.runs.items k ≡ Some old
+    (old lower upper : Run) → IsIndex text_of before → slice_get (runs_of before) k ≡ Some old
     → ids_of lower ≡ take h (ids_of old) → ids_of upper ≡ drop h (ids_of old) → 0 < h
-    → after.runs.items ≡ split_at before.runs.items k lower upper
-    → IsRun text_of lower → IsRun text_of upper → IsRun text_of after.starts
+    → runs_of after ≡ split_at (runs_of before) k lower upper
+    → IsOrdered text_of lower → IsOrdered text_of upper → IsOrdered text_of after.starts
     → ids_of after.starts ≡ insert (ids_of before.starts) k first
     → slice_get (ids_of upper) 0 ≡ Some first → IsIndex text_of after
 split_index text_of before after k h first old lower upper is there low high some runs lower_is
     upper_is starts ids next =
+    let few = all_at IsShort (runs_of before) k old is.short (sym there) in
     record {
       sorted = subst (λ rs. IsStrictlySortedBy key_order (map text_of (flat rs))) (sym runs)
           (subst (λ all. IsStrictlySortedBy key_order (map text_of all))
-          (sym (flat_split old lower upper h low high before.runs.items k there)) is.sorted);
-      runs = subst (AllByRecursion (IsRun text_of)) (sym runs)
-          (all_insert (IsRun text_of) (suc k) (set before.runs.items k lower) upper
-          (all_set (IsRun text_of) before.runs.items k lower is.runs lower_is) upper_is);
+          (sym (flat_split old lower upper h low high (runs_of before) k there)) is.sorted);
+      runs = subst (AllByRecursion (IsOrdered text_of)) (sym runs)
+          (all_insert (IsOrdered text_of) (suc k) (set (runs_of before) k lower) upper
+          (all_set (IsOrdered text_of) (runs_of before) k lower is.runs lower_is) upper_is);
+      short = subst (AllByRecursion IsShort) (sym runs)
+          (all_insert IsShort (suc k) (set (runs_of before) k lower) upper
+          (all_set IsShort (runs_of before) k lower is.short
+          (rw (low, length-take) (omega (arith, few))))
+          (rw (high, length-drop) (omega (arith, few))));
       starts = starts;
       firsts = subst (λ rs. HaveFirsts (ids_of after.starts) (drop 1 rs)) (sym runs)
-          (subst (λ ids. HaveFirsts ids (drop 1 (split_at before.runs.items k lower upper)))
+          (subst (λ ids. HaveFirsts ids (drop 1 (split_at (runs_of before) k lower upper)))
           (sym ids) (firsts_split old lower upper h low high (ids_of before.starts)
-          before.runs.items k first is.firsts there
+          (runs_of before) k first is.firsts there
           (ap (λ ids. slice_get ids 0) low ∙ first_of_front (ids_of old) h some) next));
+    }
+
+-- the run that a part of a run was taken from, and what it had
+module _ (text_of : ℕ → List ℕ) (before after : Index) (at : ℕ) (old lower : Run)
+    (there : slice_get (runs_of before) at ≡ Some old)
+    (runs : runs_of after ≡ set (runs_of before) at lower) (ordered : IsOrdered text_of lower)
+  where
+    pub split_made : (r : Result Run AllocError) → OnOk r (ids_of lower ≡ take 128 (ids_of old))
+        → IfOk r (λ upper. ids_of upper ≡ drop 128 (ids_of old)) → IfOk r (IsOrdered text_of)
+        → IfOk r (IsSplit text_of before after at)
+    split_made (Ok upper) low high is = record {
+      lower = record {
+        old = old;
+        new = lower;
+        there = there;
+        runs = runs;
+        ordered = ordered;
+        changed = low;
+      };
+      ordered = is;
+      rest = high;
+    }
+    split_made (Err e) low high is = tt
+
+    pub split_failed : (r : Result Run AllocError) → OnErr r (ids_of lower ≡ ids_of old)
+        → OnErr r (IsChanged text_of before after at (λ ids. ids))
+    split_failed (Ok upper) same = tt
+    split_failed (Err e) same = record {
+      old = old;
+      new = lower;
+      there = there;
+      runs = runs;
+      ordered = ordered;
+      changed = same;
     }
 
 le_or_less : (a b : ℕ) → (a ≤ b) ⊎ (b < a)
@@ -217,18 +259,23 @@ module _ (old lower upper : Run) (h : ℕ)
         )
 
     module _ (index after : Index) (spot moved : Spot)
-        (there : slice_get index.runs.items spot.run ≡ Some old)
-        (runs : after.runs.items ≡ split_at index.runs.items spot.run lower upper)
+        (there : slice_get (runs_of index) spot.run ≡ Some old)
+        (runs : (runs_of after) ≡ split_at (runs_of index) spot.run lower upper)
         (stays : spot.at ≤ h → moved ≡ spot)
         (moves : h < spot.at → (moved.run ≡ spot.run + 1) × (moved.at + h ≡ spot.at))
       where
-        seen : let rs = after.runs.items in
-            (flat (take spot.run rs) ≡ flat (take spot.run index.runs.items))
+        seen : let rs = (runs_of after) in
+            (flat (take spot.run rs) ≡ flat (take spot.run (runs_of index)))
             × (length (flat (take (suc spot.run) rs))
-            ≡ length (flat (take spot.run index.runs.items)) + h)
+            ≡ length (flat (take spot.run (runs_of index))) + h)
             × (ids_at rs spot.run ≡ ids_of lower) × (ids_at rs (suc spot.run) ≡ ids_of upper)
-            × (length rs ≡ suc (length index.runs.items))
-        seen = rw runs (before_split index.runs.items spot.run there)
+            × (length rs ≡ suc (length (runs_of index)))
+        seen = subst (λ rs. (flat (take spot.run rs) ≡ flat (take spot.run (runs_of index)))
+            × (length (flat (take (suc spot.run) rs))
+            ≡ length (flat (take spot.run (runs_of index))) + h)
+            × (ids_at rs spot.run ≡ ids_of lower) × (ids_at rs (suc spot.run) ≡ ids_of upper)
+            × (length rs ≡ suc (length (runs_of index)))) (sym runs)
+            (before_split (runs_of index) spot.run there)
 
         stays_run : spot.at ≤ h → moved.run ≡ spot.run
         stays_run le = ap (λ s. s.run) (stays le)
@@ -242,18 +289,20 @@ module _ (old lower upper : Run) (h : ℕ)
           | inr less ↦ rw (moves_run less, seen.1) (omega (arith, (moves less).1))
         ]
 
-        pub moved_within : moved.run < length after.runs.items
+        -- its run has half of the ids
+        pub moved_room : length (ids_of old) ≡ h + h
+            → length (ids_at (runs_of after) moved.run) ≡ h
+        moved_room twice = elim (le_or_less spot.at h) [
+          | inl le ↦ rw (stays_run le, seen.2, low, length-take-le h (ids_of old) long) refl
+          | inr less ↦ rw (moves_run less, seen.3, high, length-drop) (omega (arith, twice))
+        ]
+
+        moved_within : moved.run < length (runs_of after)
         moved_within = elim (le_or_less spot.at h) [
-          | inl le ↦ rw (stays_run le, seen.4) (omega (
-            arith,
-            slice_get_within index.runs.items
-                spot.run old there,
-          ))
-          | inr less ↦ rw (moves_run less, seen.4) (omega (
-            arith,
-            slice_get_within index.runs.items
-                spot.run old there,
-          ))
+          | inl le ↦ rw (stays_run le, seen.4)
+              (omega (arith, slice_get_within (runs_of index) spot.run old there))
+          | inr less ↦ rw (moves_run less, seen.4)
+              (omega (arith, slice_get_within (runs_of index) spot.run old there))
         ]
 
         pub moved_spot : IsSpot index spot → IsSpot after moved
@@ -265,7 +314,7 @@ module _ (old lower upper : Run) (h : ℕ)
                 (omega (
                   arith,
                   (moves less).1,
-                  rw (ids_at_is index.runs.items spot.run old there) at is.within,
+                  rw (ids_at_is (runs_of index) spot.run old there) at is.within,
                 ))
           ];
           after = λ past. elim (le_or_less spot.at h) [

@@ -3,7 +3,7 @@ use Rattle.std.proofs.Common.{◌≡◌, ℕ, List, [], ◌∷◌, ◌++◌, map
 use Rattle.std.specs.Int.{from_be_bytes, w64}
 use Rattle.std.specs.List.{AllByRecursion}
 use Rattle.std.specs.List.Sorted.{IsStrictlySortedBy}
-use Rattle.inline_uses.specs.Index.{HaveFirsts, IsIndex, IsMark, IsRun, front_of, ids_of}
+use Rattle.inline_uses.specs.Index.{HaveFirsts, IsIndex, IsMark, IsOrdered, first_front, ids_of, runs_of}
 use Rattle.inline_uses.specs.Symbols.{key_order}
 use Rattle.inline_uses.specs.declared.index.Index.{Index}
 use Rattle.inline_uses.specs.declared.index.mark.Mark.{Mark}
@@ -34,13 +34,13 @@ module _ (f g : ℕ → List ℕ) where
     same_marks len front marks agree.1 are.1,
   )
 
-  same_run : (run : Run) → Agree (ids_of run) → IsRun f run → IsRun g run
+  same_run : (run : Run) → Agree (ids_of run) → IsOrdered f run → IsOrdered g run
   same_run run agree is =
       let same = same_map (ids_of run) agree in
       record {
         sorted = subst (IsStrictlySortedBy key_order) same is.sorted;
-        marks = subst (λ ts. AllByRecursion (IsMark g run.front (front_of run.front ts))
-            run.marks.items) same (same_marks run.front (front_of run.front (map f (ids_of run)))
+        marks = subst (λ ts. AllByRecursion (IsMark g run.front (first_front run.front ts))
+            run.marks.items) same (same_marks run.front (first_front run.front (map f (ids_of run)))
             run.marks.items agree is.marks);
       }
 
@@ -49,8 +49,8 @@ module _ (f g : ℕ → List ℕ) where
   front_agree (id ∷ ids) rest agree =
       let both = front_agree ids rest agree.1 in ((agree.0, both.0), both.1)
 
-  same_runs : (runs : List Run) → Agree (flat runs) → AllByRecursion (IsRun f) runs
-      → AllByRecursion (IsRun g) runs
+  same_runs : (runs : List Run) → Agree (flat runs) → AllByRecursion (IsOrdered f) runs
+      → AllByRecursion (IsOrdered g) runs
   same_runs [] agree are = tt
   same_runs (run ∷ runs) agree are =
       let both = front_agree (ids_of run) (flat runs) agree in
@@ -66,18 +66,15 @@ module _ (f g : ℕ → List ℕ) where
         firsts_agree ids runs both.1 have.1,
       )
 
-  rest_agree : (runs : List Run) → Agree (flat runs) → Agree (flat (drop 1 runs))
-  rest_agree [] agree = tt
-  rest_agree (run ∷ runs) agree = (front_agree (ids_of run) (flat runs) agree).1
-
   -- an index stays one over texts that agree on its ids
-  pub same_texts : (index : Index) → Agree (flat index.runs.items) → IsIndex f index
+  pub same_texts : (index : Index) → Agree (flat (runs_of index)) → IsIndex f index
       → IsIndex g index
   same_texts index agree is = record {
-    sorted = subst (IsStrictlySortedBy key_order) (same_map (flat index.runs.items) agree)
+    sorted = subst (IsStrictlySortedBy key_order) (same_map (flat (runs_of index)) agree)
         is.sorted;
-    runs = same_runs index.runs.items agree is.runs;
-    starts = same_run index.starts (firsts_agree (ids_of index.starts) (drop 1 index.runs.items)
-        (rest_agree index.runs.items agree) is.firsts) is.starts;
+    runs = same_runs (runs_of index) agree is.runs;
+    short = is.short;
+    starts = same_run index.starts (firsts_agree (ids_of index.starts) index.later.items
+        (front_agree (ids_of index.first) (flat index.later.items) agree).1 is.firsts) is.starts;
     firsts = is.firsts;
   }

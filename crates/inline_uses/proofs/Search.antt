@@ -1,63 +1,24 @@
 -- What a search among keys in order finds, and what an edit there does to the entries.
-use Rattle.std.proofs.Common.{arith, ◌≡◌, ℕ, zero, suc, ◌+◌, ◌<◌, ◌≤◌, List, [], ◌∷◌, map, length, get_or, set, Some, None, Result, Ok, Err, IfOk, IfErr, Bool, true, false, cond, Ordering, Less, Equal, Greater, refl, sym, ap, subst, ◌∙◌, take, drop, option_map}
+use Rattle.std.proofs.Common.{arith, ◌≡◌, ℕ, zero, suc, ◌+◌, ◌<◌, ◌≤◌, List, [], ◌∷◌, map, length, get_or, set, Some, None, Bool, true, false, cond, Ordering, Less, Equal, Greater, refl, sym, ap, ◌∙◌, take, drop, option_map}
 use Rattle.std.specs.Prelude.{slice_get}
 use Rattle.std.proofs.Math.Seq.{drop-nil, take-nil}
 use Rattle.std.proofs.lemmas.Cmp.{nat_list_cmp_total, tied_itself}
-use Rattle.std.proofs.lemmas.List.{get_or-map, length-map, map-append, map-set, take-map, drop-map}
+use Rattle.std.proofs.lemmas.List.{length-map, map-append, map-set, take-map, drop-map}
 use Rattle.std.proofs.lemmas.List.Elements.{All-from_recursion, All-get_or, recursion_from_All, All-weaker}
-use Rattle.std.proofs.lemmas.List.Sorted.{searchable_from_sorted}
 use Rattle.std.proofs.lemmas.Map.Keys.{Less-from_sorted}
 use Rattle.std.proofs.lemmas.Map.Lookups.{exact_bytes}
 use Rattle.std.proofs.lemmas.Map.Views.{All-keys-insert_entry, All-map-remove_entry}
 use Rattle.std.proofs.lemmas.Option.{slice_get-get_or, slice_get-map, slice_get_within, get_or_from_slice_get}
 use Rattle.std.specs.List.{AllByRecursion, insert, remove, filter}
-use Rattle.std.specs.List.Sorted.{IsStrictlySortedBy, IsSearchInRange, IsBinarySearchResult, IsNonDecreasingBy}
+use Rattle.std.specs.List.Sorted.{IsStrictlySortedBy}
 use Rattle.std.specs.Map.{keys_of, lookup, remove_entry}
 use Rattle.std.specs.BTreeMap.{is_at, insert_entry}
-use Rattle.std.specs.Ordering.{ordering_reverse, ordering_index, match_ordering, is_gt, is_lt}
+use Rattle.std.specs.Ordering.{ordering_reverse, match_ordering, is_gt}
 use Rattle.inline_uses.specs.Symbols.{key_order, IsGap}
 
 -- a key is above one that is below it
 turned : (a b : List ℕ) (o : Ordering) → key_order a b ≡ o → key_order b a ≡ ordering_reverse o
 turned a b o h = nat_list_cmp_total.antisymm b a ∙ ap ordering_reverse h
-
-at_key : {X : Type 0} (f : X → List ℕ) (P : List ℕ → Type 0) (xs : List X) (i : ℕ)
-    → i < length xs → ((d : X) → P (f (get_or xs i d))) → P (get_or (map f xs) i [])
-at_key f P [] i within h = absurd (omega arith)
-at_key f P (x ∷ xs) i within h = subst P (sym (get_or-map f (x ∷ xs) i x [] within)) (h x)
-
-module _ {X : Type 0} (f : X → List ℕ) (xs : List X) (key : List ℕ) where
-  rises : IsStrictlySortedBy key_order (map f xs)
-      → IsNonDecreasingBy (λ x. ordering_index (key_order (f x) key)) xs
-  rises sorted = searchable_from_sorted nat_list_cmp_total f xs key (λ i d low less. ap is_lt
-      (turned (f (get_or xs i d)) _ Less (subst (λ q. key_order q (f (get_or xs (i + 1) d)) ≡ Less)
-      (get_or-map f xs i d (f d) (omega arith))
-      (subst (λ q. key_order (get_or (map f xs) i (f d)) q ≡ Less)
-      (get_or-map f xs (i + 1) d (f d) less)
-      (Less-from_sorted key_order (map f xs) i (i + 1) (f d) sorted (omega arith)
-      (rw length-map less))))))
-
-  -- a search by a text among texts in order finds it, or the index at which it goes
-  pub searched : (r : Result ℕ ℕ) → IsStrictlySortedBy key_order (map f xs)
-      → IsSearchInRange r (length xs) → IsBinarySearchResult (λ x. key_order (f x) key) xs r
-      → (IfOk r (λ at. slice_get (map f xs) at ≡ Some key)) × IfErr r (IsGap (map f xs) key)
-  searched (Ok at) sorted within equal = (
-    slice_get-get_or (map f xs) at [] (rw length-map within)
-        ∙ ap Some (exact_bytes _ _ (at_key f (λ k. key_order k key ≡ Equal) xs at within equal)),
-    tt,
-  )
-  searched (Err at) sorted within parted =
-      let parts = parted (rises sorted) in (
-        tt,
-        (
-          rw length-map within,
-          (λ i less. turned _ key Less (at_key f (λ k. key_order k key ≡ Less) xs i (omega arith)
-              (λ d. parts.0 i d (omega arith) less))),
-          λ i le less. let below : i < length xs = rw length-map at less in
-              turned _ key Greater (at_key f (λ k. key_order k key ≡ Greater) xs i below
-              (λ d. parts.1 i d le below)),
-        ),
-      )
 
 -- a key goes among others from one index on, and not after another
 abbrev pub GoesWithin : List (List ℕ) → List ℕ → ℕ → ℕ → Type 0

@@ -4,8 +4,8 @@ use Rattle.std.specs.Prelude.{◌≡◌, ◌↔◌, ◌<◌, ◌≤◌, ℕ, Lis
 use Rattle.std.specs.declared.cmp.Ordering.{Ordering}
 use Rattle.std.specs.declared.cmp.Ordering.TheVariants.{Less, Greater}
 use Rattle.std.specs.Cmp.Lexicographic.{slice_cmp}
-use Rattle.std.specs.List.{AllByRecursion}
-use Rattle.std.specs.List.Sorted.{IsStrictlySortedBy}
+use Rattle.std.specs.List.{AllByRecursion, range_with_len}
+use Rattle.std.specs.List.Sorted.{IsPermutation, IsStrictlySortedBy}
 use Rattle.std.specs.Map.{keys_of, lookup}
 use Rattle.std.specs.BTreeMap.{is_at}
 use Rattle.std.specs.Ordering.{nat_cmp}
@@ -46,10 +46,11 @@ with_ids texts ids = map (λ id. (text_at texts id, id)) ids
 abbrev pub texts_of : Inside → List (List ℕ)
 texts_of a = map bytes_at a.texts.items
 
--- the ids are in the order of their texts, and each text is found under its own
+-- all ids are in the order of their texts, and each text is found under its own
 pub record IsOrderOf (texts : List (List ℕ)) (ids : List ℕ) : Type 0 where
   pub sorted : IsStrictlySortedBy key_order (keys_of (with_ids texts ids))
   pub within : AllByRecursion (λ id. id < length texts) ids
+  pub all : IsPermutation (range_with_len 0 (length texts)) ids
   pub found : (text : List ℕ) (id : ℕ)
       → (lookup (is_at (key_order text)) (with_ids texts ids) ≡ Some id)
       ↔ (slice_get texts id ≡ Some text)

@@ -1,12 +1,14 @@
 //! An index of texts: their ids in the order of the texts, in runs of a bounded length.
 //!
 //! A search bisects the first ids of the runs, and then one run. A new id moves the ids after it in
-//! its run alone, and a run that is full is split.
-ghost use Rattle.std.specs.Prelude.{◌≡◌, ◌+◌, ◌^◌, ◌≤◌, ◌<◌, ℕ, length, List, [], ◌∷◌, map, slice_get, Some, IfOk, IfErr, OnOk, OnErr};
-ghost use Rattle.std.specs.List.{insert};
+//! its run alone, and a run that is full is split. The first run is searched alone until there is
+//! another, so a small index is one run.
+ghost use Rattle.std.specs.Prelude.{◌≡◌, ◌+◌, ◌^◌, ◌≤◌, ◌<◌, ℕ, length, List, [], map, slice_get, Some, IfOk, IfErr, OnOk, OnErr};
+ghost use Rattle.std.specs.List.{AllByRecursion, insert};
 ghost use Rattle.std.specs.Vec.{vec_len, vec_capacity};
 ghost use Rattle.inline_uses.specs.Symbols.{IsGap};
-ghost use Rattle.inline_uses.specs.Index.{IsIndex, IsSpot, ids_at, ids_in, index_of};
+ghost use Rattle.inline_uses.specs.Index.{IsChanged, IsIndex, IsOrdered, IsSplit, IsSpot, ids_at, ids_in, ids_of, index_of, runs_of};
+ghost use Rattle.inline_uses.specs.declared.index.TheConstants.{FULL, HALF};
 
 use run::Run;
 use std::alloc::{AllocError, Global};
@@ -33,9 +35,9 @@ const HALF: usize = 128;
 /// Ids in the order of their texts.
 #[derive(Drop)]
 pub(crate) struct Index {
-    alloc: Global,
-    runs: Vec<Run>,
-    /// The first id of each run except the first run.
+    first: Run,
+    later: Vec<Run>,
+    /// The first id of each later run.
     starts: Run,
 }
 
@@ -53,13 +55,14 @@ impl Index {
         ensures index { (text_of : ℕ → List ℕ) → IsIndex text_of result }
     {
         Index {
-            alloc,
-            runs: Vec::new(alloc),
+            first: Run::new(alloc),
+            later: Vec::new(alloc),
             starts: Run::new(alloc),
         }
     }
 
-    /// Returns the id of a text, or else where its id goes.
+    /// Returns the id of a text, or else where its id goes. Does not allocate.
+    #[inline]
     pub(crate) fn find<T: Texts>(&self, texts: &T, text: &str) -> Result<usize, Spot>
         requires { IsIndex (T.text_of texts.now) self.now }
         ensures found { IfOk result (λ id. (at : ℕ)
@@ -69,17 +72,58 @@ impl Index {
         ensures gap { IfErr result (λ spot. IsGap (map (T.text_of texts.now) (ids_in self.now))
             text.now (index_of self.now spot)) }
     {
-        let run = match self.starts.search(texts, text) {
-            Ok(at) => return Ok(self.starts.id(at)),
-            Err(run) => run,
-        };
-        let Some(searched) = self.runs.get(run) else {
-            return Err(Spot { run, at: 0 });
-        };
+        if self.later.is_empty() {
+            return self.find_in(texts, text, 0);
+        }
+        self.find_among_runs(texts, text)
+    }
+
+    /// Finds a text in an index of several runs.
+    #[inline(never)]
+    fn find_among_runs<T: Texts>(&self, texts: &T, text: &str) -> Result<usize, Spot>
+        requires { IsIndex (T.text_of texts.now) self.now }
+        ensures found { IfOk result (λ id. (at : ℕ)
+            × (slice_get (map (T.text_of texts.now) (ids_in self.now)) at ≡ Some text.now)
+            × (slice_get (ids_in self.now) at ≡ Some id)) }
+        ensures spot { IfErr result (IsSpot self.now) }
+        ensures gap { IfErr result (λ spot. IsGap (map (T.text_of texts.now) (ids_in self.now))
+            text.now (index_of self.now spot)) }
+    {
+        match self.starts.search(texts, text) {
+            Ok(at) => Ok(self.starts.id(at)),
+            Err(run) => self.find_in(texts, text, run),
+        }
+    }
+
+    /// Finds a text in the run in which it goes.
+    #[inline]
+    fn find_in<T: Texts>(&self, texts: &T, text: &str, run: usize) -> Result<usize, Spot>
+        requires index { IsIndex (T.text_of texts.now) self.now }
+        requires gap { IsGap (map (T.text_of texts.now) (ids_of self.now.starts)) text.now run }
+        ensures found { IfOk result (λ id. (at : ℕ)
+            × (slice_get (map (T.text_of texts.now) (ids_in self.now)) at ≡ Some text.now)
+            × (slice_get (ids_in self.now) at ≡ Some id)) }
+        ensures spot { IfErr result (IsSpot self.now) }
+        ensures gap { IfErr result (λ spot. IsGap (map (T.text_of texts.now) (ids_in self.now))
+            text.now (index_of self.now spot)) }
+    {
+        let searched = self.run(run);
         match searched.search(texts, text) {
             Ok(at) => Ok(searched.id(at)),
             Err(at) => Err(Spot { run, at }),
         }
+    }
+
+    /// Returns the run at an index.
+    #[inline]
+    fn run(&self, at: usize) -> &Run
+        requires { at ≤ length self.now.later.items }
+        ensures { slice_get (runs_of self.now) at ≡ Some result.now }
+    {
+        if at == 0 {
+            return &self.first;
+        }
+        &self.later[at - 1]
     }
 
     /// Inserts the id of a text where it goes. Fails only if an allocation does; the ids are then
@@ -99,34 +143,17 @@ impl Index {
             (ids_in self.new ≡ insert (ids_in self.old) (index_of self.old spot) id) }
         ensures err { OnErr result (ids_in self.new ≡ ids_in self.old) }
     {
-        let Some(run) = self.runs.get(spot.run) else {
-            return self.insert_first(texts, id);
-        };
-        if run.len() < FULL {
+        if self.run(spot.run).len() < FULL {
             return self.insert_at(texts, spot, id);
         }
         let spot = self.split(texts, spot)?;
         self.insert_at(texts, spot, id)
     }
 
-    /// Inserts the id of the first text.
-    fn insert_first<T: Texts>(&mut self, texts: &T, id: usize) -> Result<(), AllocError>
-        requires none { self.old.runs.items ≡ [] }
-        requires index { IsIndex (T.text_of texts.now) self.old }
-        ensures index { IsIndex (T.text_of texts.now) self.new }
-        ensures ok { OnOk result (ids_in self.new ≡ id ∷ []) }
-        ensures err { OnErr result (ids_in self.new ≡ []) }
-    {
-        let mut run = Run::new(self.alloc);
-        run.reserve()?;
-        run.put(texts, 0, id);
-        self.runs.push(run)?;
-        Ok(())
-    }
-
-    /// Inserts an id into its run.
+    /// Inserts an id into its run, which is not full. Fails only if an allocation does; the ids are
+    /// then unchanged.
     fn insert_at<T: Texts>(&mut self, texts: &T, spot: Spot, id: usize) -> Result<(), AllocError>
-        requires run { spot.run < length self.old.runs.items }
+        requires room { length (ids_at (runs_of self.old) spot.run) < FULL }
         requires index { IsIndex (T.text_of texts.now) self.old }
         requires spot { IsSpot self.old spot }
         requires gap { IsGap (map (T.text_of texts.now) (ids_in self.old))
@@ -136,31 +163,62 @@ impl Index {
             (ids_in self.new ≡ insert (ids_in self.old) (index_of self.old spot) id) }
         ensures err { OnErr result (ids_in self.new ≡ ids_in self.old) }
     {
-        let run = &mut self.runs[spot.run];
-        run.reserve()?;
-        run.put(texts, spot.at, id);
-        Ok(())
+        if spot.run == 0 {
+            return self.first.add(texts, spot.at, id);
+        }
+        self.later[spot.run - 1].add(texts, spot.at, id)
     }
 
-    /// Splits the run of a spot, and returns where the spot is then. Fails only if an allocation
-    /// does; the ids are unchanged in either case.
+    /// Splits the run of a spot, which is full, and returns where the spot is then. Fails only if
+    /// an allocation does; the ids are unchanged in either case.
     fn split<T: Texts>(&mut self, texts: &T, spot: Spot) -> Result<Spot, AllocError>
-        requires run { spot.run < length self.old.runs.items }
-        requires long { 128 < length (ids_at self.old.runs.items spot.run) }
+        requires full { length (ids_at (runs_of self.old) spot.run) ≡ 256 }
         requires index { IsIndex (T.text_of texts.now) self.old }
         requires spot { IsSpot self.old spot }
         ensures index { IsIndex (T.text_of texts.now) self.new }
         ensures ids { ids_in self.new ≡ ids_in self.old }
-        ensures run { IfOk result (λ moved. moved.run < length self.new.runs.items) }
+        ensures room { IfOk result (λ moved. length (ids_at (runs_of self.new) moved.run) ≡ HALF) }
         ensures spot { IfOk result (IsSpot self.new) }
         ensures at { IfOk result (λ moved. index_of self.new moved ≡ index_of self.old spot) }
     {
-        self.runs.reserve(1)?;
+        self.later.reserve(1)?;
         self.starts.reserve()?;
-        let upper = self.runs[spot.run].split(texts, HALF)?;
+        let upper = self.split_run(texts, spot.run)?;
         self.starts.put(texts, spot.run, upper.id(0));
-        insert_run(&mut self.runs, spot.run + 1, upper);
+        insert_run(&mut self.later, spot.run, upper);
         Ok(spot.after_split())
+    }
+
+    /// Moves the upper half of a full run into a run of its own. Fails only if an allocation does;
+    /// the ids are then unchanged.
+    fn split_run<T: Texts>(&mut self, texts: &T, at: usize) -> Result<Run, AllocError>
+        requires within { at ≤ length self.old.later.items }
+        requires runs { AllByRecursion (IsOrdered (T.text_of texts.now)) (runs_of self.old) }
+        requires full { length (ids_at (runs_of self.old) at) ≡ 256 }
+        ensures len { vec_len self.new.later ≡ vec_len self.old.later }
+        ensures capacity { vec_capacity self.new.later ≡ vec_capacity self.old.later }
+        ensures starts { self.new.starts ≡ self.old.starts }
+        ensures ok { IfOk result (IsSplit (T.text_of texts.now) self.old self.new at) }
+        ensures err { OnErr result
+            (IsChanged (T.text_of texts.now) self.old self.new at (λ ids. ids)) }
+    {
+        if at == 0 {
+            return self.first.split(texts, HALF);
+        }
+        self.later[at - 1].split(texts, HALF)
+    }
+
+    /// Returns the ids in the order of their texts, in a row with room for this many. Fails only if
+    /// an allocation does.
+    pub(crate) fn ids(&self, alloc: Global, count: usize) -> Result<Vec<usize>, AllocError>
+        ensures { IfOk result (λ ids. ids.items ≡ ids_in self.now) }
+    {
+        let mut ids = Vec::with_capacity(alloc, count)?;
+        self.first.append_to(&mut ids)?;
+        for run in self.later.iter() {
+            run.append_to(&mut ids)?;
+        }
+        Ok(ids)
     }
 }
 
@@ -177,8 +235,9 @@ impl Spot {
     /// Returns where a spot of a run is after the run is split.
     fn after_split(self) -> Spot
         requires { self.run + 1 < 2 ^ 64 }
-        ensures lower { self.at ≤ 128 → result ≡ self }
-        ensures upper { 128 < self.at → (result.run ≡ self.run + 1) × (result.at + 128 ≡ self.at) }
+        ensures lower { self.at ≤ HALF → result ≡ self }
+        ensures upper { HALF < self.at
+            → (result.run ≡ self.run + 1) × (result.at + HALF ≡ self.at) }
     {
         if self.at <= HALF {
             return self;

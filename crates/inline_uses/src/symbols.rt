@@ -1,7 +1,8 @@
 //! A symbol table: each text has an id, and each id its text.
 ghost use Rattle.std.specs.Prelude.{◌≡◌, ℕ, ◌↔◌, List, [], ◌∷◌, ◌++◌, map, length, slice_get, Some, Ok, IfOk, IfErr, OnErr, OnOk, IsTrue, option_copied};
 ghost use Rattle.std.specs.Map.{keys_of};
-ghost use Rattle.std.specs.List.Sorted.{IsStrictlySortedBy};
+ghost use Rattle.std.specs.List.{range_with_len};
+ghost use Rattle.std.specs.List.Sorted.{IsPermutation, IsStrictlySortedBy};
 ghost use Rattle.inline_uses.specs.Symbols.{IsGap, bytes_at, key_order, text_at, with_ids};
 
 use crate::index::{Index, Texts};
@@ -12,8 +13,9 @@ use std::marker::Model;
 
 /// Texts with their ids: a new text gets the number of those before it. Each is stored once, beside
 /// an index of the ids in the order of their texts. A search takes a number of comparisons that is
-/// logarithmic in the number of texts, whatever they are, since nothing is hashed; a new text moves
-/// only ids next to its own. A contract sees the list of the texts, each as its bytes.
+/// logarithmic in the number of texts, whatever they are, since nothing is hashed. A new text moves
+/// the ids of at most 255 others; now and then it splits their run, which moves the runs after it,
+/// or goes over the texts of the run. A contract sees the list of the texts, each as its bytes.
 #[derive(Drop)]
 pub struct Symbols {
     alloc: Global,
@@ -100,6 +102,24 @@ impl Symbols {
                 }
             }
         }
+    }
+
+    /// Returns the texts by their ids.
+    pub fn texts(&self) -> &[InlinableString]
+        ensures { map bytes_at result.now ≡ self.now }
+    {
+        self.texts.as_slice()
+    }
+
+    /// Returns all ids in the order of their texts, with one request for memory. Fails only if an
+    /// allocation does.
+    pub fn ids_in_order(&self, alloc: Global) -> Result<Vec<usize>, AllocError>
+        ensures ids { IfOk result (λ ids.
+            IsPermutation (range_with_len 0 (length self.now)) ids.items) }
+        ensures order { IfOk result (λ ids.
+            IsStrictlySortedBy key_order (map (text_at self.now) ids.items)) }
+    {
+        self.order.ids(alloc, self.texts.len())
     }
 }
 

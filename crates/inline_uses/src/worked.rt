@@ -3,6 +3,7 @@ ghost use Rattle.std.specs.Prelude.{◌≡◌, [], ◌∷◌, true, false, map, 
 ghost use Rattle.std.specs.Str.{chars};
 ghost use Rattle.serde_json.specs.Data.{null, string, object, no_members, member};
 ghost use Rattle.inline_uses.specs.Editor.{parts_of, text_of};
+ghost use Rattle.inline_uses.specs.Rows.{moves_head};
 ghost use Rattle.inline_uses.specs.Store.{entries_between, value_of, with_members, with_value, without};
 ghost use Rattle.inline_uses.specs.Symbols.{key_order, text_at, with_ids};
 ghost use Rattle.inline_uses.specs.Tokens.{continues, column_after, escape_of, is_solid_kind, kind_at, newlines, unescaped, AreTokens, Fails, IsStop, IsToken, StopsAt};
@@ -51,6 +52,13 @@ pub fn values_have_their_faults()
         LongKey) }
     ensures taken { ¬ (IsFaultOf 1 null Taken) }
     ensures no_node { ¬ (IsFaultOf 1 null NoNode) }
+{}
+
+/// Among 64 entries or more those before an index move if they are fewer.
+pub fn many_entries_move_on_their_shorter_side()
+    ensures few { moves_head 63 0 ≡ false }
+    ensures many { moves_head 64 31 ≡ true }
+    ensures middle { moves_head 64 32 ≡ false }
 {}
 
 /// A key is below what goes on after it.

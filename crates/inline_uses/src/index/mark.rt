@@ -1,8 +1,9 @@
 //! An id beside a part of its text, which decides most comparisons.
-ghost use Rattle.std.specs.Prelude.{◌≡◌, ◌<◌, drop, slice_index};
+ghost use Rattle.std.specs.Prelude.{◌≡◌, ◌<◌, length, drop};
 ghost use Rattle.std.specs.Int.{from_be_bytes, w64};
 ghost use Rattle.std.specs.List.{AllByRecursion};
 ghost use Rattle.inline_uses.specs.Index.{mark_order};
+ghost use Rattle.inline_uses.specs.Symbols.{key_order};
 
 use super::Texts;
 use std::cmp::Ordering;
@@ -36,29 +37,20 @@ fn rest_of(bytes: &[u8], skipped: usize) -> &[u8]
     &bytes[skipped.min(bytes.len())..]
 }
 
-/// The same of fewer than eight bytes.
+/// Returns the same number of fewer than eight bytes.
 fn bits_of_few(bytes: &[u8]) -> u64
+    requires { length bytes.now < 8 }
     ensures { result ≡ from_be_bytes w64 bytes.now }
 {
-    u64::from_be_bytes([
-        byte_at(bytes, 0),
-        byte_at(bytes, 1),
-        byte_at(bytes, 2),
-        byte_at(bytes, 3),
-        byte_at(bytes, 4),
-        byte_at(bytes, 5),
-        byte_at(bytes, 6),
-        byte_at(bytes, 7),
-    ])
-}
-
-/// Returns the byte at an index, or 0 past the end.
-fn byte_at(bytes: &[u8], at: usize) -> u8
-    ensures { result ≡ slice_index bytes.now at }
-{
-    match bytes.get(at) {
-        Some(byte) => *byte,
-        None => 0,
+    match bytes {
+        [] => 0,
+        [a] => u64::from_be_bytes([*a, 0, 0, 0, 0, 0, 0, 0]),
+        [a, b] => u64::from_be_bytes([*a, *b, 0, 0, 0, 0, 0, 0]),
+        [a, b, c] => u64::from_be_bytes([*a, *b, *c, 0, 0, 0, 0, 0]),
+        [a, b, c, d] => u64::from_be_bytes([*a, *b, *c, *d, 0, 0, 0, 0]),
+        [a, b, c, d, e] => u64::from_be_bytes([*a, *b, *c, *d, *e, 0, 0, 0]),
+        [a, b, c, d, e, f] => u64::from_be_bytes([*a, *b, *c, *d, *e, *f, 0, 0]),
+        [a, b, c, d, e, f, g, ..] => u64::from_be_bytes([*a, *b, *c, *d, *e, *f, *g, 0]),
     }
 }
 
@@ -73,6 +65,19 @@ pub(super) fn compare<T: Texts>(texts: &T, mark: &Mark, bits: u64, text: &str) -
     } else if bits < mark.bits {
         Ordering::Greater
     } else {
-        texts.text(mark.id).cmp(text)
+        compare_texts(texts.text(mark.id), text)
+    }
+}
+
+/// Returns how two texts compare. As texts, their first 16 bytes are compared at once; as bytes,
+/// what longer ones have in common is passed by wide steps.
+#[inline]
+pub(super) fn compare_texts(known: &str, text: &str) -> Ordering
+    ensures { result ≡ key_order known.now text.now }
+{
+    if text.len() <= 16 {
+        known.cmp(text)
+    } else {
+        known.as_bytes().cmp(text.as_bytes())
     }
 }

@@ -1,12 +1,18 @@
-use Rattle.std.proofs.Common.{arith, refl}
-use Rattle.std.proofs.lemmas.Option.{slice_get_read}
+use Rattle.std.proofs.Common.{arith, sym}
+use Rattle.inline_uses.specs.Index.{runs_of}
 use Rattle.inline_uses.proofs.InRuns.{ids_at_is}
+use Rattle.inline_uses.proofs.RunEdits.{all_at}
+use Rattle.inline_uses.proofs.RunSets.{IsShort}
 use Rattle.inline_uses.proofs.index.Index.insert.Goals as goal
 
-pub split-requires-clause-long : goal.split-requires-clause-long
-split-requires-clause-long g c =
-    let lookup = rw c.deref.ensures.value at c.in-Some.ensures.lookup in
-    let is = slice_get_read c.args.self.now.runs.items _ c.args.spot.run c.in-Some.run'.now refl
-    lookup.3.0 lookup.1 in
-    rw (ids_at_is c.args.self.now.runs.items c.args.spot.run c.in-Some.run'.now is)
-    (omega (arith, c.if-len-lt-FULL.false, c.len.ensures))
+pub insert_at-requires-clause-room : goal.insert_at-requires-clause-room
+insert_at-requires-clause-room g c =
+    rw (ids_at_is (runs_of c.args.self.now) c.args.spot.run c.run.result.now c.run.ensures)
+    (omega (arith, c.if-len-lt-FULL.true, c.len.ensures))
+
+pub split-requires-clause-full : goal.split-requires-clause-full
+split-requires-clause-full g c =
+    let short = all_at IsShort (runs_of c.args.self.now) c.args.spot.run c.run.result.now
+    c.requires.index.short (sym c.run.ensures) in
+    rw (ids_at_is (runs_of c.args.self.now) c.args.spot.run c.run.result.now c.run.ensures)
+    (omega (arith, c.if-len-lt-FULL.false, c.len.ensures, short))

@@ -1,0 +1,104 @@
+-- How many first bytes texts have in common.
+use Rattle.std.proofs.Common.{arith, ◌≡◌, ◌≢◌, ℕ, zero, suc, ◌-◌, ◌<◌, ◌≤◌, min, List, [], ◌∷◌, map, length, take, get_or, Ordering, Less, Equal, Greater, Some, refl, sym, ap, subst, ◌∙◌}
+use Rattle.std.proofs.lemmas.Cmp.{nat_cmp_total, ranked, tied_itself}
+use Rattle.std.specs.Ordering.{match_ordering, nat_cmp}
+use Rattle.std.specs.Prelude.{slice_get}
+use Rattle.inline_uses.specs.Index.{IsMark, common, first_front, last_of, longest_front}
+use Rattle.inline_uses.specs.declared.index.mark.Mark.{Mark}
+use Rattle.inline_uses.proofs.IndexRuns.{AreMarks, texts_of}
+use Rattle.inline_uses.proofs.RunEdits.{all_at}
+
+-- texts that begin alike have that in common
+pub common_least : (xs ys : List ℕ) (n : ℕ) → take n xs ≡ take n ys → n ≤ length xs
+    → n ≤ length ys → n ≤ common xs ys
+common_least xs ys zero same one other = omega arith
+common_least [] ys (suc n) same one other = absurd (omega (arith, one))
+common_least (x ∷ xs) [] (suc n) same one other = absurd (omega (arith, other))
+common_least (x ∷ xs) (y ∷ ys) (suc n) same one other =
+    let heads : x ≡ y = cc in
+    let tails : take n xs ≡ take n ys = cc in
+    let rest = common_least xs ys n tails (omega (arith, one)) (omega (arith, other)) in
+    rw (heads, tied_itself nat_cmp_total y) (omega (arith, rest))
+
+-- what texts have in common is so of each front of it
+pub common_take : (xs ys : List ℕ) (n : ℕ) → n ≤ common xs ys → take n xs ≡ take n ys
+common_take xs ys zero within = refl
+common_take [] ys (suc n) within = absurd (omega (arith, within))
+common_take (x ∷ xs) [] (suc n) within = absurd (omega (arith, within))
+common_take (x ∷ xs) (y ∷ ys) (suc n) within =
+    by (nat_cmp x y) refl within (common_take xs ys n)
+  where
+    by : (o : Ordering) → nat_cmp x y ≡ o → suc n ≤ match_ordering o 0 (suc (common xs ys)) 0
+        → (n ≤ common xs ys → take n xs ≡ take n ys) → x ∷ take n xs ≡ y ∷ take n ys
+    by Less is within rest = absurd (omega (arith, within))
+    by Equal is within rest =
+        let heads : x ≡ y = ranked x y Equal (sym is) in
+        let tails = rest (omega (arith, within)) in
+        cc
+    by Greater is within rest = absurd (omega (arith, within))
+
+-- fronts that differ are longer than that
+pub common_less : (xs ys : List ℕ) (n : ℕ) → take n xs ≢ take n ys → common xs ys < n
+common_less xs ys n differ =
+    let within : n ≤ common xs ys → ⊥ = λ le. differ (common_take xs ys n le) in
+    grind (arith, within)
+
+-- texts that differ at an index have no more in common
+pub common_most : (xs ys : List ℕ) (n : ℕ) → n < length xs → n < length ys
+    → get_or xs n 0 ≢ get_or ys n 0 → common xs ys ≤ n
+common_most [] ys n one other differ = absurd (omega (arith, one))
+common_most (x ∷ xs) [] n one other differ = absurd (omega (arith, other))
+common_most (x ∷ xs) (y ∷ ys) zero one other differ = by (nat_cmp x y) refl
+  where
+    by : (o : Ordering) → nat_cmp x y ≡ o → match_ordering o 0 (suc (common xs ys)) 0 ≤ 0
+    by Less is = omega arith
+    by Equal is = absurd (differ (ranked x y Equal (sym is)))
+    by Greater is = omega arith
+common_most (x ∷ xs) (y ∷ ys) (suc n) one other differ =
+    by (nat_cmp x y) (common_most xs ys n (omega (arith, one)) (omega (arith, other)) differ)
+  where
+    by : (o : Ordering) → common xs ys ≤ n → match_ordering o 0 (suc (common xs ys)) 0 ≤ suc n
+    by Less rest = omega arith
+    by Equal rest = omega (arith, rest)
+    by Greater rest = omega arith
+
+-- texts have no more in common than they have
+pub common_within : (xs ys : List ℕ) → (common xs ys ≤ length xs) × (common xs ys ≤ length ys)
+common_within [] ys = (omega arith, omega arith)
+common_within (x ∷ xs) [] = (omega arith, omega arith)
+common_within (x ∷ xs) (y ∷ ys) = by (nat_cmp x y) (common_within xs ys)
+  where
+    by : (o : Ordering) → (common xs ys ≤ length xs) × (common xs ys ≤ length ys)
+        → (match_ordering o 0 (suc (common xs ys)) 0 ≤ suc (length xs))
+        × (match_ordering o 0 (suc (common xs ys)) 0 ≤ suc (length ys))
+    by Less rest = (omega arith, omega arith)
+    by Equal rest = (omega (arith, rest.0), omega (arith, rest.1))
+    by Greater rest = (omega arith, omega arith)
+
+-- the first and the last text of marks have their front
+pub ends_share : (text_of : ℕ → List ℕ) (len : ℕ) (marks : List Mark) (first last : Mark)
+    → AreMarks text_of len marks → Some first ≡ slice_get marks 0
+    → Some last ≡ slice_get marks (length marks - 1)
+    → take len (text_of first.id) ≡ take len (text_of last.id)
+ends_share text_of len marks first last are is ends =
+    let front = first_front len (texts_of text_of marks) in
+    (all_at (IsMark text_of len front) marks 0 first are is).begins
+    ∙ sym (all_at (IsMark text_of len front) marks (length marks - 1) last are ends).begins
+
+last_is : (m last : Mark) (marks : List Mark) → Some last ≡ slice_get (m ∷ marks) (length marks)
+    → last_of m.id (map (λ m. m.id) marks) ≡ last.id
+last_is m last [] is = let same : m ≡ last = cc in ap (λ m. m.id) same
+last_is m last (next ∷ marks) is = last_is next last marks is
+
+-- the longest front of marks is what the first and the last text have in common
+pub longest_is : (text_of : ℕ → List ℕ) (marks : List Mark) (first last : Mark) (front : ℕ)
+    → Some first ≡ slice_get marks 0 → Some last ≡ slice_get marks (length marks - 1)
+    → front ≡ min 256 (common (text_of first.id) (text_of last.id))
+    → longest_front text_of (map (λ m. m.id) marks) ≡ front
+longest_is text_of [] first last front is ends shared = cc
+longest_is text_of (m ∷ marks) first last front is ends shared =
+    let head : m ≡ first = cc in
+    let count : length (m ∷ marks) - 1 ≡ length marks = omega arith in
+    let end = last_is m last marks
+    (subst (λ i. Some last ≡ slice_get (m ∷ marks) i) count ends) in
+    rw (end, head) (sym shared)
