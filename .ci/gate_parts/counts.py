@@ -2,7 +2,8 @@
 
 A line of a crate has at most 100 columns, unless it imports; a file at most 500 lines; a lemma with its type or
 an answer to a goal at most 30, comments aside. Each path or name that a document has in backticks is in the
-tree. No document or comment of a source has a word of ODD, of a dialect that the tree was once written in.
+tree. No document or comment of a source has a word of ODD, of a dialect that the tree was once written in. No code
+names a trait of FORBIDDEN.
 """
 import os
 import re
@@ -21,6 +22,8 @@ CHECKED, SOURCES = ('.rt', '.antt'), ('.rt', '.antt', '.py', '.rs', '.cpp')
 READ = (*SOURCES, '.edits', '.md')
 TEST_MODULE = re.compile(r'^#\[cfg\(test\)\]\n *mod (\w+);', re.MULTILINE)
 UNSAFE_BLOCK = re.compile(r'^(?! *//).*\bunsafe \{', re.MULTILINE)
+# Traits of std that are to go, which its rules let no crate implement, nor ask of a type. Comments may name them.
+FORBIDDEN = re.compile(r'^(?! *//).*\b(Comparable|Equivalent)\b', re.MULTILINE)
 IMPORT = re.compile(r' *(pub )?(ghost )?(use|mod) ')
 # The name of a declaration, after what may stand before one.
 DECLARED = re.compile(r' *(?:(?:pub|abbrev|record) )*([^\s:({]+)')
@@ -92,6 +95,12 @@ def unknown_unsafe(texts):
         if path.endswith('.rt'):
             found['library' if path.split('/')[1] == LIBRARY else 'others'] += len(UNSAFE_BLOCK.findall(text))
     return [] if found == Counter(UNSAFE) else [f'unsafe blocks: {dict(found)}, and {UNSAFE} are known']
+
+
+def forbidden_traits(texts):
+    """In words, each line of code that names a trait of FORBIDDEN."""
+    return [f'{path}: no code may name `{name}`' for path, text in texts.items() if path.endswith('.rt')
+            for name in FORBIDDEN.findall(text)]
 
 
 def proofs_in(text):
@@ -177,7 +186,7 @@ def main(_):
     texts = texts_by_path()
     print_lines(texts)
     (proofs, wrong), (cited, absent) = too_long(texts), missing(texts)
-    wrong += [*absent, *odd_words(texts), *unknown_unsafe(texts),
+    wrong += [*absent, *odd_words(texts), *unknown_unsafe(texts), *forbidden_traits(texts),
               *too_few({'proofs': proofs, 'names': cited}, {'proofs': PROOFS, 'names': CITED})]
     print(*wrong, f'{proofs} proofs and {cited} names were looked at, {len(wrong)} faults', sep='\n')
     return not wrong

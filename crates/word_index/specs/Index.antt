@@ -1,5 +1,5 @@
 -- The words of a text, and a list of them with their uses.
-use Rattle.std.specs.Prelude.{◌≡◌, ℕ, ◌+◌, ◌<◌, ◌^◌, ◌-◌, min, List, [], ◌∷◌, ◌++◌, length, map, Option, Some, None}
+use Rattle.std.specs.Prelude.{◌≡◌, ℕ, ◌+◌, ◌<◌, ◌^◌, ◌-◌, min, List, [], ◌∷◌, ◌++◌, length, Option, Some, None}
 use Rattle.std.specs.Borrow.{Bor}
 use Rattle.std.specs.BTreeMap.{insert_entry, is_at}
 use Rattle.std.specs.Char.{is_whitespace, is_not_whitespace}
@@ -21,12 +21,6 @@ Entries = List (List ℕ × Uses)
 abbrev pub bytes_at : InlinableStringN 30 → List ℕ
 bytes_at t = bytes_of (inlinable_state 30 t).text
 
-abbrev pub entry_of : InlinableStringN 30 × Uses → List ℕ × Uses
-entry_of e = (bytes_at e.0, e.1)
-
-abbrev pub entries_of : Inside → Entries
-entries_of a = map entry_of a.uses.entries
-
 -- an entry that is lent
 abbrev pub shown : Bor (InlinableStringN 30) × Uses → List ℕ × Uses
 shown e = (bytes_at e.0.now, e.1)
@@ -38,6 +32,18 @@ use_of entries word = lookup (is_at (slice_cmp nat_cmp word)) entries
 -- the entries with these uses of a word
 abbrev pub with_use : Entries → List ℕ → Uses → Entries
 with_use entries word uses = insert_entry (slice_cmp nat_cmp) entries word uses
+
+-- entries, and then each of these words with its uses, where it goes in the order
+abbrev pub with_all : Entries → List (List ℕ) → List Uses → Entries
+with_all entries (word ∷ words) (uses ∷ rest) = with_all (with_use entries word uses) words rest
+with_all entries _ _ = entries
+
+abbrev pub entries_of : Inside → Entries
+entries_of a = with_all [] a.words a.uses.items
+
+-- each word has its uses
+abbrev pub HaveUses : Inside → Type 0
+HaveUses a = length a.uses.items ≡ length a.words
 
 -- uses with one more: a count stops at the greatest number, and the first line stays
 abbrev pub used : Option Uses → ℕ → Uses

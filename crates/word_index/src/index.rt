@@ -1,17 +1,12 @@
 //! The words of a text: how often each is used, and where first.
-ghost use Rattle.std.specs.Prelude.{◌≡◌, ◌-◌, ◌^◌, List, [], ℕ, map, IfOk, OnOk, OnErr};
+ghost use Rattle.std.specs.Prelude.{◌≡◌, ◌-◌, ◌<◌, ◌^◌, List, [], ℕ, map, slice_get, Some, IfOk, OnOk, OnErr};
 ghost use Rattle.std.specs.List.Sorted.{IsPermutation, IsNonDecreasingBy};
-ghost use Rattle.std.specs.Cmp.Lexicographic.{nat_list_cmp_total, slice_cmp};
-ghost use Rattle.std.specs.Ordering.{nat_cmp};
-ghost use Rattle.std.specs.BTreeMap.Comparable.{le_lt_trans};
-ghost use Rattle.word_index.specs.Index.{bytes_at, use_of, with_use, used, with_words, shown, AreWords};
+ghost use Rattle.std.specs.Vec.{vec_len, vec_capacity};
+ghost use Rattle.word_index.specs.Index.{use_of, with_use, used, with_words, shown, AreWords};
 
-use inlinable_string::laws::bytes_of_parts;
-use inlinable_string::{InlinableString, StringExt, StringMake};
+use inlinable_string::InlinableString;
+use inline_uses::symbols::Symbols;
 use std::alloc::{AllocError, Global};
-use std::cmp::Ordering;
-use std::collections::BTreeMap;
-use std::collections::btree_map::Comparable;
 use std::marker::Model;
 
 /// How often a word is used, and the number of the line of its first use.
@@ -21,20 +16,22 @@ pub struct Uses {
     pub line: usize,
 }
 
-/// The words of a text with their uses. A contract sees the list of them, each word as its bytes,
-/// in the order of the words.
+/// The words of a text with their uses, which are in a row by the ids of the words. A contract sees
+/// the list of them, each word as its bytes, in the order of the words.
 #[derive(Drop)]
 pub struct Index {
-    alloc: Global,
-    uses: BTreeMap<InlinableString, Uses>,
+    words: Symbols,
+    uses: Vec<Uses>,
 }
 
 impl Model for Index {
-    ghost use Rattle.word_index.specs.Index.{Entries, entries_of};
+    ghost use Rattle.word_index.specs.Index.{Entries, entries_of, HaveUses};
 
     ghost Value = { Entries };
 
     ghost view = { entries_of };
+
+    ghost invariant = { HaveUses };
 }
 
 impl Index {
@@ -43,8 +40,8 @@ impl Index {
         ensures { result ≡ [] }
     {
         Index {
-            alloc,
-            uses: BTreeMap::new(alloc),
+            words: Symbols::new(alloc),
+            uses: Vec::new(alloc),
         }
     }
 
@@ -66,15 +63,13 @@ impl Index {
             (self.new ≡ with_use self.old word.now (used (use_of self.old word.now) line)) }
         ensures err { OnErr result (self.new ≡ self.old) }
     {
-        bytes_of_parts();
-        if let Some(uses) = self.uses.get_mut(Word(word)) {
+        reserve_for(&mut self.uses, &self.words, word)?;
+        let id = self.words.intern(word)?;
+        if let Some(uses) = self.uses.get_mut(id) {
             *uses = used_again(Some(*uses), line);
             return Ok(());
         }
-        let key = InlinableString::from(self.alloc, word)?;
-        let Ok(_) = self.uses.insert(key, used_again(None, line)) else {
-            return Err(AllocError);
-        };
+        self.uses.push_reserved(used_again(None, line));
         Ok(())
     }
 
@@ -85,30 +80,30 @@ impl Index {
         ensures order { IfOk result (λ ranked.
             IsNonDecreasingBy (λ e. 2 ^ 64 - 1 - e.1.count) ranked.items) }
     {
-        let mut ranked = Vec::new(alloc);
-        for (word, uses) in self.uses.iter() {
-            ranked.push((word, *uses))?;
+        let ids = self.words.ids_in_order(alloc)?;
+        let texts = self.words.texts();
+        let mut ranked = Vec::with_capacity(alloc, self.words.len())?;
+        for id in ids.iter() {
+            ranked.push((&texts[*id], self.uses[*id]))?;
         }
         ranked.sort_by_key(|entry: &(&InlinableString, Uses)| usize::MAX - entry.1.count)?;
         Ok(ranked)
     }
 }
 
-/// A word that is searched for among the words of an index.
-#[derive(Clone, Copy)]
-struct Word<'a>(&'a str);
-
-impl Comparable<InlinableString> for Word<'_> {
-    ghost compare = { λ word key. slice_cmp nat_cmp word.0.now (bytes_at key) };
-
-    ghost respects_cmp = { λ word x y.
-        nat_list_cmp_total.congr word.0.now (bytes_at x) (bytes_at y) };
-
-    ghost below_greater = { λ word x y.
-        le_lt_trans nat_list_cmp_total word.0.now (bytes_at x) (bytes_at y) };
-
-    fn compare(&self, key: &InlinableString) -> Ordering {
-        self.0.cmp(key.as_str())
+/// Makes room for the uses of a word, unless it has some. Fails only if an allocation does; in no
+/// case are the uses changed.
+fn reserve_for(uses: &mut Vec<Uses>, words: &Symbols, word: &str) -> Result<(), AllocError>
+    ensures items { uses.new.items ≡ uses.old.items }
+    ensures room { OnOk result (((id : ℕ) → ¬ (slice_get words.now id ≡ Some word.now))
+        → vec_len uses.new < vec_capacity uses.new) }
+{
+    if uses.len() < uses.capacity() {
+        return Ok(());
+    }
+    match words.find(word) {
+        Some(_) => Ok(()),
+        None => uses.reserve(1),
     }
 }
 

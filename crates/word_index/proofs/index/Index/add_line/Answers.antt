@@ -1,6 +1,5 @@
 use Rattle.std.proofs.Common.{[], ◌∷◌, ap, refl, ◌∙◌}
 use Rattle.std.specs.Str.Iter.{split_whitespace_rest}
-use Rattle.word_index.specs.Index.{with_words}
 use Rattle.word_index.proofs.Entries.{begins}
 use Rattle.word_index.proofs.index.Index.add_line.Goals as goal
 
