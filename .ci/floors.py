@@ -6,13 +6,16 @@ counts, with the reason.
 
 # Edits in `must-fail-together/` and in `must-fail/`, by crate: just as many.
 MUST_FAIL = {'inlinable_string': 16}
-EDITS = {'inlinable_string': 209, 'inline_model': 20, 'inline_uses': 71, 'script_language': 32, 'word_index': 2}
+EDITS = {'inlinable_string': 209, 'inline_model': 20, 'inline_uses': 121, 'script_language': 32, 'word_index': 4}
 
-# By crate: requests for memory refused one after the other, and how often a test met one.
-REFUSALS = {'inline_refusals': (7, 192)}
+# By crate: the last request for memory of those that fail one after the other, and how often a test met one.
+# And how many requests each test of a crate makes before the first that fails.
+REFUSALS = {'inline_refusals': (7, 192), 'inline_uses_tests': (29, 27)}
+PREPARED = {'inline_uses_tests': 24}
 
-# Edits in `wrong-bodies/`, by crate: just as many.
-WRONG_BODIES = {'inlinable_string': 19}
+# Edits in `wrong-bodies/` and `wrong-bodies-proved/`, by crate: just as many.
+WRONG_BODIES = {'inlinable_string': 19, 'inline_uses': 14}
+WRONG_BODIES_PROVED = {'inline_uses': 5}
 
 
 def each(names, words):
@@ -69,10 +72,14 @@ UNSAFE = {'library': 13, 'others': 4}
 # For `gate quick`: functions of the library that are proved, and by crate, tests that must pass without being
 # proved, and how many at most may say that they need the proved build.
 QUICK_PROVED = 14
-TRIED = {'inline_vectors': (60, 31)}
+TRIED = {'inline_vectors': (44, 26), 'inline_uses_tests': (51, 10)}
 
 # Workloads of the bench, and on how many of them each type of text is run.
 BENCH_WORKLOADS = 82
 BENCH_TEXTS = {
     'InlinableString': 74, 'String': 63,
     **{f'InlinableStringN<{capacity}>': 8 for capacity in (0, 8, 22, 30, 62)}}
+
+# By program and job, a size at which `gate bench` times it, and then at four times that: long enough to be measured,
+# and not so large that caches make most of the difference.
+GROWTH = {'jobs symbols': 40_000, 'jobs paths': 30_000, 'jobs tree': 50_000, 'word_index': 30_000}

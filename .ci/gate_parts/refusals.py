@@ -4,21 +4,24 @@ The tests of the modules `refusals` must pass each time, and each says what its 
 it makes, and how many of them are unseen, as std does without (`shrink_to_fit` and `collect` do so). One request
 more of each test is its last. A test must say `one refused` where one of its requests fails, except as often as
 it has unseen ones, `last refused` at the next, and `none refused` after it. So a call that allocates where it need
-not is found, even if it does without where that fails. Each allocation is one build of a crate's tests. Without CRATE the
-wrong bodies of `wrong-bodies/` are tried too, as docs/TESTING.md says.
+not is found, even if it does without where that fails. Each allocation is one build of a crate's tests. So that few are
+needed where a call comes after many requests, each test of a crate may make a fixed number before it, which floors.py has; of these
+none fails. Without CRATE the wrong bodies of `wrong-bodies/` and `wrong-bodies-proved/` are tried too, as docs/TESTING.md
+says.
 """
 import os
 import re
 from glob import glob
 
-from floors import REFUSALS, WRONG_BODIES
+from floors import PREPARED, REFUSALS, WRONG_BODIES, WRONG_BODIES_PROVED
 from gate_parts.edit_files import edits_of, read_edits, texts_with
-from gate_parts.rooms import Room, copies
-from gate_parts.tree import crate_folder, crates_with, run_in, too_few
+from gate_parts.rooms import Room, copies, require_proof
+from gate_parts.tree import PROCESSORS, crate_folder, crates_with, run_in, too_few
 
-OPTIONS, FOLDER = 'crates', 'wrong-bodies'
-# The allocation that fails over wrong bodies: the first that is one too many may come second.
-REQUEST = 2
+OPTIONS, FOLDER, PROVED = 'crates', 'wrong-bodies', 'wrong-bodies-proved'
+# The allocation that fails over wrong bodies: the first that is one too many may come second, except where each test
+# makes requests before a single call.
+REQUEST, REQUEST_OF_A_CALL = 2, 1
 
 # A test, and what it printed.
 TEST = re.compile(r'^test (?!result:)(\S+) [^\n]*?(\S+)$(.*?)(?=^test |\Z)', re.MULTILINE | re.DOTALL)
@@ -59,7 +62,8 @@ def faults_of(request, sayings, unseen):
 
 def is_swept(crate):
     """Fails each allocation of a crate in turn; whether all was well."""
-    unseen, meetings, request, requests = {}, 0, 0, 0
+    unseen, meetings = {}, 0
+    request = requests = PREPARED.get(crate, 0)
     while request <= requests:
         request += 1
         said = run_in(crate_folder(crate), 'rt', 'try', '--test', '--fail-alloc', str(request))[0]
@@ -74,37 +78,58 @@ def is_swept(crate):
         requests = max(int(count) for each in sayings.values() for _, count, _ in each)
     least = zip(('requests', 'meetings'), REFUSALS.get(crate, (1, 1)))
     faults = list(too_few({'requests': requests, 'meetings': meetings}, dict(least)))
-    print(f'{crate}: {requests} requests refused, {meetings} meetings', *faults, sep='\n')
+    print(f'{crate}: up to request {requests} each failed, {meetings} meetings', *faults, sep='\n')
     return not faults
 
 
-def are_refused(library, edits, named):
-    """Whether tests go wrong over these wrong bodies of a library as they say, and no other that is named."""
+def tried(top, crate):
+    """What the tests of a crate print where an allocation fails, and by name that of those that go wrong."""
+    request = PREPARED[crate] + REQUEST_OF_A_CALL if crate in PREPARED else REQUEST
+    said = run_in(crate_folder(crate, top), 'rt', 'try', '--test', '--fail-alloc', str(request))[0]
+    return said, {name: printed for name, how, printed in TEST.findall(said)
+                  if how != 'ok' or list(faults_of(request, {name: SAYING.findall(printed)}, {}))}
+
+
+def tested(top, library, crate):
+    """The same of the proved build, over a library whose bodies keep each contract."""
+    require_proof(top, library, PROCESSORS)
+    said = run_in(crate_folder(crate, top), 'rt', 'test')[0]
+    return said, {name: printed for name, how, printed in TEST.findall(said) if how != 'ok'}
+
+
+def are_refused(library, edits, named=None):
+    """Whether tests go wrong over these wrong bodies of a library as they say, and no other that is named; where
+    no names are given, those of the proved build do, and no other."""
     goals = [goal for edit in edits for goal in edit.goals]
     crate, own = goals[0].crate, {goal.function for goal in goals}
     with copies([library, crate], 1) as (top,), Room(top, library) as room:
         room.write(texts_with(crate_folder(library), edits))
-        said = run_in(crate_folder(crate, top), 'rt', 'try', '--test', '--fail-alloc', str(REQUEST))[0]
-    found = {name: printed for name, how, printed in TEST.findall(said)
-             if how != 'ok' or list(faults_of(REQUEST, {name: SAYING.findall(printed)}, {}))}
+        said, found = tested(top, library, crate) if named is None else tried(top, crate)
+    others = found.keys() - own if named is None else named & found.keys() - own
     faults = [f'{goal.function} does not go wrong with `{goal.name}`' for goal in goals
               if goal.name not in re.findall(r'\w+', found.get(goal.function, ''))]
-    faults += [f'{name} goes wrong, and no edit here names it' for name in sorted(named & found.keys() - own)]
+    faults += [f'{name} goes wrong, and no edit here names it' for name in sorted(others)]
     faults += ['a test is named twice'] * (len(own) < len(goals))
     print(f'{library}: {"NOT AS THEY MUST BE" if faults else "refused by tests"}',
           *(edit.name for edit in edits), *faults, *[said] * bool(faults), sep='\n    ', flush=True)
     return not faults
 
 
+def groups_of(folder, said):
+    """The wrong bodies in such folders, of the number that floors.py has: by library those of each file."""
+    for library in sorted({*crates_with(folder), *said}):
+        edits_of(library, folder, said)
+        whole = os.path.join(crate_folder(library), folder)
+        for path in sorted(glob(os.path.join(whole, '*'))):
+            yield library, read_edits(whole, path, library)
+
+
 def bodies_are_refused():
-    """Whether tests refuse all wrong bodies, of which there are as many as is said."""
-    libraries = {*crates_with(FOLDER), *WRONG_BODIES}
-    edits = {library: edits_of(library, FOLDER, WRONG_BODIES) for library in libraries}
-    folders = [(library, os.path.join(crate_folder(library), FOLDER)) for library in edits]
-    groups = [(library, read_edits(folder, path, library)) for library, folder in folders
-              for path in sorted(glob(os.path.join(folder, '*')))]
-    named = {function for own in edits.values() for edit in own for _, function in edit.functions()}
-    return all([are_refused(library, group, named) for library, group in groups])
+    """Whether tests refuse all wrong bodies."""
+    unproved, proved = list(groups_of(FOLDER, WRONG_BODIES)), list(groups_of(PROVED, WRONG_BODIES_PROVED))
+    named = {function for _, edits in unproved for edit in edits for _, function in edit.functions()}
+    return all([*[are_refused(library, edits, named) for library, edits in unproved],
+                *[are_refused(library, edits) for library, edits in proved]])
 
 
 def main(given):

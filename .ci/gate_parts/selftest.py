@@ -14,8 +14,9 @@ from gate_parts.tree import in_tree, run_in, text_of, write_text
 FLOORS = '''
 EDITS, MUST_FAIL, WRONG_DEFINITIONS, WRONG_CLAUSES = {'toy': 1}, {'toy': 1}, {'toy': 1}, {'toy': 1}
 CALLERS = 1
-REFUSALS, WRONG_BODIES = {'toy': (2, 3)}, {'toy': 2}
+REFUSALS, WRONG_BODIES, WRONG_BODIES_PROVED = {'toy': (2, 3)}, {'toy': 2}, {'toy': 1}
 BENCH_WORKLOADS, BENCH_TEXTS = 1, {'One': 1, 'Two': 1}
+GROWTH = {'jobs toy': 30_000, 'word_index': 4_000}
 PROOFS, CITED, UNSAFE = 2, 2, {}
 '''
 SOURCE = '''pub const LIMIT: usize = 1;
@@ -58,6 +59,7 @@ old: result ≡ LIMIT
 new: result ≡ result
 '''
 BODY = EDIT.replace('one returns-clause-value', 'refusals::first none')
+PROVED_BODY = BODY.replace('none', 'more')
 OTHER_BODY = BODY.replace('first', 'second').replace('    1', '    one()').replace('    2', '    3')
 IN_LIB = 'file: src/lib.rt\nold:'
 # A workload on two types of text, and a program that has its sum.
@@ -68,6 +70,13 @@ WORKLOADS, AT_CAPACITIES = (Workload('from 6', 'from', 6, lambda: b'input', (1, 
 '''
 SUMMING = '''#!/bin/sh
 [ "$(cat) $2 $3 $4" = "input from 6 2" ] && case $1 in One | Two) echo 11;; esac
+'''
+# A turn for each of its names or words.
+GROWING = '''#!/bin/sh
+turns=$3
+[ "$1" = toy ] || turns=$(wc -w)
+echo "$turns"
+while [ "$turns" -gt 0 ]; do turns=$((turns - 1)); done
 '''
 # It says what the variables of its environment tell it to: where WORD stands in a source or a
 # definition, the functions of REFUSED are refused, with a line ERROR before that.
@@ -83,6 +92,10 @@ def is_refused(function):
     copy = re.match('copied::r(.*)::', function)
     own = ''.join(texts[path] for path in texts if f'/E{copy[1]}' in path) if copy else text
     return crate + '/' + function.split('::')[-1] in os.environ.get('REFUSED', '').split() and os.environ['WORD'] in own
+if words[0] == 'test':
+    for name, planted in ('first', '    2\n'), ('second', '    3\n'):
+        print(f'test refusals::{name} ... ' + ('FAILED\n    ' + os.environ['FELL'] if planted in text else 'ok'))
+    sys.exit()
 if words[0] == 'try':
     for name in ('first', 'second'):
         is_wrong = {'first': '    2\n', 'second': '    3\n'}[name] in text
@@ -109,7 +122,9 @@ TOGETHER, ALONE = 'crates/toy/must-fail-together/lib.edits', 'crates/toy/must-fa
 LISTED, DEFINITIONS = 'crates/toy/must-fail/README.md', 'crates/toy/wrong-definitions/Word.edits'
 CLAUSES, LIB = 'crates/toy/wrong-clauses/lib.edits', 'crates/toy/src/lib.rt'
 BODIES, OTHER_BODIES = 'crates/toy/wrong-bodies/lib.edits', 'crates/toy/wrong-bodies/other.edits'
+PROVED_BODIES = 'crates/toy/wrong-bodies-proved/lib.edits'
 PROOF = 'crates/toy/proofs/Toy.antt'
+JOBS, WORDS = 'crates/jobs/out/jobs', 'crates/word_index/out/word_index'
 REPOSITORY = {
     '.ci/floors.py': text_of(in_tree('.ci', 'floors.py')) + FLOORS, 'HANDLES': 'Handles allowed: none.\n',
     'crates.txt': 'toy:\nabove: toy\ncallers: toy\ninline_script: toy\n', 'bin/rt': STAND_IN, 'bin/program': SUMMING,
@@ -119,9 +134,9 @@ REPOSITORY = {
     'crates/callers/src/lib.rt': SOURCE.replace('one', 'call'), TOGETHER: EDIT, LISTED: TABLE,
     'crates/inline_script/src/main.rt': 'fn main() {}\n',
     ALONE: 'file: src/lib.rt\nold:     one()\nnew:     2\n', DEFINITIONS: DEFINITION, CLAUSES: CLAUSE,
-    BODIES: BODY, OTHER_BODIES: OTHER_BODY.replace('two_for', 'three_for').replace('old:', IN_LIB),
+    BODIES: BODY, PROVED_BODIES: PROVED_BODY, OTHER_BODIES: OTHER_BODY.replace('two_for', 'three_for').replace('old:', IN_LIB),
     'bench/sums.py': text_of(in_tree('bench', 'sums.py')), 'bench/workloads.py': WORKLOADS,
-    'bench/sums': '11 from 6\n', PROOF: 'one = 1\n',
+    'bench/sums': '11 from 6\n', JOBS: GROWING, WORDS: GROWING, PROOF: 'one = 1\n',
     'README.md': '```rust\nfn main() {}\n```\nIt prints `fn pasted::main: proved`. `toy/src/lib.rt` has `rows::row`.\n'
                  'C files, of which the program calls `read`.\n'}
 # By part, the words behind it and the environment in which it passes.
@@ -130,7 +145,7 @@ IN_ORDER = {
     'definitions': ('--jobs 2', {'WORD': 'word = 2', 'REFUSED': 'toy/law above/row'}),
     'callers': ('', {'WORD': 'result ≡ result', 'REFUSED': 'callers/call'}),
     'refusals': ('', {'FIRST': 'one 2 0,one 2 0,last 2 0', 'SECOND': 'one 1 0,last 1 0,none 1 0',
-                      'WRONG': 'none 2 0,none 2 0'}),
+                      'WRONG': 'none 2 0,none 2 0', 'WORD': 'WRONG', 'FELL': 'more'}),
     'bench': ('bin/program', {}),
     'counts': ('', {})}
 ILL = './specs/E1Word.antt:1:1: error: `word`: expected type `ℕ`'
@@ -169,6 +184,7 @@ BROKEN = (
     ('callers', 'a folder proofs', 'crates/callers/proofs/Lib.antt', '', 'one = 1\n'),
     ('refusals', None, {'SECOND': 'none 2 1,one 2 1,last 2 1'}),
     ('refusals', 'TOO FEW', {'FIRST': 'one 1 0,last 1 0,none 1 0'}),
+    ('refusals', 'TOO FEW', '.ci/floors.py', 'PREPARED = {', "PREPARED = {'toy': 1, "),
     ('refusals', '2 failed', {'RESULT': 'FAILED'}),
     ('refusals', '1 failed', {'CUT_OFF': ''}),
     *(('refusals', 'second says', {'SECOND': said}) for said in (
@@ -178,17 +194,32 @@ BROKEN = (
     ('refusals', 'second goes wrong, and no edit', BODIES, BODY, BODY + 'old:     one()\nnew:     3\n'),
     ('refusals', 'a test is named twice', BODIES, 'old:', 'refused: refusals::first last\nold:'),
     ('refusals', 'has 2 edits in wrong-bodies', '.ci/floors.py', "(2, 3)}, {'toy': 2}", "(2, 3)}, {'toy': 1}"),
+    ('refusals', 'first does not go wrong with `more`', {'FELL': 'less'}),
+    ('refusals', 'toy is not proved as it is', {'WORD': '    2\n', 'REFUSED': 'toy/one'}),
+    ('refusals', 'second goes wrong, and no edit', PROVED_BODIES, 'old:     1\nnew:     2',
+     'old:     one()\nnew:     3\nold:     1\nnew:     2'),
+    ('refusals', 'has 1 edits in wrong-bodies-proved', '.ci/floors.py', "2}, {'toy': 1}\nB", "2}, {}\nB"),
     ('bench', 'wanted 11, given 12', 'bin/program', 'echo 11', 'echo 12'),
     ('bench', 'is not there', 'bin/program', '', None),
     ('bench', '0 are `Two`, and at least 1 must be', 'bench/workloads.py', "'One', 'Two'", "'One',"),
     ('bench', 'missing, or of no workload: from 6', 'bench/sums', '11 from 6\n', ''),
     ('bench', 'nothing was summed: from 6', 'bench/sums', '11', '0'),
+    *(('bench', 'must be from 2 to 8', program, 'echo', f'turns={turns}; echo') for program, turns in (
+        (JOBS, '$((turns * turns / 30000))'), (WORDS, '$((turns * turns / 30000))'), (JOBS, '30000'))),
+    ('bench', 'too short to be compared', JOBS, 'echo', 'turns=1; echo'),
+    *(('bench', 'must end with 0 and print the same', JOBS, *answer) for answer in (
+        ('echo "$turns"\n', ''), ('"$turns"\n', '$$\n'), ('; done\n', '; done\nexit 3\n'))),
+    ('bench', 'is not there', WORDS, '', None),
     ('counts', 'there is no toy/src/other.rt', 'README.md', 'lib.rt', 'other.rt'),
     ('counts', 'is no word of std', 'README.md', 'has `rows', 'lies in `rows'),
     ('counts', 'there is no rows::law', 'README.md', 'rows::row', 'rows::law'),
     ('counts', '1 are `names`, and at least 2 must be', 'README.md', '`rows::row`', 'a row'),
     ('counts', '1 are `proofs`, and at least 2 must be', PROOF, '', None),
     ('counts', "unsafe blocks: {'others': 1}", LIB, '    1\n', '    unsafe { 1 }\n'),
+    *(('counts', 'no code may name', LIB, 'pub fn other', f'{code}\npub fn other') for code in (
+        'impl Comparable<u8> for One {}', 'fn find<K, Q: Equivalent<K>>(key: Q) {}',
+        'use std::collections::btree_map::{BTreeMap, Comparable};')),
+    ('counts', None, LIB, 'pub fn other', '/// No `Comparable`.\npub fn other'),
     ('counts', 'more than 100 columns', LIB, '    1\n', '    1 + ' + '1' * 93 + '\n'),
     ('counts', 'more than 500 lines', LIB, '    1\n', '    1\n' * 500),
     ('counts', 'one has 31 lines', PROOF, '1\n', '1\n' + '    1\n' * 30))

@@ -1,5 +1,4 @@
-//! Tests over the public calls of `inlinable_string` and of its users in `inline_uses`, with the
-//! values that they must give.
+//! Tests over the public calls of `inlinable_string`, with the values that they must give.
 #![tactic(auto)]
 
 /// A table, of which each row is one line where it can be.
@@ -58,8 +57,6 @@ mod room;
 mod steps;
 #[cfg(test)]
 mod texts;
-#[cfg(test)]
-mod uses;
 #[cfg(test)]
 mod ways;
 #[cfg(test)]

@@ -1,4 +1,5 @@
 //! Texts and their ids.
+use inlinable_string::StringExt;
 use inline_uses::symbols::{Symbols, have_same_id};
 use std::alloc::{AllocError, Global};
 use std::test::Fail;
@@ -49,6 +50,33 @@ fn ids_are_given_in_order_and_stay(rt: HostRuntime) -> Result<(), Fail> {
     let is_other = !have_same_id(&symbols, "total", "totals");
     let is_unknown = !have_same_id(&symbols, "lets", "lets");
     assert!(rt; is_same && is_other && is_unknown && symbols.len() == 6);
+    Ok(())
+}
+
+/// The ids of the table's texts in the order of the texts, each beside its text.
+const IN_ORDER: &[(usize, &str)] = &[
+    (2, ""),
+    (3, LETTERS_31),
+    (0, "let"),
+    (1, "total"),
+    (4, "totals"),
+    (5, "é"),
+];
+
+#[test]
+fn ids_are_in_the_order_of_their_texts(rt: HostRuntime) -> Result<(), Fail> {
+    let mut symbols = Symbols::new(rt.alloc());
+    let none = symbols.ids_in_order(rt.alloc())?;
+    assert!(rt; none.is_empty() && symbols.texts().is_empty());
+    for (text, _) in MET {
+        symbols.intern(text)?;
+    }
+    let ids = symbols.ids_in_order(rt.alloc())?;
+    let texts = symbols.texts();
+    assert!(rt; ids.len() == IN_ORDER.len() && texts.len() == IN_ORDER.len());
+    let wrong = IN_ORDER.iter().zip(ids.iter()).position(|((id, text), given)| *given != *id
+        || texts[*id].as_str() != *text);
+    assert!(rt; wrong.is_none(), "{wrong:?}");
     Ok(())
 }
 
@@ -113,5 +141,12 @@ fn many_texts_that_fall_get_ids_within_the_time_of_a_test(rt: HostRuntime) -> Re
     let mut symbols = Symbols::new(rt.alloc());
     let wrong = first_wrong_of_many(rt.alloc(), &mut symbols)?;
     assert!(rt; wrong.is_none() && symbols.len() == MANY, "{wrong:?}");
+    // In the order of the texts the last one comes first.
+    let ids = symbols.ids_in_order(rt.alloc())?;
+    let wrong = ids
+        .iter()
+        .enumerate()
+        .position(|(at, id)| id.wrapping_add(at) != MANY - 1);
+    assert!(rt; wrong.is_none() && ids.len() == MANY, "{wrong:?}");
     Ok(())
 }

@@ -1,0 +1,19 @@
+//! Tests of the users of the library by their public calls, of what no contract says.
+#![tactic(auto)]
+
+#[cfg(test)]
+mod editor;
+#[cfg(test)]
+mod memory;
+#[cfg(test)]
+mod names;
+#[cfg(test)]
+mod refusals;
+#[cfg(test)]
+mod store;
+#[cfg(test)]
+mod symbols;
+#[cfg(test)]
+mod tokens;
+#[cfg(test)]
+mod tree;
