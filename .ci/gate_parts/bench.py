@@ -1,13 +1,16 @@
-"""gate bench [PROGRAM ..]: compares the checksums of the bench with those of Rust's `String`.
+"""gate bench [PROGRAM ..]: compares the checksums of the bench with those of Rust's `String`, and times growth.
 
 Without PROGRAM they are the two builds of `bench` that `rt ci` leaves. Each runs every workload on every type of
-text that has it, and must give the sum that `bench/sums` has. Nothing is counted or timed.
+text that has it, and must give the sum that `bench/sums` has. None of these is counted or timed. Then jobs of `jobs`,
+and `word_index`, run at a size of GROWTH in `.ci/floors.py` and at four times that, three times each, as LLVM builds
+them: the least time of the larger must be at most eight times that of the smaller.
 """
 import sys
 from collections import Counter
 from concurrent.futures import ThreadPoolExecutor
 
 from floors import BENCH_TEXTS, BENCH_WORKLOADS
+from gate_parts.growth import growth_faults
 from gate_parts.programs import Case, chosen, run
 from gate_parts.tree import PROCESSORS, Failure, in_tree, too_few
 
@@ -40,5 +43,6 @@ def main(given):
     faults = [fault for name, path in builds.items() for fault in wrong_sums(name, path, runs, stored)]
     having = Counter(['workloads'] * len(sums.EACH) + [text for _, text in runs])
     faults += too_few(having, {'workloads': BENCH_WORKLOADS, **BENCH_TEXTS})
+    faults += growth_faults()
     print(*faults, sep='\n')
     return not faults
