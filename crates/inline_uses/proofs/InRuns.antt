@@ -1,14 +1,15 @@
 -- The ids of runs together, and where a text goes among them.
-use Rattle.std.proofs.Common.{arith, ◌≡◌, ℕ, zero, suc, ◌+◌, ◌-◌, ◌<◌, ◌≤◌, List, [], ◌∷◌, ◌++◌, map, length, take, drop, set, Some, Less, Greater, refl, sym, ap, subst, ◌∙◌, append_assoc}
+use Rattle.std.proofs.Common.{arith, ◌≡◌, ℕ, zero, suc, ◌+◌, ◌-◌, ◌<◌, ◌≤◌, List, [], ◌∷◌, ◌++◌, map, length, take, drop, get_or, set, Some, Less, Greater, refl, sym, ap, subst, ◌∙◌, append_assoc}
 use Rattle.std.specs.Prelude.{slice_get}
 use Rattle.std.proofs.lemmas.Cmp.{nat_list_cmp_total}
 use Rattle.std.proofs.lemmas.List.{drop-map, length-append, length-map, length-take-le, map-append, take-append-drop, take-map}
-use Rattle.std.proofs.lemmas.Option.{slice_get-map}
+use Rattle.std.proofs.lemmas.Option.{slice_get-map, slice_get_read}
 use Rattle.std.proofs.Math.Seq.{take-append_seam}
 use Rattle.std.proofs.lemmas.List.Elements.{All-append, All-from_recursion, All-weaker, recursion_from_All}
 use Rattle.std.specs.List.{AllByRecursion, flat_map}
 use Rattle.std.specs.List.Sorted.{IsStrictlySortedBy}
-use Rattle.inline_uses.specs.Index.{HaveFirsts, IsIndex, IsOrdered, ids_at, ids_of}
+use Rattle.std.specs.Vec.{with_item}
+use Rattle.inline_uses.specs.Index.{HaveFirsts, IsIndex, IsOrdered, ids_at, ids_of, runs_of}
 use Rattle.inline_uses.specs.declared.index.Index.{Index}
 use Rattle.inline_uses.specs.Symbols.{key_order, IsGap}
 use Rattle.inline_uses.specs.declared.index.run.Run.{Run}
@@ -288,28 +289,27 @@ pub run_within : (text_of : ℕ → List ℕ) (text ids : List ℕ) (runs : List
 run_within text_of text ids runs k have gap =
     rw (have_length ids runs have) at (rw length-map at gap.0)
 
--- the first run, and a later one, among all
-pub first_there : (first : Run) (later : List Run) (k : ℕ) → k ≡ 0
-    → slice_get (first ∷ later) k ≡ Some first
-first_there first later k none = rw none refl
+-- of the runs of an index one is another
+pub record IsReplaced (before after : Index) (at : ℕ) (old new : Run) : Type 0 where
+  pub there : slice_get (runs_of before) at ≡ Some old
+  pub runs : runs_of after ≡ set (runs_of before) at new
 
-pub first_set : (first new : Run) (later : List Run) (k : ℕ) → k ≡ 0
-    → new ∷ later ≡ set (first ∷ later) k new
-first_set first new later k none = rw none refl
+-- the first run of an index is another, and a later one
+pub first_replaced : (index : Index) (at : ℕ) (new : Run) → at ≡ 0
+    → IsReplaced index (record index { first = new }) at index.first new
+first_replaced index at new none = rw none (record { there = refl; runs = refl })
 
-pub later_there : (first : Run) (later : List Run) (k : ℕ) (run : Run) → 0 < k
-    → slice_get later (k - 1) ≡ Some run → slice_get (first ∷ later) k ≡ Some run
-later_there first later zero run past is = absurd (omega (arith, past))
-later_there first later (suc k) run past is =
+pub later_replaced : (index : Index) (at : ℕ) (old new : Run) → 0 < at
+    → at ≤ length index.later.items → old ≡ get_or index.later.items (at - 1) old
+    → IsReplaced index (record index { later = with_item index.later (at - 1) new }) at old new
+later_replaced index zero old new past within read = absurd (omega (arith, past))
+later_replaced index (suc k) old new past within read =
     let before : suc k - 1 ≡ k = omega arith in
-    subst (λ i. slice_get later i ≡ Some run) before is
-
-pub later_set : (first new : Run) (later : List Run) (k : ℕ) → 0 < k
-    → first ∷ set later (k - 1) new ≡ set (first ∷ later) k new
-later_set first new later zero past = absurd (omega (arith, past))
-later_set first new later (suc k) past =
-    let before : suc k - 1 ≡ k = omega arith in
-    ap (λ i. first ∷ set later i new) before
+    rw before (record {
+      there = slice_get_read index.later.items _ k old refl (omega (arith, within))
+          (rw before at read);
+      runs = refl;
+    })
 
 -- an index of no text
 pub no_index : (text_of : ℕ → List ℕ) (index : Index) → ids_of index.first ≡ []

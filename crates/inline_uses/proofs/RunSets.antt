@@ -6,12 +6,13 @@ use Rattle.std.proofs.lemmas.List.Edits.{length-insert}
 use Rattle.std.proofs.lemmas.List.Elements.{All-from_recursion, All-set, recursion_from_All}
 use Rattle.std.specs.List.{AllByRecursion, insert}
 use Rattle.std.specs.List.Sorted.{IsStrictlySortedBy}
-use Rattle.inline_uses.specs.Index.{HaveFirsts, IsIndex, IsOrdered, ids_of, runs_of}
+use Rattle.inline_uses.specs.Index.{HaveFirsts, IsIndex, IsOrdered, IsSpot, ids_at, ids_in, ids_of, index_of, runs_of}
 use Rattle.inline_uses.specs.Symbols.{key_order, IsGap}
 use Rattle.std.specs.declared.alloc.AllocError.{AllocError}
 use Rattle.inline_uses.specs.declared.index.Index.{Index}
+use Rattle.inline_uses.specs.declared.index.Spot.{Spot}
 use Rattle.inline_uses.specs.declared.index.run.Run.{Run}
-use Rattle.inline_uses.proofs.InRuns.{flat, flat_at}
+use Rattle.inline_uses.proofs.InRuns.{IsReplaced, flat, flat_at, ids_at_is}
 use Rattle.inline_uses.proofs.RunEdits.{all_at, sorted_insert}
 use Rattle.inline_uses.proofs.Search.{inserted_seen}
 
@@ -42,18 +43,21 @@ gap_before text front rest at within gap = (
 )
 
 -- where a text goes among all, it goes in its run
-pub gap_in_run : (text_of : ℕ → List ℕ) (text : List ℕ) (runs : List Run) (k at : ℕ) (run : Run)
-    → slice_get runs k ≡ Some run → at ≤ length (ids_of run)
-    → IsGap (map text_of (flat runs)) text (length (flat (take k runs)) + at)
-    → IsGap (map text_of (ids_of run)) text at
-gap_in_run text_of text runs k at run is within gap =
-    let before = map text_of (flat (take k runs)) in
+pub gap_in_run : (text_of : ℕ → List ℕ) (text : List ℕ) {index : Index} {spot : Spot} (run : Run)
+    → slice_get (runs_of index) spot.run ≡ Some run → IsSpot index spot
+    → IsGap (map text_of (ids_in index)) text (index_of index spot)
+    → IsGap (map text_of (ids_of run)) text spot.at
+gap_in_run text_of text {index} {spot} run there is gap =
+    let runs = runs_of index in
+    let before = map text_of (flat (take spot.run runs)) in
     let own = map text_of (ids_of run) in
-    let after = map text_of (flat (drop (suc k) runs)) in
+    let after = map text_of (flat (drop (suc spot.run) runs)) in
     let whole : map text_of (flat runs) ≡ before ++ (own ++ after)
-    = ap (map text_of) (flat_at runs k run is) ∙ rw (map-append, map-append) refl in
-    gap_before text own after at (rw length-map within) (gap_past text before (own ++ after) at
-    (rw length-map (subst (λ ts. IsGap ts text (length (flat (take k runs)) + at)) whole gap)))
+    = ap (map text_of) (flat_at runs spot.run run there) ∙ rw (map-append, map-append) refl in
+    gap_before text own after spot.at
+    (rw length-map (rw (ids_at_is runs spot.run run there) at is.within))
+    (gap_past text before (own ++ after) spot.at
+    (rw length-map (subst (λ ts. IsGap ts text (index_of index spot)) whole gap)))
 
 -- an insertion among some with others before them, and after them
 pub insert_past : (front rest : List ℕ) (at id : ℕ)
@@ -132,71 +136,81 @@ first_stays (x ∷ ids) (suc at) id past within = refl
 abbrev pub IsShort : Run → Type 0
 IsShort run = length (ids_of run) ≤ 256
 
+-- an index has the id of a text besides those before, or these alone
+abbrev pub IsAdded : (ℕ → List ℕ) → Index → Index → Spot → ℕ → Result ⊤ AllocError → Type 0
+IsAdded text_of before after spot id r = IsIndex text_of after
+    × OnOk r (ids_in after ≡ insert (ids_in before) (index_of before spot) id)
+    × OnErr r (ids_in after ≡ ids_in before)
+
 -- an index in which a run is changed
 module _ (text_of : ℕ → List ℕ) (before after : Index) (k : ℕ) (old new : Run)
-    (is : IsIndex text_of before) (there : slice_get (runs_of before) k ≡ Some old)
-    (runs : runs_of after ≡ set (runs_of before) k new) (starts : after.starts ≡ before.starts)
-    (run : IsOrdered text_of new)
+    (is : IsIndex text_of before) (to : IsReplaced before after k old new)
+    (starts : ids_of after.starts ≡ ids_of before.starts)
+    (starts_run : IsOrdered text_of after.starts) (run : IsOrdered text_of new)
   where
     changed : (ids : List ℕ) → flat (set (runs_of before) k new) ≡ ids
         → IsStrictlySortedBy key_order (map text_of ids) → length (ids_of new) ≤ 256
         → (0 < k → slice_get (ids_of new) 0 ≡ slice_get (ids_of old) 0) → IsIndex text_of after
     changed ids flat_is sorted few first = record {
-      sorted = subst (λ rs. IsStrictlySortedBy key_order (map text_of (flat rs))) (sym runs)
+      sorted = subst (λ rs. IsStrictlySortedBy key_order (map text_of (flat rs))) (sym to.runs)
           (subst (λ ids. IsStrictlySortedBy key_order (map text_of ids)) (sym flat_is) sorted);
-      runs = subst (AllByRecursion (IsOrdered text_of)) (sym runs)
+      runs = subst (AllByRecursion (IsOrdered text_of)) (sym to.runs)
           (all_set (IsOrdered text_of) (runs_of before) k new is.runs run);
-      short = subst (AllByRecursion IsShort) (sym runs)
+      short = subst (AllByRecursion IsShort) (sym to.runs)
           (all_set IsShort (runs_of before) k new is.short few);
-      starts = subst (IsOrdered text_of) (sym starts) is.starts;
-      firsts = subst (λ run. HaveFirsts (ids_of run) after.later.items) (sym starts)
-          (subst (λ rs. HaveFirsts (ids_of before.starts) (drop 1 rs)) (sym runs)
-          (other_firsts_set (ids_of before.starts) (runs_of before) k old new is.firsts there
+      starts = starts_run;
+      firsts = subst (λ ids. HaveFirsts ids after.later.items) (sym starts)
+          (subst (λ rs. HaveFirsts (ids_of before.starts) (drop 1 rs)) (sym to.runs)
+          (other_firsts_set (ids_of before.starts) (runs_of before) k old new is.firsts to.there
           first));
     }
 
     -- its ids stay
     pub with_same : ids_of new ≡ ids_of old
-        → IsIndex text_of after × (flat (runs_of after) ≡ flat (runs_of before))
+        → IsIndex text_of after × (ids_in after ≡ ids_in before)
     with_same same =
-        let all = flat_same (runs_of before) k old new there same in (
-          changed (flat (runs_of before)) all is.sorted
-              (subst (λ ids. length ids ≤ 256) (sym same)
-              (all_at IsShort (runs_of before) k old is.short (sym there)))
+        let all = flat_same (runs_of before) k old new to.there same in (
+          changed (ids_in before) all is.sorted (subst (λ ids. length ids ≤ 256) (sym same)
+              (all_at IsShort (runs_of before) k old is.short (sym to.there)))
               (λ past. ap (λ ids. slice_get ids 0) same),
-          ap flat runs ∙ all,
+          ap flat to.runs ∙ all,
         )
 
-    -- it gets one more
-    pub with_more : (at id : ℕ) → at ≤ length (ids_of old) → ids_of new ≡ insert (ids_of old) at id
-        → length (ids_of old) < 256 → (0 < k → 0 < at)
-        → IsGap (map text_of (flat (runs_of before))) (text_of id)
-        (length (flat (take k (runs_of before))) + at)
-        → IsIndex text_of after × (flat (runs_of after)
-        ≡ insert (flat (runs_of before)) (length (flat (take k (runs_of before))) + at) id)
-    with_more at id within grown few past gap =
-        let place = length (flat (take k (runs_of before))) + at in
-        let all = flat_insert (runs_of before) k at id old new there within grown in (
-          changed (insert (flat (runs_of before)) place id) all
-              (rw inserted_seen (sorted_insert place (map text_of (flat (runs_of before)))
-              (text_of id) is.sorted gap))
-              (rw (grown, length-insert (ids_of old) at id within) (omega (arith, few)))
+-- the run of a spot gets one id more, or its ids stay
+module _ {text_of : ℕ → List ℕ} {before after : Index} {spot : Spot} {old new : Run}
+    (is : IsIndex text_of before) (to : IsReplaced before after spot.run old new)
+    (starts : after.starts ≡ before.starts) (run : IsOrdered text_of new)
+    (room : length (ids_at (runs_of before) spot.run) < 256) (spot_is : IsSpot before spot)
+    (id : ℕ) (gap : IsGap (map text_of (ids_in before)) (text_of id) (index_of before spot))
+  where
+    seen : ids_at (runs_of before) spot.run ≡ ids_of old
+    seen = ids_at_is (runs_of before) spot.run old to.there
+
+    same_starts : IsOrdered text_of after.starts
+    same_starts = subst (IsOrdered text_of) (sym starts) is.starts
+
+    with_more : ids_of new ≡ insert (ids_of old) spot.at id → IsIndex text_of after
+        × (ids_in after ≡ insert (ids_in before) (index_of before spot) id)
+    with_more grown =
+        let within = rw seen at spot_is.within in
+        let place = index_of before spot in
+        let all = flat_insert (runs_of before) spot.run spot.at id old new to.there within grown in (
+          changed text_of before after spot.run old new is to (ap ids_of starts) same_starts run
+              (insert (ids_in before) place id) all
+              (rw inserted_seen (sorted_insert place (map text_of (ids_in before)) (text_of id)
+              is.sorted gap))
+              (rw (grown, length-insert (ids_of old) spot.at id within)
+              (omega (arith, rw seen at room)))
               (λ some. ap (λ ids. slice_get ids 0) grown
-              ∙ first_stays (ids_of old) at id (past some) within),
-          ap flat runs ∙ all,
+              ∙ first_stays (ids_of old) spot.at id (spot_is.after some) within),
+          ap flat to.runs ∙ all,
         )
 
-    -- it gets one more, or its ids stay
-    pub with_added : (at id : ℕ) (r : Result ⊤ AllocError) → at ≤ length (ids_of old)
-        → OnOk r (ids_of new ≡ insert (ids_of old) at id) → OnErr r (ids_of new ≡ ids_of old)
-        → length (ids_of old) < 256 → (0 < k → 0 < at)
-        → IsGap (map text_of (flat (runs_of before))) (text_of id)
-        (length (flat (take k (runs_of before))) + at)
-        → IsIndex text_of after
-        × (OnOk r (flat (runs_of after)
-        ≡ insert (flat (runs_of before)) (length (flat (take k (runs_of before))) + at) id))
-        × OnErr r (flat (runs_of after) ≡ flat (runs_of before))
-    with_added at id (Ok u) within ok err few past gap =
-        let more = with_more at id within ok few past gap in (more.0, more.1, tt)
-    with_added at id (Err e) within ok err few past gap =
-        let same = with_same err in (same.0, tt, same.1)
+    pub with_added : (r : Result ⊤ AllocError)
+        → OnOk r (ids_of new ≡ insert (ids_of old) spot.at id) → OnErr r (ids_of new ≡ ids_of old)
+        → IsAdded text_of before after spot id r
+    with_added (Ok u) ok err = let more = with_more ok in (more.0, more.1, tt)
+    with_added (Err e) ok err =
+        let same = with_same text_of before after spot.run old new is to (ap ids_of starts)
+        same_starts run err in
+        (same.0, tt, same.1)

@@ -1,70 +1,39 @@
 -- An index in which a run is split.
-use Rattle.std.proofs.Common.{arith, ◌≡◌, ℕ, zero, suc, ◌+◌, ◌<◌, ◌≤◌, List, [], ◌∷◌, ◌++◌, map, length, take, drop, set, Some, Less, refl, sym, ap, subst, ◌∙◌, ◌⊎◌, inl, inr, add-one, append_assoc}
+use Rattle.std.proofs.Common.{arith, ◌≡◌, ℕ, zero, suc, ◌+◌, ◌<◌, ◌≤◌, List, [], ◌∷◌, ◌++◌, map, length, take, drop, set, Some, Less, refl, sym, ap, subst, ◌∙◌, inl, inr, add-one, append_assoc}
 use Rattle.std.specs.Prelude.{Err, IfOk, Ok, OnErr, OnOk, Result, slice_get}
+use Rattle.std.proofs.lemmas.Bool.{cases_lt}
 use Rattle.std.proofs.lemmas.List.{append-nil, length-append, length-drop, length-map, length-take, length-take-le, map-append, take-append-drop}
 use Rattle.std.proofs.lemmas.Option.{slice_get-map, slice_get_within}
 use Rattle.std.specs.List.{AllByRecursion, insert}
 use Rattle.std.specs.List.Sorted.{IsStrictlySortedBy}
 use Rattle.std.specs.declared.alloc.AllocError.{AllocError}
-use Rattle.inline_uses.specs.Index.{HaveFirsts, IsChanged, IsIndex, IsOrdered, IsSplit, IsSpot, ids_at, ids_of, index_of, runs_of}
+use Rattle.inline_uses.specs.Index.{HaveFirsts, IsChanged, IsIndex, IsOrdered, IsSplit, IsSpot, ids_at, ids_in, ids_of, index_of, runs_of}
 use Rattle.inline_uses.specs.Symbols.{key_order, IsGap}
 use Rattle.inline_uses.specs.declared.index.Index.{Index}
 use Rattle.inline_uses.specs.declared.index.Spot.{Spot}
 use Rattle.inline_uses.specs.declared.index.run.Run.{Run}
 use Rattle.inline_uses.proofs.Gaps.{AreAbove, AreBelow, gap_between}
-use Rattle.inline_uses.proofs.InRuns.{flat, ids_at_is, in_flat, past_append, sorted_rest}
+use Rattle.inline_uses.proofs.InRuns.{IsReplaced, flat, have_length, ids_at_is, in_flat, past_append, sorted_rest}
 use Rattle.inline_uses.proofs.RunEdits.{all_at, all_insert}
-use Rattle.inline_uses.proofs.RunSets.{IsShort, all_set}
+use Rattle.inline_uses.proofs.RunSets.{IsShort, all_set, other_firsts_set, with_same}
 use Rattle.inline_uses.proofs.Tables.{before_append}
 
--- the runs after a split
-abbrev pub split_at : List Run → ℕ → Run → Run → List Run
-split_at runs k lower upper = insert (set runs k lower) (suc k) upper
+-- a run more has its first id among the first ids
+firsts_insert : (ids : List ℕ) (runs : List Run) (k first : ℕ) (new : Run) → HaveFirsts ids runs
+    → slice_get (ids_of new) 0 ≡ Some first → HaveFirsts (insert ids k first) (insert runs k new)
+firsts_insert ids runs zero first new have next = (next, have)
+firsts_insert [] [] (suc k) first new have next = (next, tt)
+firsts_insert [] (r ∷ runs) (suc k) first new have next = absurd have
+firsts_insert (id ∷ ids) [] (suc k) first new have next = absurd have
+firsts_insert (id ∷ ids) (r ∷ runs) (suc k) first new have next =
+    (have.0, firsts_insert ids runs k first new have.1 next)
 
-module _ (old lower upper : Run) (h : ℕ)
-    (low : ids_of lower ≡ take h (ids_of old)) (high : ids_of upper ≡ drop h (ids_of old))
-  where
-    pub flat_split : (runs : List Run) (k : ℕ) → slice_get runs k ≡ Some old
-        → flat (split_at runs k lower upper) ≡ flat runs
-    flat_split [] k is = cc
-    flat_split (r ∷ runs) zero is =
-        let same : r ≡ old = cc in
-        sym (append_assoc (ids_of lower) (ids_of upper) (flat runs))
-        ∙ ap (λ ids. ids ++ flat runs) (rw (low, high) (take-append-drop h (ids_of old)))
-        ∙ ap (λ r. ids_of r ++ flat runs) (sym same)
-    flat_split (r ∷ runs) (suc k) is = ap (λ ids. ids_of r ++ ids) (flat_split runs k is)
-
-    -- the first ids, with that of the upper part
-    have_split : (ids : List ℕ) (runs : List Run) (k first : ℕ) → HaveFirsts ids runs
-        → slice_get runs k ≡ Some old
-        → slice_get (ids_of lower) 0 ≡ slice_get (ids_of old) 0
-        → slice_get (ids_of upper) 0 ≡ Some first
-        → HaveFirsts (insert ids (suc k) first) (split_at runs k lower upper)
-    have_split [] [] k first have is same next = cc
-    have_split [] (r ∷ runs) k first have is same next = absurd have
-    have_split (id ∷ ids) [] k first have is same next = absurd have
-    have_split (id ∷ ids) (r ∷ runs) zero first have is same next =
-        let here : r ≡ old = cc in
-        (same ∙ sym (ap (λ r. slice_get (ids_of r) 0) here) ∙ have.0, (next, have.1))
-    have_split (id ∷ ids) (r ∷ runs) (suc k) first have is same next =
-        (have.0, have_split ids runs k first have.1 is same next)
-
-    pub firsts_split : (ids : List ℕ) (runs : List Run) (k first : ℕ)
-        → HaveFirsts ids (drop 1 runs) → slice_get runs k ≡ Some old
-        → slice_get (ids_of lower) 0 ≡ slice_get (ids_of old) 0
-        → slice_get (ids_of upper) 0 ≡ Some first
-        → HaveFirsts (insert ids k first) (drop 1 (split_at runs k lower upper))
-    firsts_split ids [] k first have is same next = cc
-    firsts_split ids (r ∷ runs) zero first have is same next = (next, have)
-    firsts_split ids (r ∷ runs) (suc k) first have is same next =
-        have_split ids runs k first have is same next
-
-pub first_of_front : (ids : List ℕ) (h : ℕ) → 0 < h → slice_get (take h ids) 0 ≡ slice_get ids 0
+first_of_front : (ids : List ℕ) (h : ℕ) → 0 < h → slice_get (take h ids) 0 ≡ slice_get ids 0
 first_of_front ids zero some = absurd (omega (arith, some))
 first_of_front [] (suc h) some = refl
 first_of_front (id ∷ ids) (suc h) some = refl
 
-pub first_of_rest : (ids : List ℕ) (h : ℕ) → slice_get (drop h ids) 0 ≡ slice_get ids h
+first_of_rest : (ids : List ℕ) (h : ℕ) → slice_get (drop h ids) 0 ≡ slice_get ids h
 first_of_rest ids zero = refl
 first_of_rest [] (suc h) = refl
 first_of_rest (id ∷ ids) (suc h) = first_of_rest ids h
@@ -129,7 +98,7 @@ module _ (text_of : ℕ → List ℕ) where
         rest.1,
       )
 
-  pub start_gap : (x at : ℕ) (ids : List ℕ) (runs : List Run) (k : ℕ) (old : Run)
+  start_gap : (x at : ℕ) (ids : List ℕ) (runs : List Run) (k : ℕ) (old : Run)
       → IsStrictlySortedBy key_order (map text_of (flat runs)) → HaveFirsts ids (drop 1 runs)
       → slice_get runs k ≡ Some old → slice_get (ids_of old) at ≡ Some x → 0 < at
       → k ≤ length ids → IsGap (map text_of ids) (text_of x) k
@@ -146,179 +115,211 @@ module _ (text_of : ℕ → List ℕ) where
       (gap_between (text_of x) (map text_of (take k ids)) (map text_of (drop k ids)) parts.0
       parts.1))
 
--- an index with the same ids
-pub same_index : (text_of : ℕ → List ℕ) (old new : Index) → IsIndex text_of old
-    → runs_of new ≡ runs_of old → ids_of new.starts ≡ ids_of old.starts
-    → IsOrdered text_of new.starts → IsIndex text_of new
-same_index text_of old new is runs ids starts = record {
-  sorted = subst (λ rs. IsStrictlySortedBy key_order (map text_of (flat rs))) (sym runs) is.sorted;
-  runs = subst (AllByRecursion (IsOrdered text_of)) (sym runs) is.runs;
-  short = subst (AllByRecursion IsShort) (sym runs) is.short;
-  starts = starts;
-  firsts = subst (λ rs. HaveFirsts (ids_of new.starts) (drop 1 rs)) (sym runs)
-      (subst (λ ids. HaveFirsts ids old.later.items) (sym ids) is.firsts);
-}
-
--- an index in which a run is split
-pub split_index : (text_of : ℕ → List ℕ) (before after : Index) (k h first : ℕ)
-    (old lower upper : Run) → IsIndex text_of before → slice_get (runs_of before) k ≡ Some old
-    → ids_of lower ≡ take h (ids_of old) → ids_of upper ≡ drop h (ids_of old) → 0 < h
-    → runs_of after ≡ split_at (runs_of before) k lower upper
-    → IsOrdered text_of lower → IsOrdered text_of upper → IsOrdered text_of after.starts
-    → ids_of after.starts ≡ insert (ids_of before.starts) k first
-    → slice_get (ids_of upper) 0 ≡ Some first → IsIndex text_of after
-split_index text_of before after k h first old lower upper is there low high some runs lower_is
-    upper_is starts ids next =
-    let few = all_at IsShort (runs_of before) k old is.short (sym there) in
-    record {
-      sorted = subst (λ rs. IsStrictlySortedBy key_order (map text_of (flat rs))) (sym runs)
-          (subst (λ all. IsStrictlySortedBy key_order (map text_of all))
-          (sym (flat_split old lower upper h low high (runs_of before) k there)) is.sorted);
-      runs = subst (AllByRecursion (IsOrdered text_of)) (sym runs)
-          (all_insert (IsOrdered text_of) (suc k) (set (runs_of before) k lower) upper
-          (all_set (IsOrdered text_of) (runs_of before) k lower is.runs lower_is) upper_is);
-      short = subst (AllByRecursion IsShort) (sym runs)
-          (all_insert IsShort (suc k) (set (runs_of before) k lower) upper
-          (all_set IsShort (runs_of before) k lower is.short
-          (rw (low, length-take) (omega (arith, few))))
-          (rw (high, length-drop) (omega (arith, few))));
-      starts = starts;
-      firsts = subst (λ rs. HaveFirsts (ids_of after.starts) (drop 1 rs)) (sym runs)
-          (subst (λ ids. HaveFirsts ids (drop 1 (split_at (runs_of before) k lower upper)))
-          (sym ids) (firsts_split old lower upper h low high (ids_of before.starts)
-          (runs_of before) k first is.firsts there
-          (ap (λ ids. slice_get ids 0) low ∙ first_of_front (ids_of old) h some) next));
+-- the run that a part of a run was taken from, and what it had
+module _ {text_of : ℕ → List ℕ} {before after : Index} {at : ℕ} {old lower : Run}
+    (to : IsReplaced before after at old lower) (ordered : IsOrdered text_of lower)
+  where
+    abbrev lower_changed : (ids : List ℕ → List ℕ) → ids_of lower ≡ ids (ids_of old)
+        → IsChanged text_of before after at ids
+    lower_changed ids changed = record {
+      old = old;
+      new = lower;
+      there = to.there;
+      runs = to.runs;
+      ordered = ordered;
+      changed = changed;
     }
 
--- the run that a part of a run was taken from, and what it had
-module _ (text_of : ℕ → List ℕ) (before after : Index) (at : ℕ) (old lower : Run)
-    (there : slice_get (runs_of before) at ≡ Some old)
-    (runs : runs_of after ≡ set (runs_of before) at lower) (ordered : IsOrdered text_of lower)
-  where
     pub split_made : (r : Result Run AllocError) → OnOk r (ids_of lower ≡ take 128 (ids_of old))
         → IfOk r (λ upper. ids_of upper ≡ drop 128 (ids_of old)) → IfOk r (IsOrdered text_of)
         → IfOk r (IsSplit text_of before after at)
-    split_made (Ok upper) low high is = record {
-      lower = record {
-        old = old;
-        new = lower;
-        there = there;
-        runs = runs;
-        ordered = ordered;
-        changed = low;
-      };
-      ordered = is;
-      rest = high;
-    }
+    split_made (Ok upper) low high is =
+        record { lower = lower_changed (take 128) low; ordered = is; rest = high }
     split_made (Err e) low high is = tt
 
     pub split_failed : (r : Result Run AllocError) → OnErr r (ids_of lower ≡ ids_of old)
         → OnErr r (IsChanged text_of before after at (λ ids. ids))
     split_failed (Ok upper) same = tt
-    split_failed (Err e) same = record {
-      old = old;
-      new = lower;
-      there = there;
-      runs = runs;
-      ordered = ordered;
-      changed = same;
+    split_failed (Err e) same = lower_changed (λ ids. ids) same
+
+-- an index that got room for a run has its runs, and one of which a run is changed its starts
+pub record IsRoomy (text_of : ℕ → List ℕ) (before roomy after : Index) : Type 0 where
+  pub index : IsIndex text_of before
+  pub runs : runs_of roomy ≡ runs_of before
+  pub starts : ids_of after.starts ≡ ids_of before.starts
+  pub ordered : IsOrdered text_of after.starts
+
+-- an index has the ids of another, and a spot of it, in a run with half of the ids
+pub record IsMoved (text_of : ℕ → List ℕ) (before after : Index) (old new : Spot) : Type 0 where
+  pub index : IsIndex text_of after
+  pub ids : ids_in after ≡ ids_in before
+  pub room : length (ids_at (runs_of after) new.run) ≡ 128
+  pub spot : IsSpot after new
+  pub at : index_of after new ≡ index_of before old
+
+-- an index with room for a run, in which a run was to be split
+module _ {text_of : ℕ → List ℕ} {index roomy parted : Index}
+    (ready : IsRoomy text_of index roomy parted)
+  where
+    replaced : (at : ℕ) (ids : List ℕ → List ℕ) → (to : IsChanged text_of roomy parted at ids)
+        → IsReplaced index parted at to.old to.new
+    replaced at ids to = record {
+      there = subst (λ rs. slice_get rs at ≡ Some to.old) ready.runs to.there;
+      runs = subst (λ rs. runs_of parted ≡ set rs at to.new) ready.runs to.runs;
     }
 
-le_or_less : (a b : ℕ) → (a ≤ b) ⊎ (b < a)
-le_or_less zero b = inl (omega arith)
-le_or_less (suc a) zero = inr (omega arith)
-le_or_less (suc a) (suc b) = elim (le_or_less a b) [
-  | inl le ↦ inl (omega (arith, le))
-  | inr less ↦ inr (omega (arith, less))
-]
+    -- it has the ids that it had, if it was not
+    pub unsplit : {at : ℕ} → IsChanged text_of roomy parted at (λ ids. ids)
+        → IsIndex text_of parted × (ids_in parted ≡ ids_in index)
+    unsplit {at} to = with_same text_of index parted at to.old to.new ready.index
+        (replaced at _ to) ready.starts ready.ordered to.ordered to.changed
 
--- where a spot of a run is after the run is split at h
-module _ (old lower upper : Run) (h : ℕ)
-    (low : ids_of lower ≡ take h (ids_of old)) (high : ids_of upper ≡ drop h (ids_of old))
-    (long : h ≤ length (ids_of old))
-  where
-    before_split : (runs : List Run) (k : ℕ) → slice_get runs k ≡ Some old
-        → (flat (take k (split_at runs k lower upper)) ≡ flat (take k runs))
-        × (length (flat (take (suc k) (split_at runs k lower upper)))
-        ≡ length (flat (take k runs)) + h)
-        × (ids_at (split_at runs k lower upper) k ≡ ids_of lower)
-        × (ids_at (split_at runs k lower upper) (suc k) ≡ ids_of upper)
-        × (length (split_at runs k lower upper) ≡ suc (length runs))
-    before_split [] k is = cc
-    before_split (r ∷ runs) zero is =
-        let half : length (ids_of lower ++ []) ≡ 0 + h
-        = rw (append-nil, low, length-take-le h (ids_of old) long) (omega arith) in
-        (refl, half, refl, refl, refl)
-    before_split (r ∷ runs) (suc k) is =
-        let rest = before_split runs k is in (
-          ap (λ ids. ids_of r ++ ids) rest.0,
-          rw (length-append, length-append) (omega (arith, rest.1)),
-          rest.2,
-          rest.3,
-          ap suc rest.4,
-        )
-
-    module _ (index after : Index) (spot moved : Spot)
-        (there : slice_get (runs_of index) spot.run ≡ Some old)
-        (runs : (runs_of after) ≡ split_at (runs_of index) spot.run lower upper)
-        (stays : spot.at ≤ h → moved ≡ spot)
-        (moves : h < spot.at → (moved.run ≡ spot.run + 1) × (moved.at + h ≡ spot.at))
+    module _ {spot : Spot} {upper : Run} (full : length (ids_at (runs_of index) spot.run) ≡ 256)
+        (spot_is : IsSpot index spot) (split : IsSplit text_of roomy parted spot.run upper)
       where
-        seen : let rs = (runs_of after) in
-            (flat (take spot.run rs) ≡ flat (take spot.run (runs_of index)))
-            × (length (flat (take (suc spot.run) rs))
-            ≡ length (flat (take spot.run (runs_of index))) + h)
-            × (ids_at rs spot.run ≡ ids_of lower) × (ids_at rs (suc spot.run) ≡ ids_of upper)
-            × (length rs ≡ suc (length (runs_of index)))
-        seen = subst (λ rs. (flat (take spot.run rs) ≡ flat (take spot.run (runs_of index)))
-            × (length (flat (take (suc spot.run) rs))
-            ≡ length (flat (take spot.run (runs_of index))) + h)
-            × (ids_at rs spot.run ≡ ids_of lower) × (ids_at rs (suc spot.run) ≡ ids_of upper)
-            × (length rs ≡ suc (length (runs_of index)))) (sym runs)
-            (before_split (runs_of index) spot.run there)
+        abbrev old : Run
+        old = split.lower.old
 
-        stays_run : spot.at ≤ h → moved.run ≡ spot.run
-        stays_run le = ap (λ s. s.run) (stays le)
+        abbrev lower : Run
+        lower = split.lower.new
 
-        moves_run : h < spot.at → moved.run ≡ suc spot.run
-        moves_run less = (moves less).0 ∙ add-one spot.run
+        to : IsReplaced index parted spot.run old lower
+        to = replaced spot.run _ split.lower
 
-        pub moved_index : index_of after moved ≡ index_of index spot
-        moved_index = elim (le_or_less spot.at h) [
-          | inl le ↦ rw (stays le, seen.0) refl
-          | inr less ↦ rw (moves_run less, seen.1) (omega (arith, (moves less).1))
-        ]
+        count : length (ids_of old) ≡ 256
+        count = rw (ids_at_is (runs_of index) spot.run old to.there) at full
 
-        -- its run has half of the ids
-        pub moved_room : length (ids_of old) ≡ h + h
-            → length (ids_at (runs_of after) moved.run) ≡ h
-        moved_room twice = elim (le_or_less spot.at h) [
-          | inl le ↦ rw (stays_run le, seen.2, low, length-take-le h (ids_of old) long) refl
-          | inr less ↦ rw (moves_run less, seen.3, high, length-drop) (omega (arith, twice))
-        ]
+        lower_count : length (ids_of lower) ≡ 128
+        lower_count = rw (
+          split.lower.changed,
+          length-take-le 128 (ids_of old)
+              (omega (arith, count)),
+        ) refl
 
-        moved_within : moved.run < length (runs_of after)
-        moved_within = elim (le_or_less spot.at h) [
-          | inl le ↦ rw (stays_run le, seen.4)
-              (omega (arith, slice_get_within (runs_of index) spot.run old there))
-          | inr less ↦ rw (moves_run less, seen.4)
-              (omega (arith, slice_get_within (runs_of index) spot.run old there))
-        ]
+        upper_count : length (ids_of upper) ≡ 128
+        upper_count = rw (split.rest, length-drop) (omega (arith, count))
 
-        pub moved_spot : IsSpot index spot → IsSpot after moved
-        moved_spot is = record {
-          run = omega (arith, moved_within);
-          within = elim (le_or_less spot.at h) [
-            | inl le ↦ rw (stays le, seen.2, low, length-take-le h (ids_of old) long) le
-            | inr less ↦ rw (moves_run less, seen.3, high, length-drop)
-                (omega (
-                  arith,
-                  (moves less).1,
-                  rw (ids_at_is (runs_of index) spot.run old there) at is.within,
-                ))
-          ];
-          after = λ past. elim (le_or_less spot.at h) [
-            | inl le ↦ subst (λ s. 0 < s.run → 0 < s.at) (sym (stays le)) is.after past
-            | inr less ↦ omega (arith, less, (moves less).1)
-          ];
-        }
+        -- the upper part has a first id, whose text goes among those of the others
+        pub upper_some : 0 < length (ids_of upper)
+        upper_some = omega (arith, upper_count)
+
+        pub upper_gap : {first : ℕ} → slice_get (ids_of upper) 0 ≡ Some first
+            → IsGap (map text_of (ids_of parted.starts)) (text_of first) spot.run
+        upper_gap {first} next = rw ready.starts
+            (start_gap text_of first 128 (ids_of index.starts) (runs_of index) spot.run old
+            ready.index.sorted ready.index.firsts to.there
+            (sym (first_of_rest (ids_of old) 128) ∙ rw split.rest at next) (omega arith)
+            (rw (have_length (ids_of index.starts) index.later.items ready.index.firsts)
+            spot_is.run))
+
+        firsts_stay : HaveFirsts (ids_of parted.starts) parted.later.items
+        firsts_stay = subst (λ ids. HaveFirsts ids parted.later.items) (sym ready.starts)
+            (subst (λ rs. HaveFirsts (ids_of index.starts) (drop 1 rs)) (sym to.runs)
+            (other_firsts_set (ids_of index.starts) (runs_of index) spot.run old lower
+            ready.index.firsts to.there (λ past. ap (λ ids. slice_get ids 0) split.lower.changed
+            ∙ first_of_front (ids_of old) 128 (omega arith))))
+
+        -- where the ids of runs are after the one at k is split
+        abbrev Parts : List Run → ℕ → List Run → Type 0
+        Parts runs k parted = (flat parted ≡ flat runs) × (flat (take k parted) ≡ flat (take k runs))
+            × (length (flat (take (suc k) parted)) ≡ length (flat (take k runs)) + 128)
+            × (ids_at parted k ≡ ids_of lower) × (ids_at parted (suc k) ≡ ids_of upper)
+            × (length parted ≡ suc (length runs))
+
+        parts_are : (runs : List Run) (k : ℕ) → slice_get runs k ≡ Some old
+            → Parts runs k (insert (set runs k lower) (suc k) upper)
+        parts_are [] k is = cc
+        parts_are (r ∷ runs) zero is =
+            let same : r ≡ old = cc in
+            let whole : ids_of lower ++ ids_of upper ≡ ids_of r
+            = rw (split.lower.changed, split.rest, same) (take-append-drop 128 (ids_of old)) in (
+              sym (append_assoc (ids_of lower) (ids_of upper) (flat runs))
+                  ∙ ap (λ ids. ids ++ flat runs) whole,
+              refl,
+              rw (append-nil, lower_count) refl,
+              refl,
+              refl,
+              refl,
+            )
+        parts_are (r ∷ runs) (suc k) is =
+            let rest = parts_are runs k is in (
+              ap (λ ids. ids_of r ++ ids) rest.0,
+              ap (λ ids. ids_of r ++ ids) rest.1,
+              rw (length-append, length-append) (omega (arith, rest.2)),
+              rest.3,
+              rest.4,
+              ap suc rest.5,
+            )
+
+        -- with the upper part as a run, the spot is in one of the halves
+        module _ (after : Index) (moved : Spot) (first : ℕ)
+            (runs : runs_of after ≡ insert (runs_of parted) (suc spot.run) upper)
+            (ids : ids_of after.starts ≡ insert (ids_of parted.starts) spot.run first)
+            (ordered : IsOrdered text_of after.starts)
+            (next : slice_get (ids_of upper) 0 ≡ Some first) (stays : spot.at ≤ 128 → moved ≡ spot)
+            (moves : 128 < spot.at → (moved.run ≡ spot.run + 1) × (moved.at + 128 ≡ spot.at))
+          where
+            all : runs_of after ≡ insert (set (runs_of index) spot.run lower) (suc spot.run) upper
+            all = runs ∙ ap (λ rs. insert rs (suc spot.run) upper) to.runs
+
+            parts : Parts (runs_of index) spot.run (runs_of after)
+            parts = subst (Parts (runs_of index) spot.run) (sym all)
+                (parts_are (runs_of index) spot.run to.there)
+
+            each : (P : Run → Type 0) → AllByRecursion P (runs_of index) → P lower → P upper
+                → AllByRecursion P (runs_of after)
+            each P is low high = subst (AllByRecursion P) (sym all)
+                (all_insert P (suc spot.run) (set (runs_of index) spot.run lower) upper
+                (all_set P (runs_of index) spot.run lower is low) high)
+
+            half_moved : (length (ids_at (runs_of after) moved.run) ≡ 128) × IsSpot after moved
+                × (index_of after moved ≡ index_of index spot)
+            half_moved =
+                let within = slice_get_within (runs_of index) spot.run old to.there in
+                elim (cases_lt 128 spot.at) [
+                  | inl less ↦
+                      let by = moves less in
+                      let run = by.0 ∙ add-one spot.run in
+                      let half : length (ids_at (runs_of after) moved.run) ≡ 128
+                      = rw (run, parts.4) upper_count in (
+                        half,
+                        record {
+                          run = omega (arith, within, run, parts.5);
+                          within = rw half (omega (arith, by.1, spot_is.within, full));
+                          after = λ past. omega (arith, less, by.1);
+                        },
+                        rw (run, parts.2) (omega (arith, by.1)),
+                      )
+                  | inr le ↦
+                      let half : length (ids_at (runs_of after) spot.run) ≡ 128
+                      = rw parts.3 lower_count in
+                      rw (stays le) (
+                        half,
+                        record {
+                          run = omega (arith, within, parts.5);
+                          within = rw half le;
+                          after = spot_is.after;
+                        },
+                        rw parts.1 refl,
+                      )
+                ]
+
+            pub spot_moved : IsMoved text_of index after spot moved
+            spot_moved = record {
+              index = record {
+                sorted = subst (λ ids. IsStrictlySortedBy key_order (map text_of ids))
+                    (sym parts.0) ready.index.sorted;
+                runs = each (IsOrdered text_of) ready.index.runs split.lower.ordered split.ordered;
+                short = each IsShort ready.index.short (omega (arith, lower_count))
+                    (omega (arith, upper_count));
+                starts = ordered;
+                firsts = subst (λ rs. HaveFirsts (ids_of after.starts) (drop 1 rs)) (sym runs)
+                    (subst (λ ids. HaveFirsts ids (insert parted.later.items spot.run upper))
+                    (sym ids) (firsts_insert (ids_of parted.starts) parted.later.items spot.run
+                    first upper firsts_stay next));
+              };
+              ids = parts.0;
+              room = half_moved.0;
+              spot = half_moved.1;
+              at = half_moved.2;
+            }
