@@ -91,31 +91,34 @@ all_begin n first last (t ∷ u ∷ ts) above sorted is same = (
   all_begin n first last (u ∷ ts) above.1 sorted.1 is same,
 )
 
-text_at_end : (text_of : ℕ → List ℕ) (marks : List Mark) (i : ℕ) (last : Mark)
-    → Some last ≡ slice_get marks i → Some (text_of last.id) ≡ slice_get (texts_of text_of marks) i
-text_at_end text_of marks i last is = rw (slice_get-map, slice_get-map, ← is) refl
+-- these are the texts of the first and of the last mark
+pub record AreEnds (text_of : ℕ → List ℕ) (marks : List Mark) (one other : List ℕ) : Type 0 where
+  pub first : Mark
+  pub last : Mark
+  pub begins : Some first ≡ slice_get marks 0
+  pub ends : Some last ≡ slice_get marks (length marks - 1)
+  pub one_is : one ≡ text_of first.id
+  pub other_is : other ≡ text_of last.id
 
-ends_at : (text_of : ℕ → List ℕ) (m : Mark) (marks : List Mark)
-    → length (m ∷ marks) - 1 ≡ length (texts_of text_of marks)
-ends_at text_of m marks = rw (length-map, length-map) (omega arith)
-
-pub lengthened : (text_of : ℕ → List ℕ) (n : ℕ) (marks : List Mark) (first last : Mark)
-    → Some first ≡ slice_get marks 0 → Some last ≡ slice_get marks (length marks - 1)
-    → IsStrictlySortedBy key_order (texts_of text_of marks)
-    → take n (text_of first.id) ≡ take n (text_of last.id)
+-- what both have in common, all texts in order begin with
+pub lengthened : (text_of : ℕ → List ℕ) (n : ℕ) (marks : List Mark) {one other : List ℕ}
+    → AreEnds text_of marks one other → IsStrictlySortedBy key_order (texts_of text_of marks)
+    → take n one ≡ take n other
     → AllByRecursion (λ t. take n t ≡ first_front n (texts_of text_of marks))
     (texts_of text_of marks)
 unfolding IsStrictlySortedBy
-lengthened text_of n [] first last is ends sorted same = tt
-lengthened text_of n (m ∷ marks) first last is ends sorted same =
-    let head : m ≡ first = cc in
-    let end : Some (text_of last.id) ≡ slice_get (texts_of text_of (m ∷ marks))
+lengthened text_of n [] are sorted same = tt
+lengthened text_of n (m ∷ marks) are sorted same =
+    let begins = are.begins in
+    let head : m ≡ are.first = cc in
+    let at : length (m ∷ marks) - 1 ≡ length (texts_of text_of marks)
+    = rw (length-map, length-map) (omega arith) in
+    let end : Some (text_of are.last.id) ≡ slice_get (texts_of text_of (m ∷ marks))
     (length (texts_of text_of marks))
-    = text_at_end text_of (m ∷ marks) (length (texts_of text_of marks)) last
-    (subst (λ i. Some last ≡ slice_get (m ∷ marks) i) (ends_at text_of m marks) ends) in (
+    = rw (slice_get-map, slice_get-map, ← at, ← are.ends) refl in (
       refl,
-      all_begin n (text_of m.id) (text_of last.id) (texts_of text_of marks) sorted.0 sorted.1
-          end (ap (λ m. take n (text_of m.id)) head ∙ same),
+      all_begin n (text_of m.id) (text_of are.last.id) (texts_of text_of marks) sorted.0 sorted.1
+          end (ap (λ m. take n (text_of m.id)) head ∙ rw (are.one_is, are.other_is) at same),
     )
 
 -- both parts of a run are runs

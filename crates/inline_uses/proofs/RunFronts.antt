@@ -6,7 +6,7 @@ use Rattle.std.specs.Prelude.{slice_get}
 use Rattle.inline_uses.specs.Index.{IsMark, common, first_front, last_of, longest_front}
 use Rattle.inline_uses.specs.declared.index.mark.Mark.{Mark}
 use Rattle.inline_uses.proofs.IndexRuns.{AreMarks, texts_of}
-use Rattle.inline_uses.proofs.RunEdits.{all_at}
+use Rattle.inline_uses.proofs.RunEdits.{AreEnds, all_at}
 
 -- texts that begin alike have that in common
 pub common_least : (xs ys : List ℕ) (n : ℕ) → take n xs ≡ take n ys → n ≤ length xs
@@ -76,14 +76,14 @@ common_within (x ∷ xs) (y ∷ ys) = by (nat_cmp x y) (common_within xs ys)
     by Greater rest = (omega arith, omega arith)
 
 -- the first and the last text of marks have their front
-pub ends_share : (text_of : ℕ → List ℕ) (len : ℕ) (marks : List Mark) (first last : Mark)
-    → AreMarks text_of len marks → Some first ≡ slice_get marks 0
-    → Some last ≡ slice_get marks (length marks - 1)
-    → take len (text_of first.id) ≡ take len (text_of last.id)
-ends_share text_of len marks first last are is ends =
+pub ends_share : {text_of : ℕ → List ℕ} {marks : List Mark} {one other : List ℕ} (len : ℕ)
+    → AreEnds text_of marks one other → AreMarks text_of len marks → take len one ≡ take len other
+ends_share {text_of} {marks} len ends are =
     let front = first_front len (texts_of text_of marks) in
-    (all_at (IsMark text_of len front) marks 0 first are is).begins
-    ∙ sym (all_at (IsMark text_of len front) marks (length marks - 1) last are ends).begins
+    ap (take len) ends.one_is
+    ∙ (all_at (IsMark text_of len front) marks 0 ends.first are ends.begins).begins
+    ∙ sym (all_at (IsMark text_of len front) marks (length marks - 1) ends.last are ends.ends).begins
+    ∙ ap (take len) (sym ends.other_is)
 
 last_is : (m last : Mark) (marks : List Mark) → Some last ≡ slice_get (m ∷ marks) (length marks)
     → last_of m.id (map (λ m. m.id) marks) ≡ last.id
@@ -91,14 +91,14 @@ last_is m last [] is = let same : m ≡ last = cc in ap (λ m. m.id) same
 last_is m last (next ∷ marks) is = last_is next last marks is
 
 -- the longest front of marks is what the first and the last text have in common
-pub longest_is : (text_of : ℕ → List ℕ) (marks : List Mark) (first last : Mark) (front : ℕ)
-    → Some first ≡ slice_get marks 0 → Some last ≡ slice_get marks (length marks - 1)
-    → front ≡ min 256 (common (text_of first.id) (text_of last.id))
+pub longest_is : (text_of : ℕ → List ℕ) (marks : List Mark) {one other : List ℕ} {front : ℕ}
+    → AreEnds text_of marks one other → front ≡ min 256 (common one other)
     → longest_front text_of (map (λ m. m.id) marks) ≡ front
-longest_is text_of [] first last front is ends shared = cc
-longest_is text_of (m ∷ marks) first last front is ends shared =
-    let head : m ≡ first = cc in
+longest_is text_of [] ends shared = let begins = ends.begins in cc
+longest_is text_of (m ∷ marks) ends shared =
+    let begins = ends.begins in
+    let head : m ≡ ends.first = cc in
     let count : length (m ∷ marks) - 1 ≡ length marks = omega arith in
-    let end = last_is m last marks
-    (subst (λ i. Some last ≡ slice_get (m ∷ marks) i) count ends) in
-    rw (end, head) (sym shared)
+    let end = last_is m ends.last marks
+    (subst (λ i. Some ends.last ≡ slice_get (m ∷ marks) i) count ends.ends) in
+    rw (end, head) (sym (rw (ends.one_is, ends.other_is) at shared))

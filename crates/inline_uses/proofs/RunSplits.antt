@@ -2,7 +2,7 @@
 use Rattle.std.proofs.Common.{arith, ◌≡◌, ℕ, zero, suc, ◌+◌, ◌<◌, ◌≤◌, List, [], ◌∷◌, ◌++◌, map, length, take, drop, set, Some, Less, refl, sym, ap, subst, ◌∙◌, inl, inr, add-one, append_assoc}
 use Rattle.std.specs.Prelude.{Err, IfOk, Ok, OnErr, OnOk, Result, slice_get}
 use Rattle.std.proofs.lemmas.Bool.{cases_lt}
-use Rattle.std.proofs.lemmas.List.{append-nil, length-append, length-drop, length-map, length-take, length-take-le, map-append, take-append-drop}
+use Rattle.std.proofs.lemmas.List.{append-nil, length-append, length-drop, length-map, length-take-le, map-append, take-append-drop}
 use Rattle.std.proofs.lemmas.Option.{slice_get-map, slice_get_within}
 use Rattle.std.specs.List.{AllByRecursion, insert}
 use Rattle.std.specs.List.Sorted.{IsStrictlySortedBy}
@@ -161,9 +161,9 @@ pub record IsMoved (text_of : ℕ → List ℕ) (before after : Index) (old new 
 module _ {text_of : ℕ → List ℕ} {index roomy parted : Index}
     (ready : IsRoomy text_of index roomy parted)
   where
-    replaced : (at : ℕ) (ids : List ℕ → List ℕ) → (to : IsChanged text_of roomy parted at ids)
+    replaced : {at : ℕ} {ids : List ℕ → List ℕ} → (to : IsChanged text_of roomy parted at ids)
         → IsReplaced index parted at to.old to.new
-    replaced at ids to = record {
+    replaced {at} to = record {
       there = subst (λ rs. slice_get rs at ≡ Some to.old) ready.runs to.there;
       runs = subst (λ rs. runs_of parted ≡ set rs at to.new) ready.runs to.runs;
     }
@@ -172,7 +172,7 @@ module _ {text_of : ℕ → List ℕ} {index roomy parted : Index}
     pub unsplit : {at : ℕ} → IsChanged text_of roomy parted at (λ ids. ids)
         → IsIndex text_of parted × (ids_in parted ≡ ids_in index)
     unsplit {at} to = with_same text_of index parted at to.old to.new ready.index
-        (replaced at _ to) ready.starts ready.ordered to.ordered to.changed
+        (replaced to) ready.starts ready.ordered to.ordered to.changed
 
     module _ {spot : Spot} {upper : Run} (full : length (ids_at (runs_of index) spot.run) ≡ 256)
         (spot_is : IsSpot index spot) (split : IsSplit text_of roomy parted spot.run upper)
@@ -184,7 +184,7 @@ module _ {text_of : ℕ → List ℕ} {index roomy parted : Index}
         lower = split.lower.new
 
         to : IsReplaced index parted spot.run old lower
-        to = replaced spot.run _ split.lower
+        to = replaced split.lower
 
         count : length (ids_of old) ≡ 256
         count = rw (ids_at_is (runs_of index) spot.run old to.there) at full
@@ -253,14 +253,15 @@ module _ {text_of : ℕ → List ℕ} {index roomy parted : Index}
 
         -- with the upper part as a run, the spot is in one of the halves
         module _ (after : Index) (moved : Spot) (first : ℕ)
-            (runs : runs_of after ≡ insert (runs_of parted) (suc spot.run) upper)
+            (same : after.first ≡ parted.first)
+            (more : after.later.items ≡ insert parted.later.items spot.run upper)
             (ids : ids_of after.starts ≡ insert (ids_of parted.starts) spot.run first)
             (ordered : IsOrdered text_of after.starts)
             (next : slice_get (ids_of upper) 0 ≡ Some first) (stays : spot.at ≤ 128 → moved ≡ spot)
             (moves : 128 < spot.at → (moved.run ≡ spot.run + 1) × (moved.at + 128 ≡ spot.at))
           where
             all : runs_of after ≡ insert (set (runs_of index) spot.run lower) (suc spot.run) upper
-            all = runs ∙ ap (λ rs. insert rs (suc spot.run) upper) to.runs
+            all = rw (same, more) (ap (λ rs. insert rs (suc spot.run) upper) to.runs)
 
             parts : Parts (runs_of index) spot.run (runs_of after)
             parts = subst (Parts (runs_of index) spot.run) (sym all)
@@ -313,10 +314,8 @@ module _ {text_of : ℕ → List ℕ} {index roomy parted : Index}
                 short = each IsShort ready.index.short (omega (arith, lower_count))
                     (omega (arith, upper_count));
                 starts = ordered;
-                firsts = subst (λ rs. HaveFirsts (ids_of after.starts) (drop 1 rs)) (sym runs)
-                    (subst (λ ids. HaveFirsts ids (insert parted.later.items spot.run upper))
-                    (sym ids) (firsts_insert (ids_of parted.starts) parted.later.items spot.run
-                    first upper firsts_stay next));
+                firsts = rw (ids, more) (firsts_insert (ids_of parted.starts) parted.later.items
+                    spot.run first upper firsts_stay next);
               };
               ids = parts.0;
               room = half_moved.0;

@@ -1,21 +1,18 @@
-use Rattle.std.proofs.Common.{◌∷◌, List, ap}
-use Rattle.inline_uses.specs.declared.index.run.Run.{Run}
+use Rattle.std.proofs.Common.{◌∷◌, refl, ap}
 use Rattle.inline_uses.proofs.RunSplits.{IsMoved, IsRoomy, spot_moved, unsplit, upper_gap, upper_some}
 use Rattle.inline_uses.proofs.index.Index.split.Given.{Over}
 use Rattle.inline_uses.proofs.index.Index.split.Goals.{After-after_split, After-split_run}
 use Rattle.inline_uses.proofs.index.Index.split.Goals as goal
 
 -- the index has room for one run more when a run is split
-ready : (g : Over) → (c : After-split_run g) → IsRoomy (g.T.Texts.text_of c.args.texts.now)
-    c.args.self.now
-    (record c.args.self.now { later = c.reserve.new.self; starts = c.reserve-2.new.self })
-    c.split_run.new.self
+ready : (g : Over) → (c : After-split_run g) → let self = c.args.self.now in
+    IsRoomy (g.T.Texts.text_of c.args.texts.now) self
+    (record self { later = c.reserve.new.self; starts = c.reserve-2.new.self }) c.split_run.new.self
 ready g c = record {
   index = c.requires.index;
-  runs = ap (λ (runs : List Run). c.args.self.now.first ∷ runs) c.in_ok-reserve.ensures.items;
+  runs = ap (λ runs. c.args.self.now.first ∷ runs) c.in_ok-reserve.ensures.items;
   starts = rw c.split_run.ensures.starts c.in_ok-reserve-2.ensures.ids;
-  ordered = rw c.split_run.ensures.starts
-      (c.in_ok-reserve-2.ensures.run (g.T.Texts.text_of c.args.texts.now) c.requires.index.starts);
+  ordered = rw c.split_run.ensures.starts (c.in_ok-reserve-2.ensures.run _ c.requires.index.starts);
 }
 
 pub returns-in_err-upper-clause-index : goal.returns-in_err-upper-clause-index
@@ -43,8 +40,7 @@ moved : (g : Over) → (c : After-after_split g) → IsMoved (g.T.Texts.text_of 
     (record c.split_run.new.self { later = c.insert_run.new.runs; starts = c.put.new.self })
     c.args.spot c.after_split.result
 moved g c = spot_moved (ready g (goal.at.After-after_split g c).After-split_run) c.requires.full
-    c.requires.spot c.in_ok-upper.ensures.ok _ _ c.id.result
-    (ap (λ (runs : List Run). c.split_run.new.self.first ∷ runs) c.insert_run.ensures)
+    c.requires.spot c.in_ok-upper.ensures.ok _ _ c.id.result refl c.insert_run.ensures
     c.put.ensures.ids c.put.ensures.run c.id.ensures c.after_split.ensures.lower
     c.after_split.ensures.upper
 
