@@ -1,5 +1,5 @@
 -- What a search in a run of an index finds.
-use Rattle.std.proofs.Common.{arith, ◌≡◌, ℕ, ◌<◌, List, [], ◌∷◌, map, length, take, drop, get_or, Ordering, Less, Equal, Greater, sym, ap, subst, ◌∙◌}
+use Rattle.std.proofs.Common.{arith, ◌≡◌, ℕ, ◌+◌, ◌-◌, ◌/◌, ◌<◌, ◌≤◌, List, [], ◌∷◌, map, length, take, drop, get_or, Ordering, Less, Equal, Greater, sym, ap, subst, ◌∙◌}
 use Rattle.std.proofs.lemmas.List.{append-nil, get_or-map, length-map}
 use Rattle.std.proofs.lemmas.List.Elements.{All-from_recursion, All-get_or}
 use Rattle.std.proofs.lemmas.Map.Lookups.{exact_bytes}
@@ -15,17 +15,7 @@ use Rattle.inline_uses.specs.declared.index.mark.Mark.{Mark}
 use Rattle.inline_uses.specs.declared.index.run.Run.{Run}
 use Rattle.inline_uses.proofs.Gaps.{AreBelow, AreAbove, gap_between, turned_back}
 use Rattle.inline_uses.proofs.IndexMarks.{AreBytes, front_decides, mark_decides}
-
--- the marks of a run compare as the texts do, to one that has their front
-marks_decide : (text_of : ℕ → List ℕ) (len : ℕ) (front text : List ℕ) (marks : List Mark)
-    → AllByRecursion (IsMark text_of len front) marks → AreBytes text → take len text ≡ front
-    → AllByRecursion (λ m. mark_order text_of (from_be_bytes w64 (drop len text)) text m
-    ≡ key_order (text_of m.id) text) marks
-marks_decide text_of len front text [] are bytes begins = tt
-marks_decide text_of len front text (m ∷ marks) are bytes begins = (
-  mark_decides text_of len front text m are.0 bytes begins,
-  marks_decide text_of len front text marks are.1 bytes begins,
-)
+use Rattle.inline_uses.proofs.Search.{GoesWithin, goes_after, goes_before}
 
 -- if their front is below that of a text, so are the texts of a run, and above it
 fronts_below : (text_of : ℕ → List ℕ) (len : ℕ) (front text : List ℕ) (marks : List Mark)
@@ -74,14 +64,13 @@ module _ (text_of : ℕ → List ℕ) (len : ℕ) (text : List ℕ) where
   above_all (m ∷ marks) are more = gap_between text [] (texts_of text_of (m ∷ marks)) tt
       (fronts_above text_of len _ text (m ∷ marks) are more)
 
-  -- marks whose front the text has decide as the texts do
-  all_decide : (marks : List Mark) → AreMarks text_of len marks → AreBytes text
+  -- a text that compares as equal has their front
+  has_front : (marks : List Mark) → 0 < length marks
       → compare_fronts len (texts_of text_of marks) text ≡ Equal
-      → AllByRecursion (λ m. mark_order text_of (from_be_bytes w64 (drop len text)) text m
-      ≡ key_order (text_of m.id) text) marks
-  all_decide [] are bytes equal = tt
-  all_decide (m ∷ marks) are bytes equal = marks_decide text_of len _ text (m ∷ marks) are bytes
-      (sym (exact_bytes (take len (text_of m.id)) (take len text) equal))
+      → take len text ≡ first_front len (texts_of text_of marks)
+  has_front [] some equal = absurd (omega (arith, some))
+  has_front (m ∷ marks) some equal =
+      sym (exact_bytes (take len (text_of m.id)) (take len text) equal)
 
 -- what a comparison to the mark at an index says of its text
 module _ (text_of : ℕ → List ℕ) (text : List ℕ) (marks : List Mark) (at : ℕ) (mark : Mark)
@@ -97,36 +86,78 @@ module _ (text_of : ℕ → List ℕ) (text : List ℕ) (marks : List Mark) (at 
         → key_order (get_or (texts_of text_of marks) at []) text ≡ o
     by_text o is = ap (λ t. key_order t text) text_seen ∙ sym is
 
-    -- by its bits
-    pub by_mark : (len : ℕ) → AreMarks text_of len marks → AreBytes text
-        → compare_fronts len (texts_of text_of marks) text ≡ Equal → (o : Ordering)
-        → o ≡ mark_order text_of (from_be_bytes w64 (drop len text)) text mark
-        → key_order (get_or (texts_of text_of marks) at []) text ≡ o
-    by_mark len are bytes equal o is = by_text o (is
-        ∙ subst (λ m. mark_order text_of (from_be_bytes w64 (drop len text)) text m
-        ≡ key_order (text_of m.id) text) (sym read)
-        (All-get_or (λ m. mark_order text_of (from_be_bytes w64 (drop len text)) text m
-        ≡ key_order (text_of m.id) text) marks at mark within
-        (All-from_recursion (λ m. mark_order text_of (from_be_bytes w64 (drop len text)) text m
-        ≡ key_order (text_of m.id) text) marks
-        (all_decide text_of len text marks are bytes equal))))
-
     pub found_at : key_order (text_of mark.id) text ≡ Equal
         → slice_get (texts_of text_of marks) at ≡ Some text
     found_at equal = slice_get-get_or (texts_of text_of marks) at []
         (rw (length-map, length-map) within)
         ∙ ap Some (text_seen ∙ exact_bytes (text_of mark.id) text equal)
 
--- a mark that compares as equal has the text
-pub equal_mark : (text_of : ℕ → List ℕ) (bits : ℕ) (text : List ℕ) (mark : Mark)
-    → mark_order text_of bits text mark ≡ Equal → key_order (text_of mark.id) text ≡ Equal
-equal_mark text_of bits text mark equal = by (nat_cmp mark.bits bits) equal
+-- a text goes between two indices of a run, if it has the front
+abbrev pub GoesIn : (ℕ → List ℕ) → Run → List ℕ → ℕ → ℕ → Type 0
+GoesIn text_of run text start end = let texts = texts_of text_of run.marks.items in
+    (start ≤ end) × (end ≤ length run.marks.items)
+    × (compare_fronts run.front texts text ≡ Equal → GoesWithin texts text start end)
+
+-- a comparison to the mark in the middle narrows where it goes, or finds it
+module _ (text_of : ℕ → List ℕ) (text : List ℕ) {run : Run} {start end : ℕ} {mark : Mark}
+    (is : IsOrdered text_of run) (part : GoesIn text_of run text start end) (some : start < end)
+    (read : mark ≡ get_or run.marks.items (start + (end - start) / 2) mark)
   where
-    by : (o : Ordering) → match_ordering o Less (key_order (text_of mark.id) text) Greater ≡ Equal
-        → key_order (text_of mark.id) text ≡ Equal
-    by Less e = cc
-    by Equal e = e
-    by Greater e = cc
+    abbrev at : ℕ
+    at = start + (end - start) / 2
+
+    to : at < end
+    to = omega (arith, some)
+
+    within : at < length run.marks.items
+    within = omega (arith, to, part.1)
+
+    abbrev Compares : Ordering → Type 0
+    Compares o = mark_order text_of (from_be_bytes w64 (drop run.front text)) text mark ≡ o
+
+    -- the mark compares as its text, to one with the front
+    by_mark : AreBytes text
+        → compare_fronts run.front (texts_of text_of run.marks.items) text ≡ Equal
+        → {o : Ordering} → Compares o
+        → key_order (get_or (texts_of text_of run.marks.items) at []) text ≡ o
+    by_mark bytes equal {o} compared =
+        let marks = run.marks.items in
+        let front = first_front run.front (texts_of text_of marks) in
+        let are = All-from_recursion (IsMark text_of run.front front) marks is.marks in
+        by_text text_of text marks at mark within read o (sym compared
+        ∙ mark_decides text_of run.front front text mark (subst (IsMark text_of run.front front)
+        (sym read) (All-get_or (IsMark text_of run.front front) marks at mark within are)) bytes
+        (has_front text_of run.front text marks (omega (arith, within)) equal))
+
+    pub after_middle : AreBytes text → Compares Less → GoesIn text_of run text (at + 1) end
+    after_middle bytes less = (
+      omega (arith, to),
+      part.1,
+      λ equal.
+          goes_after _ text start end at is.sorted (part.2 equal) (omega arith) to
+          (by_mark bytes equal less),
+    )
+
+    pub before_middle : AreBytes text → Compares Greater → GoesIn text_of run text start at
+    before_middle bytes more = (
+      omega arith,
+      omega (arith, within),
+      λ equal.
+          goes_before _ text start end at is.sorted (part.2 equal) (omega arith) to
+          (by_mark bytes equal more),
+    )
+
+    pub found_middle : (bits : ℕ) → mark_order text_of bits text mark ≡ Equal
+        → slice_get (texts_of text_of run.marks.items) at ≡ Some text
+    found_middle bits equal = found_at text_of text run.marks.items at mark within read
+        (by (nat_cmp mark.bits bits) equal)
+      where
+        by : (o : Ordering)
+            → match_ordering o Less (key_order (text_of mark.id) text) Greater ≡ Equal
+            → key_order (text_of mark.id) text ≡ Equal
+        by Less e = cc
+        by Equal e = e
+        by Greater e = cc
 
 -- where a text goes among none
 pub gap_in_none : (texts : List (List ℕ)) (text : List ℕ) → length texts ≡ 0 → IsGap texts text 0
