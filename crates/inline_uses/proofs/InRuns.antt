@@ -14,7 +14,7 @@ use Rattle.inline_uses.specs.declared.index.Index.{Index}
 use Rattle.inline_uses.specs.Symbols.{key_order, IsGap}
 use Rattle.inline_uses.specs.declared.index.run.Run.{Run}
 use Rattle.inline_uses.proofs.Gaps.{AreAbove, AreBelow, gap_between, parts_of_gap, turned_back}
-use Rattle.inline_uses.proofs.RunEdits.{all_at, all_take}
+use Rattle.inline_uses.proofs.RunEdits.{all_at, all_take, gap_in_rest}
 use Rattle.inline_uses.proofs.Tables.{before_append}
 
 -- the ids of runs
@@ -158,15 +158,8 @@ module _ (text_of : ℕ → List ℕ) (text : List ℕ) where
   after_above [] r (run ∷ runs) (suc k) sorted have gap = absurd have
   after_above (id ∷ ids) r [] (suc k) sorted have gap = tt
   after_above (id ∷ ids) r (run ∷ runs) (suc k) sorted have gap = after_above ids run runs k
-      (sorted_rest (ids_of r) (flat (run ∷ runs)) sorted) have.1 (less_gap ids id k gap)
-    where
-      less_gap : (ids : List ℕ) (id k : ℕ) → IsGap (map text_of (id ∷ ids)) text (suc k)
-          → IsGap (map text_of ids) text k
-      less_gap ids id k gap = (
-        omega (arith, gap.0),
-        (λ i less. gap.1 (suc i) (omega arith)),
-        λ i le less. gap.2 (suc i) (omega arith) (omega arith),
-      )
+      (sorted_rest (ids_of r) (flat (run ∷ runs)) sorted) have.1
+      (gap_in_rest text (map text_of ids) (text_of id) k gap)
 
   pub earlier_below : (ids : List ℕ) (r : Run) (runs : List Run) (k : ℕ)
       → AreSorted (flat (r ∷ runs)) → HaveFirsts ids runs → IsGap (map text_of ids) text k
@@ -182,11 +175,8 @@ module _ (text_of : ℕ → List ℕ) (text : List ℕ) where
       (map text_of (flat (take k (run ∷ runs))))
       (before_below (ids_of r) (flat (run ∷ runs)) id sorted next
       (turned_back text (text_of id) (gap.1 0 (omega arith))))
-      (earlier_below ids run runs k (sorted_rest (ids_of r) (flat (run ∷ runs)) sorted) have.1 (
-        omega (arith, gap.0),
-        (λ i less. gap.1 (suc i) (omega arith)),
-        λ i le less. gap.2 (suc i) (omega arith) (omega arith),
-      )))
+      (earlier_below ids run runs k (sorted_rest (ids_of r) (flat (run ∷ runs)) sorted) have.1
+      (gap_in_rest text (map text_of ids) (text_of id) k gap)))
 
   -- where a text goes in the run in which it goes, it goes among all
   pub gap_in_flat : (ids : List ℕ) (runs : List Run) (k at : ℕ) (run : Run)
@@ -233,11 +223,8 @@ module _ (text_of : ℕ → List ℕ) (text : List ℕ) where
       cc
   after_first (id ∷ ids) (r ∷ r1 ∷ runs) (suc zero) (suc at) run have gap is here past = omega arith
   after_first (id ∷ ids) (r ∷ r1 ∷ runs) (suc (suc k)) at run have gap is here past =
-      after_first ids (r1 ∷ runs) (suc k) at run have.1 (
-        omega (arith, gap.0),
-        (λ i less. gap.1 (suc i) (omega arith)),
-        λ i le less. gap.2 (suc i) (omega arith) (omega arith),
-      ) is here (omega arith)
+      after_first ids (r1 ∷ runs) (suc k) at run have.1
+      (gap_in_rest text (map text_of ids) (text_of id) (suc k) gap) is here (omega arith)
 
   -- the text of an id that has it is among all
   text_is : (ids : List ℕ) (k id : ℕ) → slice_get (map text_of ids) k ≡ Some text

@@ -46,6 +46,15 @@ sorted_drop zero ts sorted = sorted
 sorted_drop (suc n) [] sorted = tt
 sorted_drop (suc n) (t ∷ ts) sorted = sorted_drop n ts sorted.1
 
+-- a text that does not go before the first of others goes among the rest
+pub gap_in_rest : (text : List ℕ) (ts : List (List ℕ)) (t : List ℕ) (at : ℕ)
+    → IsGap (t ∷ ts) text (suc at) → IsGap ts text at
+gap_in_rest text ts t at gap = (
+  omega (arith, gap.0),
+  (λ i less. gap.1 (suc i) (omega arith)),
+  λ i le less. gap.2 (suc i) (omega arith) (omega arith),
+)
+
 pub sorted_insert : (at : ℕ) (ts : List (List ℕ)) (new : List ℕ)
     → IsStrictlySortedBy key_order ts → IsGap ts new at
     → IsStrictlySortedBy key_order (insert ts at new)
@@ -55,11 +64,7 @@ sorted_insert (suc at) [] new sorted gap = (tt, tt)
 sorted_insert (suc at) (t ∷ ts) new sorted gap =
     let parts = parts_of_gap new (t ∷ ts) (suc at) gap in (
       all_insert (λ y. key_order t y ≡ Less) at ts new sorted.0 parts.0.0,
-      sorted_insert at ts new sorted.1 (
-        omega (arith, gap.0),
-        (λ i less. gap.1 (suc i) (omega arith)),
-        λ i le less. gap.2 (suc i) (omega arith) (omega arith),
-      ),
+      sorted_insert at ts new sorted.1 (gap_in_rest new ts t at gap),
     )
 
 -- marks with any front are those with the front of their first text

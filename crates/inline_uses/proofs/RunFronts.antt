@@ -79,11 +79,9 @@ common_within (x ∷ xs) (y ∷ ys) = by (nat_cmp x y) (common_within xs ys)
 pub ends_share : {text_of : ℕ → List ℕ} {marks : List Mark} {one other : List ℕ} (len : ℕ)
     → AreEnds text_of marks one other → AreMarks text_of len marks → take len one ≡ take len other
 ends_share {text_of} {marks} len ends are =
-    let front = first_front len (texts_of text_of marks) in
-    ap (take len) ends.one_is
-    ∙ (all_at (IsMark text_of len front) marks 0 ends.first are ends.begins).begins
-    ∙ sym (all_at (IsMark text_of len front) marks (length marks - 1) ends.last are ends.ends).begins
-    ∙ ap (take len) (sym ends.other_is)
+    let at = all_at (IsMark text_of len (first_front len (texts_of text_of marks))) marks in
+    rw (ends.one_is, ends.other_is) ((at 0 ends.first are ends.begins).begins
+    ∙ sym (at (length marks - 1) ends.last are ends.ends).begins)
 
 last_is : (m last : Mark) (marks : List Mark) → Some last ≡ slice_get (m ∷ marks) (length marks)
     → last_of m.id (map (λ m. m.id) marks) ≡ last.id

@@ -13,7 +13,7 @@ use Rattle.inline_uses.specs.declared.index.Index.{Index}
 use Rattle.inline_uses.specs.declared.index.Spot.{Spot}
 use Rattle.inline_uses.specs.declared.index.run.Run.{Run}
 use Rattle.inline_uses.proofs.InRuns.{IsReplaced, flat, flat_at, ids_at_is}
-use Rattle.inline_uses.proofs.RunEdits.{all_at, sorted_insert}
+use Rattle.inline_uses.proofs.RunEdits.{all_at, gap_in_rest, sorted_insert}
 use Rattle.inline_uses.proofs.Search.{inserted_seen}
 
 -- where a text goes among some, it goes among those after the first ones, and before the last ones
@@ -24,12 +24,9 @@ gap_past text [] rest at gap =
     subst (IsGap rest text) same gap
 gap_past text (t ∷ front) rest at gap =
     let next : suc (length front) + at ≡ suc (length front + at) = omega arith in
-    let gap' = subst (IsGap (t ∷ (front ++ rest)) text) next gap in
-    gap_past text front rest at (
-      omega (arith, gap'.0),
-      (λ i less. gap'.1 (suc i) (omega arith)),
-      λ i le less. gap'.2 (suc i) (omega arith) (omega arith),
-    )
+    gap_past text front rest at
+    (gap_in_rest text (front ++ rest) t (length front + at)
+    (subst (IsGap (t ∷ (front ++ rest)) text) next gap))
 
 pub gap_before : (text : List ℕ) (front rest : List (List ℕ)) (at : ℕ) → at ≤ length front
     → IsGap (front ++ rest) text at → IsGap front text at
@@ -143,24 +140,22 @@ IsAdded text_of before after spot id r = IsIndex text_of after
     × OnErr r (ids_in after ≡ ids_in before)
 
 -- an index in which a run is changed
-module _ (text_of : ℕ → List ℕ) (before after : Index) (k : ℕ) (old new : Run)
+module _ {text_of : ℕ → List ℕ} {before after : Index} {k : ℕ} {old new : Run}
     (is : IsIndex text_of before) (to : IsReplaced before after k old new)
     (starts : ids_of after.starts ≡ ids_of before.starts)
     (starts_run : IsOrdered text_of after.starts) (run : IsOrdered text_of new)
   where
-    changed : (ids : List ℕ) → flat (set (runs_of before) k new) ≡ ids
-        → IsStrictlySortedBy key_order (map text_of ids) → length (ids_of new) ≤ 256
+    changed : (ids : List ℕ) → ids_in after ≡ ids → IsStrictlySortedBy key_order (map text_of ids)
+        → length (ids_of new) ≤ 256
         → (0 < k → slice_get (ids_of new) 0 ≡ slice_get (ids_of old) 0) → IsIndex text_of after
-    changed ids flat_is sorted few first = record {
-      sorted = subst (λ rs. IsStrictlySortedBy key_order (map text_of (flat rs))) (sym to.runs)
-          (subst (λ ids. IsStrictlySortedBy key_order (map text_of ids)) (sym flat_is) sorted);
+    changed ids all sorted few first = record {
+      sorted = subst (λ ids. IsStrictlySortedBy key_order (map text_of ids)) (sym all) sorted;
       runs = subst (AllByRecursion (IsOrdered text_of)) (sym to.runs)
           (all_set (IsOrdered text_of) (runs_of before) k new is.runs run);
       short = subst (AllByRecursion IsShort) (sym to.runs)
           (all_set IsShort (runs_of before) k new is.short few);
       starts = starts_run;
-      firsts = subst (λ ids. HaveFirsts ids after.later.items) (sym starts)
-          (subst (λ rs. HaveFirsts (ids_of before.starts) (drop 1 rs)) (sym to.runs)
+      firsts = rw starts (subst (λ rs. HaveFirsts (ids_of before.starts) (drop 1 rs)) (sym to.runs)
           (other_firsts_set (ids_of before.starts) (runs_of before) k old new is.firsts to.there
           first));
     }
@@ -169,12 +164,10 @@ module _ (text_of : ℕ → List ℕ) (before after : Index) (k : ℕ) (old new 
     pub with_same : ids_of new ≡ ids_of old
         → IsIndex text_of after × (ids_in after ≡ ids_in before)
     with_same same =
-        let all = flat_same (runs_of before) k old new to.there same in (
-          changed (ids_in before) all is.sorted (subst (λ ids. length ids ≤ 256) (sym same)
-              (all_at IsShort (runs_of before) k old is.short (sym to.there)))
-              (λ past. ap (λ ids. slice_get ids 0) same),
-          ap flat to.runs ∙ all,
-        )
+        let all = ap flat to.runs ∙ flat_same (runs_of before) k old new to.there same in
+        let few : length (ids_of new) ≤ 256
+        = rw same (all_at IsShort (runs_of before) k old is.short (sym to.there)) in
+        (changed (ids_in before) all is.sorted few (λ past. ap (λ ids. slice_get ids 0) same), all)
 
 -- the run of a spot gets one id more, or its ids stay
 module _ {text_of : ℕ → List ℕ} {before after : Index} {spot : Spot} {old new : Run}
@@ -183,34 +176,26 @@ module _ {text_of : ℕ → List ℕ} {before after : Index} {spot : Spot} {old 
     (room : length (ids_at (runs_of before) spot.run) < 256) (spot_is : IsSpot before spot)
     (id : ℕ) (gap : IsGap (map text_of (ids_in before)) (text_of id) (index_of before spot))
   where
-    seen : ids_at (runs_of before) spot.run ≡ ids_of old
-    seen = ids_at_is (runs_of before) spot.run old to.there
-
     same_starts : IsOrdered text_of after.starts
     same_starts = subst (IsOrdered text_of) (sym starts) is.starts
-
-    with_more : ids_of new ≡ insert (ids_of old) spot.at id → IsIndex text_of after
-        × (ids_in after ≡ insert (ids_in before) (index_of before spot) id)
-    with_more grown =
-        let within = rw seen at spot_is.within in
-        let place = index_of before spot in
-        let all = flat_insert (runs_of before) spot.run spot.at id old new to.there within grown in (
-          changed text_of before after spot.run old new is to (ap ids_of starts) same_starts run
-              (insert (ids_in before) place id) all
-              (rw inserted_seen (sorted_insert place (map text_of (ids_in before)) (text_of id)
-              is.sorted gap))
-              (rw (grown, length-insert (ids_of old) spot.at id within)
-              (omega (arith, rw seen at room)))
-              (λ some. ap (λ ids. slice_get ids 0) grown
-              ∙ first_stays (ids_of old) spot.at id (spot_is.after some) within),
-          ap flat to.runs ∙ all,
-        )
 
     pub with_added : (r : Result ⊤ AllocError)
         → OnOk r (ids_of new ≡ insert (ids_of old) spot.at id) → OnErr r (ids_of new ≡ ids_of old)
         → IsAdded text_of before after spot id r
-    with_added (Ok u) ok err = let more = with_more ok in (more.0, more.1, tt)
+    with_added (Ok u) ok err =
+        let seen = ids_at_is (runs_of before) spot.run old to.there in
+        let within = rw seen at spot_is.within in
+        let all = ap flat to.runs
+        ∙ flat_insert (runs_of before) spot.run spot.at id old new to.there within ok in (
+          changed is to (ap ids_of starts) same_starts run _ all
+              (rw inserted_seen (sorted_insert (index_of before spot)
+              (map text_of (ids_in before)) (text_of id) is.sorted gap))
+              (rw (ok, length-insert (ids_of old) spot.at id within)
+              (omega (arith, rw seen at room)))
+              (λ some. ap (λ ids. slice_get ids 0) ok
+              ∙ first_stays (ids_of old) spot.at id (spot_is.after some) within),
+          all,
+          tt,
+        )
     with_added (Err e) ok err =
-        let same = with_same text_of before after spot.run old new is to (ap ids_of starts)
-        same_starts run err in
-        (same.0, tt, same.1)
+        let same = with_same is to (ap ids_of starts) same_starts run err in (same.0, tt, same.1)

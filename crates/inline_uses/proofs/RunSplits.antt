@@ -171,8 +171,7 @@ module _ {text_of : ℕ → List ℕ} {index roomy parted : Index}
     -- it has the ids that it had, if it was not
     pub unsplit : {at : ℕ} → IsChanged text_of roomy parted at (λ ids. ids)
         → IsIndex text_of parted × (ids_in parted ≡ ids_in index)
-    unsplit {at} to = with_same text_of index parted at to.old to.new ready.index
-        (replaced to) ready.starts ready.ordered to.ordered to.changed
+    unsplit to = with_same ready.index (replaced to) ready.starts ready.ordered to.ordered to.changed
 
     module _ {spot : Spot} {upper : Run} (full : length (ids_at (runs_of index) spot.run) ≡ 256)
         (spot_is : IsSpot index spot) (split : IsSplit text_of roomy parted spot.run upper)
@@ -221,10 +220,10 @@ module _ {text_of : ℕ → List ℕ} {index roomy parted : Index}
 
         -- where the ids of runs are after the one at k is split
         abbrev Parts : List Run → ℕ → List Run → Type 0
-        Parts runs k parted = (flat parted ≡ flat runs) × (flat (take k parted) ≡ flat (take k runs))
-            × (length (flat (take (suc k) parted)) ≡ length (flat (take k runs)) + 128)
-            × (ids_at parted k ≡ ids_of lower) × (ids_at parted (suc k) ≡ ids_of upper)
-            × (length parted ≡ suc (length runs))
+        Parts runs k rs = (flat rs ≡ flat runs) × (flat (take k rs) ≡ flat (take k runs))
+            × (length (flat (take (suc k) rs)) ≡ length (flat (take k runs)) + 128)
+            × (ids_at rs k ≡ ids_of lower) × (ids_at rs (suc k) ≡ ids_of upper)
+            × (length rs ≡ suc (length runs))
 
         parts_are : (runs : List Run) (k : ℕ) → slice_get runs k ≡ Some old
             → Parts runs k (insert (set runs k lower) (suc k) upper)
