@@ -142,14 +142,14 @@ module _ {text_of : ℕ → List ℕ} {before after : Index} {at : ℕ} {old low
     split_failed (Ok upper) same = tt
     split_failed (Err e) same = lower_changed (λ ids. ids) same
 
--- an index that got room for a run has its runs, and one of which a run is changed its starts
+-- an index keeps its runs as it gets room for one more, and its starts as a run is changed then
 pub record IsRoomy (text_of : ℕ → List ℕ) (before roomy after : Index) : Type 0 where
   pub index : IsIndex text_of before
   pub runs : runs_of roomy ≡ runs_of before
   pub starts : ids_of after.starts ≡ ids_of before.starts
   pub ordered : IsOrdered text_of after.starts
 
--- an index has the ids of another, and a spot of it, in a run with half of the ids
+-- an index has the ids of another, and its spot where the old one was, in a run of 128 ids
 pub record IsMoved (text_of : ℕ → List ℕ) (before after : Index) (old new : Spot) : Type 0 where
   pub index : IsIndex text_of after
   pub ids : ids_in after ≡ ids_in before
@@ -171,7 +171,8 @@ module _ {text_of : ℕ → List ℕ} {index roomy parted : Index}
     -- it has the ids that it had, if it was not
     pub unsplit : {at : ℕ} → IsChanged text_of roomy parted at (λ ids. ids)
         → IsIndex text_of parted × (ids_in parted ≡ ids_in index)
-    unsplit to = with_same ready.index (replaced to) ready.starts ready.ordered to.ordered to.changed
+    unsplit to =
+        with_same ready.index (replaced to) ready.starts ready.ordered to.ordered to.changed
 
     module _ {spot : Spot} {upper : Run} (full : length (ids_at (runs_of index) spot.run) ≡ 256)
         (spot_is : IsSpot index spot) (split : IsSplit text_of roomy parted spot.run upper)
