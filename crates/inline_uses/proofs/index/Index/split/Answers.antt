@@ -34,27 +34,27 @@ put-requires-clause-gap g c =
     upper_gap (ready g (goal.at.put-requires-clause-gap g c).After-split_run) c.requires.full
     c.requires.spot c.in_ok-upper.ensures.ok c.id.ensures
 
--- the spot is the same in the index with one run more
-moved : (g : Over) → (c : After-after_split g) → IsMoved (g.T.Texts.text_of c.args.texts.now)
+-- the runs are those before, with two for the one that was split, and so is the spot
+runs_are : (g : Over) → (c : After-after_split g) → IsMoved (g.T.Texts.text_of c.args.texts.now)
     c.args.self.now
     (record c.split_run.new.self { later = c.insert_run.new.runs; starts = c.put.new.self })
     c.args.spot c.after_split.result
-moved g c = spot_moved (ready g (goal.at.After-after_split g c).After-split_run) c.requires.full
+runs_are g c = spot_moved (ready g (goal.at.After-after_split g c).After-split_run) c.requires.full
     c.requires.spot c.in_ok-upper.ensures.ok _ _ c.id.result refl c.insert_run.ensures
     c.put.ensures.ids c.put.ensures.run c.id.ensures c.after_split.ensures.lower
     c.after_split.ensures.upper
 
 pub returns-clause-index : goal.returns-clause-index
-returns-clause-index g c = (moved g c).index
+returns-clause-index g c = (runs_are g c).index
 
 pub returns-clause-ids : goal.returns-clause-ids
-returns-clause-ids g c = (moved g c).ids
+returns-clause-ids g c = (runs_are g c).ids
 
 pub returns-clause-room : goal.returns-clause-room
-returns-clause-room g c = (moved g c).room
+returns-clause-room g c = (runs_are g c).room
 
 pub returns-clause-spot : goal.returns-clause-spot
-returns-clause-spot g c = (moved g c).spot
+returns-clause-spot g c = (runs_are g c).spot
 
 pub returns-clause-at : goal.returns-clause-at
-returns-clause-at g c = (moved g c).at
+returns-clause-at g c = (runs_are g c).at

@@ -20,26 +20,27 @@ returns-then-at-eq0-clause-err g c =
     c.split.ensures.run c.split.result c.split.ensures.err
 
 -- the later run at the index is another
-later : (g : Over) → (c : After-index_mut g) → (new : Run) → IsReplaced c.args.self.now
+later_is : (g : Over) → (c : After-index_mut g) → (new : Run) → IsReplaced c.args.self.now
     (record c.args.self.now { later = with_item c.args.self.now.later (c.args.at - 1) new })
     c.args.at c.index_mut.result.now new
-later g c new = later_replaced c.args.self.now c.args.at c.index_mut.result.now new (search rules)
-    c.requires.within c.index_mut.ensures.value
+later_is g c new = later_replaced c.args.self.now c.args.at c.index_mut.result.now new
+    (search rules) c.requires.within c.index_mut.ensures.value
 
 pub split-requires-2-clause-within : goal.split-requires-2-clause-within
 split-requires-2-clause-within g c =
     let old = c.index_mut.result.now in
-    let there = (later g (goal.at.split-requires-2-clause-within g c).After-index_mut old).there in
+    let index_mut = (goal.at.split-requires-2-clause-within g c).After-index_mut in
+    let there = (later_is g index_mut old).there in
     let full = rw (ids_at_is (runs_of c.args.self.now) c.args.at old there) at c.requires.full in
     omega (arith, full)
 
 pub returns-clause-ok : goal.returns-clause-ok
 returns-clause-ok g c =
-    split_made (later g (goal.at.returns-clause-ok g c).After-index_mut c.split-2.new.self)
+    split_made (later_is g (goal.at.returns-clause-ok g c).After-index_mut c.split-2.new.self)
     c.split-2.ensures.run c.split-2.result c.split-2.ensures.lower c.split-2.ensures.upper
     c.split-2.ensures.upper_run
 
 pub returns-clause-err : goal.returns-clause-err
 returns-clause-err g c =
-    split_failed (later g (goal.at.returns-clause-err g c).After-index_mut c.split-2.new.self)
+    split_failed (later_is g (goal.at.returns-clause-err g c).After-index_mut c.split-2.new.self)
     c.split-2.ensures.run c.split-2.result c.split-2.ensures.err
