@@ -1,9 +1,9 @@
 -- What a search among keys in order finds, and what an edit there does to the entries.
-use Rattle.std.proofs.Common.{arith, ◌≡◌, ℕ, zero, suc, ◌+◌, ◌<◌, ◌≤◌, List, [], ◌∷◌, map, length, get_or, set, Some, None, Bool, true, false, cond, Ordering, Less, Equal, Greater, refl, sym, ap, ◌∙◌, take, drop, option_map}
+use Rattle.std.proofs.Common.{arith, ◌≡◌, ℕ, zero, suc, ◌+◌, ◌-◌, ◌/◌, ◌<◌, ◌≤◌, List, [], ◌∷◌, map, length, get_or, set, Some, None, Bool, true, false, cond, Ordering, Less, Equal, Greater, refl, sym, ap, ◌∙◌, take, drop, option_map}
 use Rattle.std.specs.Prelude.{slice_get}
 use Rattle.std.proofs.Math.Seq.{drop-nil, take-nil}
 use Rattle.std.proofs.lemmas.Cmp.{nat_list_cmp_total, tied_itself}
-use Rattle.std.proofs.lemmas.List.{length-map, map-append, map-set, take-map, drop-map}
+use Rattle.std.proofs.lemmas.List.{get_or-map, length-map, map-append, map-set, take-map, drop-map}
 use Rattle.std.proofs.lemmas.List.Elements.{All-from_recursion, All-get_or, recursion_from_All, All-weaker}
 use Rattle.std.proofs.lemmas.Map.Keys.{Less-from_sorted}
 use Rattle.std.proofs.lemmas.Map.Lookups.{exact_bytes}
@@ -63,6 +63,25 @@ module _ (keys : List (List ℕ)) (key : List ℕ) (start end at : ℕ)
     pub is_there : key_order (get_or keys at []) key ≡ Equal → slice_get keys at ≡ Some key
     is_there equal = slice_get-get_or keys at [] (omega (arith, to, part.1))
         ∙ ap Some (exact_bytes _ _ equal)
+
+-- a comparison to the key in the middle narrows where a key goes, or finds it
+pub compared : {A : Type 0} (f : A → List ℕ) (xs : List A) {key : List ℕ} {start end : ℕ} {x : A}
+    {o : Ordering} → IsStrictlySortedBy key_order (map f xs) → GoesWithin (map f xs) key start end
+    → start < end → x ≡ get_or xs (start + (end - start) / 2) x → o ≡ key_order (f x) key
+    → (o ≡ Less → GoesWithin (map f xs) key (start + (end - start) / 2 + 1) end)
+    × (o ≡ Equal → slice_get (map f xs) (start + (end - start) / 2) ≡ Some key)
+    × (o ≡ Greater → GoesWithin (map f xs) key start (start + (end - start) / 2))
+compared f xs {key} {start} {end} {x} {o} sorted part less read is =
+    let at = start + (end - start) / 2 in
+    let from : start ≤ at = omega arith in
+    let to : at < end = omega (arith, less) in
+    let within : at < length xs = omega (arith, to, part.1, length-map xs f) in
+    let seen : key_order (get_or (map f xs) at []) key ≡ o = ap (λ k. key_order k key)
+    (get_or-map f xs at x [] within ∙ ap f (sym read)) ∙ sym is in (
+      (λ l. goes_after _ key start end at sorted part from to (seen ∙ l)),
+      (λ l. is_there _ key start end at sorted part from to (seen ∙ l)),
+      λ l. goes_before _ key start end at sorted part from to (seen ∙ l),
+    )
 
 -- a key that is among others, each above one, is above it
 above : (key k : List ℕ) (ks : List (List ℕ)) (at : ℕ)
