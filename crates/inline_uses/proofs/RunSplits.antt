@@ -1,5 +1,5 @@
 -- An index in which a run is split.
-use Rattle.std.proofs.Common.{arith, ◌≡◌, ℕ, zero, suc, ◌+◌, ◌<◌, ◌≤◌, List, [], ◌∷◌, ◌++◌, map, length, take, drop, set, Some, Less, refl, sym, ap, subst, ◌∙◌, inl, inr, add-one, append_assoc}
+use Rattle.std.proofs.Common.{arith, ◌≡◌, ◌⊎◌, ℕ, zero, suc, ◌+◌, ◌-◌, ◌<◌, ◌≤◌, List, [], ◌∷◌, ◌++◌, map, length, take, drop, set, Some, Less, refl, sym, ap, subst, ◌∙◌, inl, inr, add-one, append_assoc}
 use Rattle.std.specs.Prelude.{Err, IfOk, Ok, OnErr, OnOk, Result, slice_get}
 use Rattle.std.proofs.lemmas.Bool.{cases_lt}
 use Rattle.std.proofs.lemmas.List.{append-nil, length-append, length-drop, length-map, length-take-le, map-append, take-append-drop}
@@ -11,6 +11,7 @@ use Rattle.inline_uses.specs.Index.{HaveFirsts, IsChanged, IsIndex, IsOrdered, I
 use Rattle.inline_uses.specs.Symbols.{key_order, IsGap}
 use Rattle.inline_uses.specs.declared.index.Index.{Index}
 use Rattle.inline_uses.specs.declared.index.Spot.{Spot}
+use Rattle.inline_uses.specs.declared.index.TheConstants.{HALF}
 use Rattle.inline_uses.specs.declared.index.run.Run.{Run}
 use Rattle.inline_uses.proofs.Gaps.{AreAbove, AreBelow, gap_between}
 use Rattle.inline_uses.proofs.InRuns.{IsReplaced, flat, have_length, ids_at_is, in_flat, past_append, sorted_rest}
@@ -130,11 +131,11 @@ module _ {text_of : ℕ → List ℕ} {before after : Index} {at : ℕ} {old low
       changed = changed;
     }
 
-    pub split_made : (r : Result Run AllocError) → OnOk r (ids_of lower ≡ take 128 (ids_of old))
-        → IfOk r (λ upper. ids_of upper ≡ drop 128 (ids_of old)) → IfOk r (IsOrdered text_of)
+    pub split_made : (r : Result Run AllocError) → OnOk r (ids_of lower ≡ take HALF (ids_of old))
+        → IfOk r (λ upper. ids_of upper ≡ drop HALF (ids_of old)) → IfOk r (IsOrdered text_of)
         → IfOk r (IsSplit text_of before after at)
     split_made (Ok upper) low high is =
-        record { lower = lower_changed (take 128) low; ordered = is; rest = high }
+        record { lower = lower_changed (take HALF) low; ordered = is; rest = high }
     split_made (Err e) low high is = tt
 
     pub split_failed : (r : Result Run AllocError) → OnErr r (ids_of lower ≡ ids_of old)
@@ -149,11 +150,12 @@ pub record IsRoomy (text_of : ℕ → List ℕ) (before roomy after : Index) : T
   pub starts : ids_of after.starts ≡ ids_of before.starts
   pub ordered : IsOrdered text_of after.starts
 
--- an index has the ids of another, and its spot where the old one was, in a run of 128 ids
+-- an index has the ids of another, and its spot where the old one was, in one of two halves
 pub record IsMoved (text_of : ℕ → List ℕ) (before after : Index) (old new : Spot) : Type 0 where
   pub index : IsIndex text_of after
   pub ids : ids_in after ≡ ids_in before
-  pub room : length (ids_at (runs_of after) new.run) ≡ 128
+  pub room : (length (ids_at (runs_of after) new.run) ≡ HALF)
+      ⊎ (length (ids_at (runs_of after) new.run) ≡ 256 - HALF)
   pub spot : IsSpot after new
   pub at : index_of after new ≡ index_of before old
 
@@ -189,14 +191,11 @@ module _ {text_of : ℕ → List ℕ} {index roomy parted : Index}
         count : length (ids_of old) ≡ 256
         count = rw (ids_at_is (runs_of index) spot.run old to.there) at full
 
-        lower_count : length (ids_of lower) ≡ 128
-        lower_count = rw (
-          split.lower.changed,
-          length-take-le 128 (ids_of old)
-              (omega (arith, count)),
-        ) refl
+        lower_count : length (ids_of lower) ≡ HALF
+        lower_count = ap length split.lower.changed
+            ∙ length-take-le HALF (ids_of old) (omega (arith, count))
 
-        upper_count : length (ids_of upper) ≡ 128
+        upper_count : length (ids_of upper) ≡ 256 - HALF
         upper_count = rw (split.rest, length-drop) (omega (arith, count))
 
         -- the upper part has a first id, whose text goes among those of the others
@@ -206,9 +205,9 @@ module _ {text_of : ℕ → List ℕ} {index roomy parted : Index}
         pub upper_gap : {first : ℕ} → slice_get (ids_of upper) 0 ≡ Some first
             → IsGap (map text_of (ids_of parted.starts)) (text_of first) spot.run
         upper_gap {first} next = rw ready.starts
-            (start_gap text_of first 128 (ids_of index.starts) (runs_of index) spot.run old
+            (start_gap text_of first HALF (ids_of index.starts) (runs_of index) spot.run old
             ready.index.sorted ready.index.firsts to.there
-            (sym (first_of_rest (ids_of old) 128) ∙ rw split.rest at next) (omega arith)
+            (sym (first_of_rest (ids_of old) HALF) ∙ rw split.rest at next) (omega arith)
             (rw (have_length (ids_of index.starts) index.later.items ready.index.firsts)
             spot_is.run))
 
@@ -217,12 +216,12 @@ module _ {text_of : ℕ → List ℕ} {index roomy parted : Index}
             (subst (λ rs. HaveFirsts (ids_of index.starts) (drop 1 rs)) (sym to.runs)
             (other_firsts_set (ids_of index.starts) (runs_of index) spot.run old lower
             ready.index.firsts to.there (λ past. ap (λ ids. slice_get ids 0) split.lower.changed
-            ∙ first_of_front (ids_of old) 128 (omega arith))))
+            ∙ first_of_front (ids_of old) HALF (omega arith))))
 
         -- where the ids of runs are after the one at k is split
         abbrev Parts : List Run → ℕ → List Run → Type 0
         Parts runs k rs = (flat rs ≡ flat runs) × (flat (take k rs) ≡ flat (take k runs))
-            × (length (flat (take (suc k) rs)) ≡ length (flat (take k runs)) + 128)
+            × (length (flat (take (suc k) rs)) ≡ length (flat (take k runs)) + HALF)
             × (ids_at rs k ≡ ids_of lower) × (ids_at rs (suc k) ≡ ids_of upper)
             × (length rs ≡ suc (length runs))
 
@@ -232,7 +231,7 @@ module _ {text_of : ℕ → List ℕ} {index roomy parted : Index}
         parts_are (r ∷ runs) zero is =
             let same : r ≡ old = cc in
             let whole : ids_of lower ++ ids_of upper ≡ ids_of r
-            = rw (split.lower.changed, split.rest, same) (take-append-drop 128 (ids_of old)) in (
+            = rw (split.lower.changed, split.rest, same) (take-append-drop HALF (ids_of old)) in (
               sym (append_assoc (ids_of lower) (ids_of upper) (flat runs))
                   ∙ ap (λ ids. ids ++ flat runs) whole,
               refl,
@@ -257,8 +256,8 @@ module _ {text_of : ℕ → List ℕ} {index roomy parted : Index}
             (more : after.later.items ≡ insert parted.later.items spot.run upper)
             (ids : ids_of after.starts ≡ insert (ids_of parted.starts) spot.run first)
             (ordered : IsOrdered text_of after.starts)
-            (next : slice_get (ids_of upper) 0 ≡ Some first) (stays : spot.at ≤ 128 → moved ≡ spot)
-            (moves : 128 < spot.at → (moved.run ≡ spot.run + 1) × (moved.at + 128 ≡ spot.at))
+            (next : slice_get (ids_of upper) 0 ≡ Some first) (stays : spot.at ≤ HALF → moved ≡ spot)
+            (moves : HALF < spot.at → (moved.run ≡ spot.run + 1) × (moved.at + HALF ≡ spot.at))
           where
             all : runs_of after ≡ insert (set (runs_of index) spot.run lower) (suc spot.run) upper
             all = rw (same, more) (ap (λ rs. insert rs (suc spot.run) upper) to.runs)
@@ -273,17 +272,18 @@ module _ {text_of : ℕ → List ℕ} {index roomy parted : Index}
                 (all_insert P (suc spot.run) (set (runs_of index) spot.run lower) upper
                 (all_set P (runs_of index) spot.run lower is low) high)
 
-            half_moved : (length (ids_at (runs_of after) moved.run) ≡ 128) × IsSpot after moved
+            half_moved : ((length (ids_at (runs_of after) moved.run) ≡ HALF)
+                ⊎ (length (ids_at (runs_of after) moved.run) ≡ 256 - HALF)) × IsSpot after moved
                 × (index_of after moved ≡ index_of index spot)
             half_moved =
                 let within = slice_get_within (runs_of index) spot.run old to.there in
-                elim (cases_lt 128 spot.at) [
+                elim (cases_lt HALF spot.at) [
                   | inl less ↦
                       let by = moves less in
                       let run = by.0 ∙ add-one spot.run in
-                      let half : length (ids_at (runs_of after) moved.run) ≡ 128
+                      let half : length (ids_at (runs_of after) moved.run) ≡ 256 - HALF
                       = rw (run, parts.4) upper_count in (
-                        half,
+                        inr half,
                         record {
                           run = omega (arith, within, run, parts.5);
                           within = rw half (omega (arith, by.1, spot_is.within, full));
@@ -292,10 +292,10 @@ module _ {text_of : ℕ → List ℕ} {index roomy parted : Index}
                         rw (run, parts.2) (omega (arith, by.1)),
                       )
                   | inr le ↦
-                      let half : length (ids_at (runs_of after) spot.run) ≡ 128
+                      let half : length (ids_at (runs_of after) spot.run) ≡ HALF
                       = rw parts.3 lower_count in
                       rw (stays le) (
-                        half,
+                        inl half,
                         record {
                           run = omega (arith, within, parts.5);
                           within = rw half le;
