@@ -21,7 +21,7 @@ use Rattle.inline_uses.specs.Symbols.{key_order, IsGap, HaveOneId, text_at, with
 use Rattle.inline_uses.proofs.Search.{seen_at, inserted_seen, none, ordered_put}
 use Rattle.inline_uses.specs.Index.{IsIndex, ids_in}
 use Rattle.inline_uses.specs.declared.index.Index.{Index}
-use Rattle.inline_uses.proofs.SameTexts.{Agree, same_map, same_texts}
+use Rattle.inline_uses.proofs.SameTexts.{same_texts}
 use Rattle.inline_uses.proofs.Tables.{at_push, before_append, from_push}
 
 -- no text has two ids
@@ -144,35 +144,30 @@ module _ (texts : List (List ℕ)) (text : List ℕ) where
   abbrev with_text : List (List ℕ)
   with_text = texts ++ text ∷ []
 
-  texts_agree : (ids : List ℕ) → AllByRecursion (λ id. id < length texts) ids
-      → Agree (text_at texts) (text_at with_text) ids
-  texts_agree [] all = tt
-  texts_agree (id ∷ ids) all =
-      (sym (get_or_append_left texts (text ∷ []) [] id all.0), texts_agree ids all.1)
-
-  texts_agree_back : (ids : List ℕ) → AllByRecursion (λ id. id < length texts) ids
-      → Agree (text_at with_text) (text_at texts) ids
-  texts_agree_back [] all = tt
-  texts_agree_back (id ∷ ids) all =
-      (get_or_append_left texts (text ∷ []) [] id all.0, texts_agree_back ids all.1)
+  texts_stay : (ids : List ℕ) → AllByRecursion (λ id. id < length texts) ids
+      → map (text_at with_text) ids ≡ map (text_at texts) ids
+  texts_stay [] all = refl
+  texts_stay (id ∷ ids) all = ap (λ t. t ∷ map (text_at with_text) ids)
+      (get_or_append_left texts (text ∷ []) [] id all.0)
+      ∙ ap (λ ts. text_at texts id ∷ ts) (texts_stay ids all.1)
 
   -- so an index of them is one, and goes back
   pub index_with : (index : Index) → AllByRecursion (λ id. id < length texts) (ids_in index)
       → IsIndex (text_at texts) index → IsIndex (text_at with_text) index
   index_with index all is = same_texts (text_at texts) (text_at with_text) index
-      (texts_agree (ids_in index) all) is
+      (texts_stay (ids_in index) all) is
 
   pub index_without : (index : Index) → AllByRecursion (λ id. id < length texts) (ids_in index)
       → IsIndex (text_at with_text) index → IsIndex (text_at texts) index
   index_without index all is = same_texts (text_at with_text) (text_at texts) index
-      (texts_agree_back (ids_in index) all) is
+      (sym (texts_stay (ids_in index) all)) is
 
   -- and where the text goes it still goes
   pub gap_with : (ids : List ℕ) (at : ℕ) → AllByRecursion (λ id. id < length texts) ids
       → IsGap (map (text_at texts) ids) text at
       → IsGap (map (text_at with_text) ids) (text_at with_text (length texts)) at
   gap_with ids at all gap = rw get_or-append_seam (subst (λ ts. IsGap ts text at)
-      (same_map (text_at texts) (text_at with_text) ids (texts_agree ids all)) gap)
+      (sym (texts_stay ids all)) gap)
 
 pub empty : IsOrderOf [] []
 unfolding IsStrictlySortedBy

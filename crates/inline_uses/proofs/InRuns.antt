@@ -3,12 +3,11 @@ use Rattle.std.proofs.Common.{arith, ◌≡◌, ℕ, zero, suc, ◌+◌, ◌-◌
 use Rattle.std.specs.Prelude.{slice_get}
 use Rattle.std.proofs.lemmas.Cmp.{nat_list_cmp_total}
 use Rattle.std.proofs.lemmas.List.{drop-map, length-append, length-map, length-take-le, map-append, take-append-drop, take-map}
-use Rattle.std.proofs.lemmas.Option.{slice_get-map, slice_get_read}
+use Rattle.std.proofs.lemmas.Option.{slice_get-get_or, slice_get-map, slice_get_within}
 use Rattle.std.proofs.Math.Seq.{take-append_seam}
 use Rattle.std.proofs.lemmas.List.Elements.{All-append, All-from_recursion, All-weaker, recursion_from_All}
 use Rattle.std.specs.List.{AllByRecursion, flat_map}
 use Rattle.std.specs.List.Sorted.{IsStrictlySortedBy}
-use Rattle.std.specs.Vec.{with_item}
 use Rattle.inline_uses.specs.Index.{HaveFirsts, IsIndex, IsOrdered, ids_at, ids_of, runs_of}
 use Rattle.inline_uses.specs.declared.index.Index.{Index}
 use Rattle.inline_uses.specs.Symbols.{key_order, IsGap}
@@ -51,16 +50,14 @@ in_flat (r ∷ runs) (suc k) run at id is here =
     ap (slice_get (ids_of r ++ flat runs)) place
     ∙ past_append (ids_of r) (flat runs) (length (flat (take k runs)) + at) ∙ rest
 
--- the first id of a run is among all
-pub first_in_flat : (ids : List ℕ) (runs : List Run) (k id : ℕ) → HaveFirsts ids runs
-    → slice_get ids k ≡ Some id → (at : ℕ) × (slice_get (flat runs) at ≡ Some id)
-first_in_flat [] runs k id have is = cc
-first_in_flat (i ∷ ids) [] k id have is = absurd have
-first_in_flat (i ∷ ids) (run ∷ runs) zero id have is =
-    (0, before_append (ids_of run) (flat runs) 0 id (have.0 ∙ is))
-first_in_flat (i ∷ ids) (run ∷ runs) (suc k) id have is =
-    let rest = first_in_flat ids runs k id have.1 is in
-    (length (ids_of run) + rest.0, past_append (ids_of run) (flat runs) rest.0 ∙ rest.1)
+-- a first id is that of a run
+pub run_of_first : (ids : List ℕ) (runs : List Run) (k id : ℕ) → HaveFirsts ids runs
+    → slice_get ids k ≡ Some id
+    → (run : Run) × (slice_get runs k ≡ Some run) × (slice_get (ids_of run) 0 ≡ Some id)
+run_of_first [] runs k id have is = cc
+run_of_first (i ∷ ids) [] k id have is = absurd have
+run_of_first (i ∷ ids) (run ∷ runs) zero id have is = (run, refl, have.0 ∙ is)
+run_of_first (i ∷ ids) (run ∷ runs) (suc k) id have is = run_of_first ids runs k id have.1 is
 
 -- the ids are those before a run, its own, and those after it
 pub flat_at : (runs : List Run) (k : ℕ) (run : Run) → slice_get runs k ≡ Some run
@@ -71,7 +68,7 @@ flat_at (r ∷ runs) (suc k) run is =
     ap (λ ids. ids_of r ++ ids) (flat_at runs k run is)
     ∙ sym (append_assoc (ids_of r) (flat (take k runs)) (ids_of run ++ flat (drop (suc k) runs)))
 
-all_weaker : {X : Type 0} (P Q : X → Type 0) → ((x : X) → P x → Q x) → (xs : List X)
+pub all_weaker : {X : Type 0} (P Q : X → Type 0) → ((x : X) → P x → Q x) → (xs : List X)
     → AllByRecursion P xs → AllByRecursion Q xs
 all_weaker P Q weaker xs all =
     recursion_from_All Q xs (All-weaker P Q weaker xs (All-from_recursion P xs all))
@@ -231,37 +228,26 @@ module _ (text_of : ℕ → List ℕ) (text : List ℕ) where
       → slice_get ids k ≡ Some id → Some (text_of id) ≡ Some text
   text_is ids k id found is = rw (slice_get-map, is) at found
 
-  found_with : (all : List ℕ) (at id : ℕ) → slice_get all at ≡ Some id
+  pub found_with : (all : List ℕ) (at id : ℕ) → slice_get all at ≡ Some id
       → Some (text_of id) ≡ Some text → slice_get (map text_of all) at ≡ Some text
   found_with all at id is same = rw (slice_get-map, is) same
 
-  -- what is found by the first ids, and in a run, is among all
-  pub found_first : (ids : List ℕ) (runs : List Run) (k id : ℕ) → HaveFirsts ids (drop 1 runs)
-      → slice_get (map text_of ids) k ≡ Some text → slice_get ids k ≡ Some id
-      → (at : ℕ) × (slice_get (map text_of (flat runs)) at ≡ Some text)
-      × (slice_get (flat runs) at ≡ Some id)
-  found_first [] [] k id have found is = cc
-  found_first (i ∷ ids) [] k id have found is = absurd have
-  found_first ids (r ∷ runs) k id have found is =
-      let there = first_in_flat ids runs k id have is in
-      let all = past_append (ids_of r) (flat runs) there.0 ∙ there.1 in (
-        length (ids_of r) + there.0,
-        found_with (flat (r ∷ runs)) (length (ids_of r) + there.0) id all
-            (text_is ids k id found is),
-        all,
-      )
+  pub id_of_text : (ids : List ℕ) (k : ℕ) → slice_get (map text_of ids) k ≡ Some text
+      → (id : ℕ) × (slice_get ids k ≡ Some id) × (Some (text_of id) ≡ Some text)
+  id_of_text ids k found =
+      let id = get_or ids k 0 in
+      let is = slice_get-get_or ids k 0
+      (rw length-map at (slice_get_within (map text_of ids) k text found)) in
+      (id, is, text_is ids k id found is)
 
-  pub found_in : (runs : List Run) (k at id : ℕ) (run : Run) → slice_get runs k ≡ Some run
-      → slice_get (map text_of (ids_of run)) at ≡ Some text → slice_get (ids_of run) at ≡ Some id
-      → (at : ℕ) × (slice_get (map text_of (flat runs)) at ≡ Some text)
-      × (slice_get (flat runs) at ≡ Some id)
-  found_in runs k at id run there found is =
-      let all = in_flat runs k run at id there is in (
-        length (flat (take k runs)) + at,
-        found_with (flat runs) (length (flat (take k runs)) + at) id all
-            (text_is (ids_of run) at id found is),
-        all,
-      )
+  -- what is found in a run is among all
+  pub text_in_flat : (runs : List Run) (k at : ℕ) (run : Run) → slice_get runs k ≡ Some run
+      → slice_get (map text_of (ids_of run)) at ≡ Some text
+      → slice_get (map text_of (flat runs)) (length (flat (take k runs)) + at) ≡ Some text
+  text_in_flat runs k at run there found =
+      let id = id_of_text (ids_of run) at found in
+      found_with (flat runs) (length (flat (take k runs)) + at) id.0
+      (in_flat runs k run at id.0 there id.1) id.2
 
 -- the ids of the run at an index
 pub ids_at_is : (runs : List Run) (k : ℕ) (run : Run) → slice_get runs k ≡ Some run
@@ -281,22 +267,20 @@ pub record IsReplaced (before after : Index) (at : ℕ) (old new : Run) : Type 0
   pub there : slice_get (runs_of before) at ≡ Some old
   pub runs : runs_of after ≡ set (runs_of before) at new
 
--- the first run of an index is another, and a later one
-pub first_replaced : (index : Index) (at : ℕ) (new : Run) → at ≡ 0
-    → IsReplaced index (record index { first = new }) at index.first new
-first_replaced index at new none = rw none (record { there = refl; runs = refl })
-
-pub later_replaced : (index : Index) (at : ℕ) (old new : Run) → 0 < at
-    → at ≤ length index.later.items → old ≡ get_or index.later.items (at - 1) old
-    → IsReplaced index (record index { later = with_item index.later (at - 1) new }) at old new
-later_replaced index zero old new past within read = absurd (omega (arith, past))
-later_replaced index (suc k) old new past within read =
+-- a later run, by its index among these
+pub later_there : (first : Run) (later : List Run) (k : ℕ) (run : Run) → 0 < k
+    → slice_get later (k - 1) ≡ Some run → slice_get (first ∷ later) k ≡ Some run
+later_there first later zero run past is = absurd (omega (arith, past))
+later_there first later (suc k) run past is =
     let before : suc k - 1 ≡ k = omega arith in
-    rw before (record {
-      there = slice_get_read index.later.items _ k old refl (omega (arith, within))
-          (rw before at read);
-      runs = refl;
-    })
+    subst (λ i. slice_get later i ≡ Some run) before is
+
+pub later_set : (first new : Run) (later : List Run) (k : ℕ) → 0 < k
+    → first ∷ set later (k - 1) new ≡ set (first ∷ later) k new
+later_set first new later zero past = absurd (omega (arith, past))
+later_set first new later (suc k) past =
+    let before : suc k - 1 ≡ k = omega arith in
+    ap (λ i. first ∷ set later i new) before
 
 -- an index of no text
 pub no_index : (text_of : ℕ → List ℕ) (index : Index) → ids_of index.first ≡ []

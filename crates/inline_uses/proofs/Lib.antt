@@ -9,6 +9,7 @@ pub mod Letters
 pub mod Lexemes
 pub mod Listed
 pub mod Members
+pub mod Places
 pub mod ReadBack
 pub mod Readable
 pub mod Remarked
@@ -16,11 +17,14 @@ pub mod Rows
 pub mod RunEdits
 mod RunFronts
 pub mod RunGrown
+pub mod RunJoins
+pub mod RunRemovals
 pub mod RunSets
 pub mod RunSplits
 pub mod SameTexts
 pub mod Search
 pub mod Shown
+pub mod Spots
 pub mod Tables
 pub mod Trees
 pub mod Under

@@ -16,7 +16,7 @@ use Rattle.inline_uses.specs.declared.index.run.Run.{Run}
 use Rattle.inline_uses.proofs.Gaps.{AreAbove, AreBelow, gap_between}
 use Rattle.inline_uses.proofs.InRuns.{IsReplaced, flat, have_length, ids_at_is, in_flat, past_append, sorted_rest}
 use Rattle.inline_uses.proofs.RunEdits.{all_at, all_insert}
-use Rattle.inline_uses.proofs.RunSets.{IsShort, all_set, other_firsts_set, with_same}
+use Rattle.inline_uses.proofs.RunSets.{IsShort, all_set, flat_same, index_of_runs, other_firsts_set}
 use Rattle.inline_uses.proofs.Tables.{before_append}
 
 -- a run more has its first id among the first ids
@@ -59,7 +59,7 @@ module _ (text_of : ℕ → List ℕ) where
       in_order ids i j x y sorted.1 (omega (arith, less)) first second
 
   -- the first ids of runs after an id are above it
-  firsts_above : (x : ℕ) (front : List ℕ) (ids : List ℕ) (runs : List Run) (i : ℕ)
+  pub firsts_above : (x : ℕ) (front : List ℕ) (ids : List ℕ) (runs : List Run) (i : ℕ)
       → IsStrictlySortedBy key_order (map text_of (front ++ flat runs)) → HaveFirsts ids runs
       → slice_get front i ≡ Some x → AreAbove (text_of x) (map text_of ids)
   firsts_above x front [] runs i sorted have is = tt
@@ -173,8 +173,17 @@ module _ {text_of : ℕ → List ℕ} {index roomy parted : Index}
     -- it has the ids that it had, if it was not
     pub unsplit : {at : ℕ} → IsChanged text_of roomy parted at (λ ids. ids)
         → IsIndex text_of parted × (ids_in parted ≡ ids_in index)
-    unsplit to =
-        with_same ready.index (replaced to) ready.starts ready.ordered to.ordered to.changed
+    unsplit {at} to =
+        index_of_runs text_of parted (set (runs_of index) at to.new) (ids_in index)
+        (replaced to).runs
+        (flat_same (runs_of index) at to.old to.new (replaced to).there to.changed)
+        ready.index.sorted
+        (all_set (IsOrdered text_of) (runs_of index) at to.new ready.index.runs to.ordered)
+        (all_set IsShort (runs_of index) at to.new ready.index.short (rw to.changed
+        (all_at IsShort (runs_of index) at to.old ready.index.short (sym (replaced to).there))))
+        ready.ordered (rw ready.starts (other_firsts_set (ids_of index.starts) (runs_of index) at
+        to.old to.new ready.index.firsts (replaced to).there
+        (λ past id here. ap (λ ids. slice_get ids 0) to.changed ∙ here)))
 
     module _ {spot : Spot} {upper : Run} (full : length (ids_at (runs_of index) spot.run) ≡ 256)
         (spot_is : IsSpot index spot) (split : IsSplit text_of roomy parted spot.run upper)
@@ -215,8 +224,8 @@ module _ {text_of : ℕ → List ℕ} {index roomy parted : Index}
         firsts_stay = subst (λ ids. HaveFirsts ids parted.later.items) (sym ready.starts)
             (subst (λ rs. HaveFirsts (ids_of index.starts) (drop 1 rs)) (sym to.runs)
             (other_firsts_set (ids_of index.starts) (runs_of index) spot.run old lower
-            ready.index.firsts to.there (λ past. ap (λ ids. slice_get ids 0) split.lower.changed
-            ∙ first_of_front (ids_of old) HALF (omega arith))))
+            ready.index.firsts to.there (λ past id here. ap (λ ids. slice_get ids 0)
+            split.lower.changed ∙ first_of_front (ids_of old) HALF (omega arith) ∙ here)))
 
         -- where the ids of runs are after the one at k is split
         abbrev Parts : List Run → ℕ → List Run → Type 0

@@ -1,5 +1,7 @@
 -- An index: ids in the order of their texts, in runs, each id beside a part of its text.
 use Rattle.std.specs.Prelude.{◌≡◌, ◌<◌, ◌≤◌, ◌+◌, ℕ, zero, suc, min, true, List, [], ◌∷◌, map, length, take, drop, set, slice_get, Some, ⊤}
+use Rattle.std.specs.Borrow.{Fml, Lends, MutBor}
+use Rattle.std.specs.Vec.{with_item}
 use Rattle.std.specs.declared.cmp.Ordering.{Ordering}
 use Rattle.std.specs.declared.cmp.Ordering.TheVariants.{Less, Equal, Greater}
 use Rattle.std.specs.Cmp.Lexicographic.{slice_cmp}
@@ -12,6 +14,8 @@ use Rattle.inline_uses.specs.declared.index.Spot.{Spot}
 use Rattle.inline_uses.specs.declared.index.TheConstants.{HALF}
 use Rattle.inline_uses.specs.declared.index.mark.Mark.{Mark}
 use Rattle.inline_uses.specs.declared.index.run.Run.{Run}
+use Rattle.inline_uses.specs.contracts.index.Index.{the_row as index_row}
+use Rattle.inline_uses.specs.contracts.index.run.Run.{the_row as run_row}
 
 -- how the text of a mark compares to a text with these bits: by the bits, and if they are equal by
 -- the texts
@@ -108,6 +112,16 @@ pub record IsSpot (index : Index) (spot : Spot) : Type 0 where
   pub within : spot.at ≤ length (ids_at (runs_of index) spot.run)
   pub after : 0 < spot.run → 0 < spot.at
 
+-- an id is at a spot
+pub record IsAt (index : Index) (spot : Spot) : Type 0 where
+  pub run : spot.run ≤ length index.later.items
+  pub within : spot.at < length (ids_at (runs_of index) spot.run)
+
+-- a place is in a run, before an id or after the last one
+pub record IsPlace (index : Index) (spot : Spot) : Type 0 where
+  pub run : spot.run ≤ length index.later.items
+  pub within : spot.at ≤ length (ids_at (runs_of index) spot.run)
+
 -- of the runs of an index one is another, and has these ids in place of its own
 pub record IsChanged (text_of : ℕ → List ℕ) (before after : Index) (at : ℕ)
     (ids : List ℕ → List ℕ) : Type 0 where
@@ -124,3 +138,12 @@ pub record IsSplit (text_of : ℕ → List ℕ) (before after : Index) (at : ℕ
   pub lower : IsChanged text_of before after at (take HALF)
   pub ordered : IsOrdered text_of upper
   pub rest : ids_of upper ≡ drop HALF (ids_of lower.old)
+
+-- an index with another run in the place of one
+abbrev pub with_run : Index → ℕ → Run → Index
+with_run index zero run = record index { first = run }
+with_run index (suc k) run = record index { later = with_item index.later k run }
+
+-- an index ends with what is left of a run in its place
+abbrev pub LendsRun : MutBor Index → ℕ → MutBor Run → Fml
+LendsRun index at run = Lends index_row run_row index run (with_run index.now at)

@@ -4,17 +4,21 @@
 //! its run alone, and a run that is full is split. The first run is searched alone until there is
 //! another, so a small index is one run.
 ghost use Rattle.std.specs.Prelude.{◌≡◌, ◌+◌, ◌^◌, ◌≤◌, ◌<◌, ℕ, length, List, [], map, slice_get, Some, IfOk, IfErr, OnOk, OnErr};
+ghost use Rattle.std.specs.Borrow.{sem};
 ghost use Rattle.std.specs.List.{AllByRecursion, insert};
 ghost use Rattle.std.specs.Vec.{vec_len, vec_capacity};
 ghost use Rattle.inline_uses.specs.Symbols.{IsGap};
-ghost use Rattle.inline_uses.specs.Index.{IsChanged, IsIndex, IsOrdered, IsSplit, IsSpot, ids_at, ids_in, ids_of, index_of, runs_of};
+ghost use Rattle.inline_uses.specs.Index.{IsChanged, IsIndex, IsOrdered, IsSplit, IsSpot, LendsRun, ids_at, ids_in, ids_of, index_of, runs_of};
 ghost use Rattle.inline_uses.specs.declared.index.TheConstants.{FULL, HALF};
 
 use run::Run;
 use std::alloc::{AllocError, Global};
 
 mod mark;
+mod places;
+mod removal;
 mod run;
+mod spots;
 
 /// The texts that an index has in order, by their ids.
 pub(crate) trait Texts {
@@ -72,45 +76,9 @@ impl Index {
         ensures gap { IfErr result (λ spot. IsGap (map (T.text_of texts.now) (ids_in self.now))
             text.now (index_of self.now spot)) }
     {
-        if self.later.is_empty() {
-            return self.find_in(texts, text, 0);
-        }
-        self.find_among_runs(texts, text)
-    }
-
-    /// Finds a text in an index of several runs.
-    #[inline(never)]
-    fn find_among_runs<T: Texts>(&self, texts: &T, text: &str) -> Result<usize, Spot>
-        requires { IsIndex (T.text_of texts.now) self.now }
-        ensures found { IfOk result (λ id. (at : ℕ)
-            × (slice_get (map (T.text_of texts.now) (ids_in self.now)) at ≡ Some text.now)
-            × (slice_get (ids_in self.now) at ≡ Some id)) }
-        ensures spot { IfErr result (IsSpot self.now) }
-        ensures gap { IfErr result (λ spot. IsGap (map (T.text_of texts.now) (ids_in self.now))
-            text.now (index_of self.now spot)) }
-    {
-        match self.starts.search(texts, text) {
-            Ok(at) => Ok(self.starts.id(at)),
-            Err(run) => self.find_in(texts, text, run),
-        }
-    }
-
-    /// Finds a text in the run in which it goes.
-    #[inline]
-    fn find_in<T: Texts>(&self, texts: &T, text: &str, run: usize) -> Result<usize, Spot>
-        requires index { IsIndex (T.text_of texts.now) self.now }
-        requires gap { IsGap (map (T.text_of texts.now) (ids_of self.now.starts)) text.now run }
-        ensures found { IfOk result (λ id. (at : ℕ)
-            × (slice_get (map (T.text_of texts.now) (ids_in self.now)) at ≡ Some text.now)
-            × (slice_get (ids_in self.now) at ≡ Some id)) }
-        ensures spot { IfErr result (IsSpot self.now) }
-        ensures gap { IfErr result (λ spot. IsGap (map (T.text_of texts.now) (ids_in self.now))
-            text.now (index_of self.now spot)) }
-    {
-        let searched = self.run(run);
-        match searched.search(texts, text) {
-            Ok(at) => Ok(searched.id(at)),
-            Err(at) => Err(Spot { run, at }),
+        match self.locate(texts, text) {
+            Ok(spot) => Ok(self.id(spot)),
+            Err(spot) => Err(spot),
         }
     }
 
@@ -124,6 +92,19 @@ impl Index {
             return &self.first;
         }
         &self.later[at - 1]
+    }
+
+    /// Returns the run at an index, to be changed.
+    #[inline]
+    fn run_mut(&mut self, at: usize) -> &mut Run
+        requires { at ≤ length self.old.later.items }
+        ensures* writes_back { sem 𝓛 (LendsRun self.entry at result) }
+        ensures value { slice_get (runs_of self.old) at ≡ Some result.now }
+    {
+        if at == 0 {
+            return &mut self.first;
+        }
+        &mut self.later[at - 1]
     }
 
     /// Inserts the id of a text where it goes. Fails only if an allocation does; the ids are then
@@ -163,10 +144,7 @@ impl Index {
             (ids_in self.new ≡ insert (ids_in self.old) (index_of self.old spot) id) }
         ensures err { OnErr result (ids_in self.new ≡ ids_in self.old) }
     {
-        if spot.run == 0 {
-            return self.first.add(texts, spot.at, id);
-        }
-        self.later[spot.run - 1].add(texts, spot.at, id)
+        self.run_mut(spot.run).add(texts, spot.at, id)
     }
 
     /// Splits the run of a spot, which is full, and returns where the spot is then. Fails only if
@@ -202,10 +180,7 @@ impl Index {
         ensures err { OnErr result
             (IsChanged (T.text_of texts.now) self.old self.new at (λ ids. ids)) }
     {
-        if at == 0 {
-            return self.first.split(texts, HALF);
-        }
-        self.later[at - 1].split(texts, HALF)
+        self.run_mut(at).split(texts, HALF)
     }
 
     /// Returns the ids in the order of their texts, in a row with room for this many. Fails only if

@@ -6,6 +6,8 @@ ghost use Rattle.std.specs.Vec.{vec_len, vec_capacity};
 ghost use Rattle.inline_uses.specs.Symbols.{IsGap, key_order};
 ghost use Rattle.inline_uses.specs.Index.{IsOrdered, IsShared, Lengthens, common, compare_fronts, first_front, ids_of, longest_front};
 
+mod edits;
+
 use super::Texts;
 use super::mark::{Mark, bits_after, compare, compare_texts};
 use std::alloc::{AllocError, Global};

@@ -3,10 +3,10 @@ use Rattle.std.proofs.lemmas.List.{length-map}
 use Rattle.inline_uses.specs.Index.{ids_of}
 use Rattle.inline_uses.proofs.InRuns.{have_length}
 use Rattle.inline_uses.proofs.IndexRuns.{gap_in_none}
-use Rattle.inline_uses.proofs.index.Index.find.Goals as goal
+use Rattle.inline_uses.proofs.index.Index.locate.Goals as goal
 
-pub find_in-requires-clause-gap : goal.find_in-requires-clause-gap
-find_in-requires-clause-gap g c =
+pub locate_in-requires-clause-gap : goal.locate_in-requires-clause-gap
+locate_in-requires-clause-gap g c =
     gap_in_none (map (g.T.Texts.text_of c.args.texts.now) (ids_of c.args.self.now.starts))
     c.args.text.now (rw (
       length-map,

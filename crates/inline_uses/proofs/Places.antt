@@ -1,0 +1,176 @@
+-- Places among the ids of an index, and the entries between two of them.
+use Rattle.std.proofs.Common.{arith, ◌≡◌, ℕ, zero, suc, ◌+◌, ◌-◌, ◌<◌, ◌≤◌, ◌⊎◌, inl, inr, List, [], ◌∷◌, map, length, take, drop, get_or, Some, true, false, not, ◌&&◌, refl, sym, ap, ◌∙◌}
+use Rattle.std.specs.Prelude.{slice_get}
+use Rattle.std.proofs.Math.Seq.{drop-cons, take-nil}
+use Rattle.std.proofs.lemmas.List.{length-append, take_all}
+use Rattle.std.proofs.lemmas.Option.{get_or_from_slice_get, slice_get-get_or, slice_get_within}
+use Rattle.std.specs.Map.{keys_of}
+use Rattle.std.specs.Ordering.{is_gt}
+use Rattle.inline_uses.specs.Index.{HaveFirsts, IsAt, IsPlace, ids_at, ids_in, ids_of, index_of, runs_of}
+use Rattle.inline_uses.specs.Symbols.{key_order, text_at}
+use Rattle.inline_uses.specs.TextMap.{AreNumbers, Entries, entries_at, entries_between, entries_in, entry_of}
+use Rattle.inline_uses.specs.declared.index.Index.{Index}
+use Rattle.inline_uses.specs.declared.index.Spot.{Spot}
+use Rattle.inline_uses.specs.declared.index.run.Run.{Run}
+use Rattle.inlinable_string.specs.declared.inlinable_string.InlinableStringN.{InlinableStringN}
+use Rattle.inline_uses.proofs.InRuns.{flat, ids_at_is}
+use Rattle.inline_uses.proofs.Numbered.{count, entry_seen, keys_seen, read_entry}
+use Rattle.inline_uses.proofs.Search.{run}
+
+-- a run ends where the next one starts
+next_start : (runs : List Run) (k : ℕ)
+    → length (flat (take (suc k) runs)) ≡ length (flat (take k runs)) + length (ids_at runs k)
+next_start [] k = rw take-nil refl
+next_start (r ∷ runs) zero = simp length-append (omega arith)
+next_start (r ∷ runs) (suc k) = simp length-append (omega (arith, next_start runs k))
+
+-- and before any later one
+later_start : (runs : List Run) (j k : ℕ) → j < k
+    → length (flat (take j runs)) + length (ids_at runs j) ≤ length (flat (take k runs))
+later_start runs j zero less = absurd (omega (arith, less))
+later_start [] j (suc k) less = rw (take-nil j) (omega arith)
+later_start (r ∷ runs) zero (suc k) less = simp length-append (omega arith)
+later_start (r ∷ runs) (suc j) (suc k) less =
+    simp length-append (omega (arith, later_start runs j k (omega arith)))
+
+-- a later run has an id
+has_first : (ids : List ℕ) (runs : List Run) (k : ℕ) → HaveFirsts ids runs → k < length runs
+    → 0 < length (ids_at runs k)
+has_first ids [] k have less = absurd (omega (arith, less))
+has_first [] (run ∷ runs) k have less = absurd have
+has_first (id ∷ ids) (run ∷ runs) zero have less = slice_get_within (ids_of run) 0 id have.0
+has_first (id ∷ ids) (run ∷ runs) (suc k) have less =
+    has_first ids runs k have.1 (omega (arith, less))
+
+module _ (index : Index) where
+  abbrev runs : List Run
+  runs = runs_of index
+
+  all_taken : length (flat (take (length runs) runs)) ≡ length (ids_in index)
+  all_taken = ap (λ runs. length (flat runs)) (take_all (length runs) runs (omega arith))
+
+  -- a place is after no more ids than there are
+  pub within_all : (a : Spot) → IsPlace index a → index_of index a ≤ length (ids_in index)
+  within_all a place =
+      let end = later_start runs a.run (length runs) (omega (arith, place.run)) in
+      omega (arith, place.within, all_taken, end)
+
+  -- the place after the ids of the last run is after all
+  pub last_end : (k : ℕ) (run : Run) → k ≡ length index.later.items → slice_get runs k ≡ Some run
+      → length (flat (take k runs)) + length (ids_of run) ≡ length (ids_in index)
+  last_end k run last there = rw (← ids_at_is runs k run there, last)
+      (sym (next_start runs (length index.later.items)) ∙ all_taken)
+
+  -- the first id from a place on
+  pub record IsFirst (from spot : Spot) : Type 0 where
+    pub at : IsAt index spot
+    pub same : index_of index spot ≡ index_of index from
+
+  module _ (from : Spot) (run : Run) (place : IsPlace index from)
+      (there : slice_get runs from.run ≡ Some run)
+    where
+      own : length (ids_at runs from.run) ≡ length (ids_of run)
+      own = ap length (ids_at_is runs from.run run there)
+
+      pub first_here : from.at < length (ids_of run) → IsFirst from from
+      first_here less =
+          record { at = record { run = place.run; within = omega (arith, own, less) }; same = refl }
+
+      -- where a run ends the next one starts, and it has an id
+      pub first_next : HaveFirsts (ids_of index.starts) index.later.items
+          → from.run < length index.later.items → length (ids_of run) ≤ from.at
+          → IsFirst from (record { run = from.run + 1; at = 0 })
+      first_next have less past =
+          let next : from.run + 1 ≡ suc from.run = omega arith in
+          let some = has_first (ids_of index.starts) index.later.items from.run have less in
+          rw next (record {
+            at = record { run = less; within = some };
+            same = omega (arith, past, place.within, own, next_start runs from.run);
+          })
+
+  -- places are in the order of their runs, and in one run of their indices there
+  pub is_before : (a b : Spot) → IsAt index a
+      → (a.run < b.run) ⊎ (b.run ≤ a.run × (a.run ≡ b.run) × (a.at < b.at))
+      → index_of index a < index_of index b
+  is_before a b is (inl later) = omega (arith, is.within, later_start runs a.run b.run later)
+  is_before a b is (inr same) = rw same.1 (omega (arith, same.2))
+
+  pub not_before : (a b : Spot) → IsPlace index b
+      → ((b.run ≤ a.run) × (a.run ≡ b.run) × (b.at ≤ a.at)) ⊎ ((b.run ≤ a.run) × ¬ (a.run ≡ b.run))
+      → index_of index b ≤ index_of index a
+  not_before a b place (inl same) = rw same.1 (omega (arith, same.2))
+  not_before a b place (inr earlier) = omega (
+    arith,
+    place.within,
+    later_start runs b.run a.run (grind (arith, earlier.0, earlier.1)),
+  )
+
+-- what is between two indices of a list begins with what is at the first
+first_between : {X : Type 0} (xs : List X) (i j : ℕ) (x : X) → i < j → slice_get xs i ≡ Some x
+    → take (j - i) (drop i xs) ≡ x ∷ take (j - (i + 1)) (drop (i + 1) xs)
+first_between xs i j x less is =
+    let next : i + 1 ≡ suc i = omega arith in
+    let left : j - i ≡ suc (j - suc i) = omega (arith, less) in
+    rw (next, left, drop-cons xs i x (slice_get_within xs i x is))
+    (ap (λ x. x ∷ take (j - suc i) (drop (suc i) xs)) (get_or_from_slice_get xs i x x is))
+
+-- entries by their numbers, which an index has in the order of the keys
+module _ {V : Type 0} (es : Entries V) (index : Index)
+    (numbers : AreNumbers (length es) (ids_in index))
+  where
+    abbrev view : Entries V
+    view = entries_at es (ids_in index)
+
+    -- from the first place to the last all are
+    pub all_between : (from to : Spot) → index_of index from ≡ 0
+        → index_of index to ≡ length (ids_in index) → entries_in es index from to ≡ view
+    all_between from to none all =
+        rw (none, all, ← count es (ids_in index) numbers.within) (take_all _ view (omega arith))
+
+    -- those before a place are below a key, and the others are not
+    pub record IsFrom (key : List ℕ) (place : Spot) : Type 0 where
+      pub below : (i : ℕ) → i < index_of index place → is_gt (key_order key
+          (get_or (map (text_at (keys_of es)) (ids_in index)) i [])) ≡ true
+      pub above : (i : ℕ) → index_of index place ≤ i → i < length (ids_in index)
+          → is_gt (key_order key
+          (get_or (map (text_at (keys_of es)) (ids_in index)) i [])) ≡ false
+
+    -- from the place of one key to that of another those between these are
+    pub between : (low high : List ℕ) (from to : Spot) → IsFrom low from → IsFrom high to
+        → entries_in es index from to ≡ entries_between view low high
+    between low high from to start end =
+        let keys = keys_seen es (ids_in index) numbers.within in
+        let size = count es (ids_in index) numbers.within in
+        let first = index_of index from in
+        let last = index_of index to in
+        sym (run (λ k. not (is_gt (key_order low k)) && is_gt (key_order high k)) view first
+        (last - first)
+        (λ k l b. rw (keys, start.below k l) refl)
+        (λ k l m b. let within : k < length (ids_in index) = omega (arith, size) in
+        rw (keys, start.above k l within, end.below k (omega arith)) refl)
+        (λ k l b. rw (
+          keys,
+          start.above k (omega arith) (omega (arith, size)),
+          end.above k (omega arith) (omega (arith, size)),
+        ) refl))
+
+-- the entry of the first place comes first, and then those from the place after it
+pub next_entry : {V : Type 0} (items : List (InlinableStringN 30 × V)) (x : InlinableStringN 30 × V)
+    (id : ℕ) (index : Index) (from spot next to : Spot)
+    → AreNumbers (length (map entry_of items)) (ids_in index)
+    → index_of index spot ≡ index_of index from → index_of index spot < index_of index to
+    → index_of index next ≡ index_of index spot + 1
+    → slice_get (ids_in index) (index_of index spot) ≡ Some id → x ≡ get_or items id x
+    → entries_in (map entry_of items) index from to
+    ≡ entry_of x ∷ entries_in (map entry_of items) index next to
+next_entry items x id index from spot next to numbers same less after is read =
+    let es = map entry_of items in
+    let all = entries_at es (ids_in index) in
+    let at = index_of index spot in
+    let e = get_or all at (entry_of x) in
+    let within = slice_get_within (ids_in index) at id is in
+    let size = count es (ids_in index) numbers.within in
+    let there = slice_get-get_or all at (entry_of x) (omega (arith, within, size)) in
+    let entry = entry_seen es (ids_in index) at id e numbers.within is there in
+    rw (← same, after, read_entry items id x e entry read)
+    (first_between all at (index_of index to) e less there)

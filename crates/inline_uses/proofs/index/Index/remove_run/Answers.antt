@@ -1,0 +1,24 @@
+use Rattle.std.proofs.Common.{arith, ◌∷◌, ap, suc}
+use Rattle.inline_uses.specs.Index.{runs_of}
+use Rattle.inline_uses.proofs.InRuns.{have_length}
+use Rattle.inline_uses.proofs.RunRemovals.{flat_gone, run_there, without_run}
+use Rattle.inline_uses.proofs.index.Index.remove_run.Goals as goal
+
+pub remove-requires : goal.remove-requires
+remove-requires c = omega (
+  arith,
+  run_there c.args.self.now.later.items c.args.at (omega (arith, c.requires.one)),
+)
+
+pub remove-requires-2 : goal.remove-requires-2
+remove-requires-2 c = rw (have_length _ _ c.requires.firsts)
+    (run_there c.args.self.now.later.items c.args.at (omega (arith, c.requires.one)))
+
+pub returns-clause-ids : goal.returns-clause-ids
+returns-clause-ids c = rw c.remove.ensures.items
+    (flat_gone (runs_of c.args.self.now) (suc c.args.at) c.requires.one)
+
+pub returns-clause-index : goal.returns-clause-index
+returns-clause-index c = λ text_of is. without_run text_of c.args.self.now _ c.args.at is
+    c.requires.one (ap (λ runs. c.args.self.now.first ∷ runs) c.remove.ensures.items)
+    c.remove-2.ensures.ids (c.remove-2.ensures.run text_of is.starts)

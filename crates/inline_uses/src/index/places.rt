@@ -1,0 +1,85 @@
+//! Going over ids in the order of their texts.
+ghost use Rattle.std.specs.Prelude.{◌≡◌, ◌≤◌, ◌<◌, ◌+◌, ℕ, [], map, length, slice_index_or, true, false, IfSome, IfNone};
+ghost use Rattle.std.specs.Ordering.{is_gt};
+ghost use Rattle.inline_uses.specs.Symbols.{key_order};
+ghost use Rattle.inline_uses.specs.Index.{HaveFirsts, IsAt, IsIndex, IsPlace, ids_in, ids_of, index_of};
+
+use super::{Index, Spot, Texts};
+
+impl Index {
+    /// Returns the place before all ids.
+    pub(crate) fn start(&self) -> Spot
+        ensures place { IsPlace self.now result }
+        ensures at { index_of self.now result ≡ 0 }
+    {
+        Spot { run: 0, at: 0 }
+    }
+
+    /// Returns the place after all ids.
+    pub(crate) fn end(&self) -> Spot
+        ensures place { IsPlace self.now result }
+        ensures at { index_of self.now result ≡ length (ids_in self.now) }
+    {
+        let run = self.later.len();
+        Spot {
+            run,
+            at: self.run(run).len(),
+        }
+    }
+
+    /// Returns the place before the ids whose texts are not below a text.
+    pub(crate) fn place_from<T: Texts>(&self, texts: &T, text: &str) -> Spot
+        requires { IsIndex (T.text_of texts.now) self.now }
+        ensures place { IsPlace self.now result }
+        ensures below { (i : ℕ) → i < index_of self.now result → is_gt (key_order text.now
+            (slice_index_or (map (T.text_of texts.now) (ids_in self.now)) i [])) ≡ true }
+        ensures above { (i : ℕ) → index_of self.now result ≤ i → i < length (ids_in self.now)
+            → is_gt (key_order text.now
+            (slice_index_or (map (T.text_of texts.now) (ids_in self.now)) i [])) ≡ false }
+    {
+        match self.locate(texts, text) {
+            Ok(spot) => spot,
+            Err(spot) => spot,
+        }
+    }
+
+    /// Returns the spot of the first id from a place on, if that is before an end.
+    pub(crate) fn first_in(&self, from: Spot, end: Spot) -> Option<Spot>
+        requires firsts { HaveFirsts (ids_of self.now.starts) self.now.later.items }
+        requires from { IsPlace self.now from }
+        requires end { IsPlace self.now end }
+        ensures at { IfSome result (IsAt self.now) }
+        ensures same { IfSome result (λ spot. index_of self.now spot ≡ index_of self.now from) }
+        ensures before { IfSome result (λ spot. index_of self.now spot < index_of self.now end) }
+        ensures none { IfNone result (index_of self.now end ≤ index_of self.now from) }
+    {
+        let spot = if from.at < self.run(from.run).len() {
+            from
+        } else if from.run < self.later.len() {
+            Spot {
+                run: from.run + 1,
+                at: 0,
+            }
+        } else {
+            return None;
+        };
+        if spot.run < end.run || spot.run == end.run && spot.at < end.at {
+            Some(spot)
+        } else {
+            None
+        }
+    }
+
+    /// Returns the place after an id.
+    pub(crate) fn after(&self, spot: Spot) -> Spot
+        requires { IsAt self.now spot }
+        ensures place { IsPlace self.now result }
+        ensures at { index_of self.now result ≡ index_of self.now spot + 1 }
+    {
+        let len = self.run(spot.run).len();
+        Spot {
+            run: spot.run,
+            at: len.min(spot.at.saturating_add(1)),
+        }
+    }
+}
