@@ -1,10 +1,12 @@
 pub mod Ascii
 pub mod Editor
 pub mod Index
+pub mod Lending
 pub mod Letters
 pub mod PlacedKeys
 pub mod Rows
 pub mod Store
 pub mod Symbols
+pub mod TextMap
 pub mod Tokens
 pub mod Tree

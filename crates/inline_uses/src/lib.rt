@@ -7,6 +7,7 @@ pub mod editor;
 mod index;
 pub mod store;
 pub mod symbols;
+pub mod text_map;
 pub mod tokens;
 pub mod tree;
 pub mod worked;

@@ -1,0 +1,12 @@
+use Rattle.std.proofs.Common.{map}
+use Rattle.std.specs.Map.{keys_of}
+use Rattle.inline_uses.specs.Symbols.{text_at}
+use Rattle.inline_uses.specs.TextMap.{entry_of}
+use Rattle.inline_uses.proofs.Numbered.{no_numbers}
+use Rattle.inline_uses.proofs.text_map.TextMap.new.Goals as goal
+
+pub invariant_of-result : goal.invariant_of-result
+invariant_of-result g c = (
+  rw (c.new.ensures.items, c.new-2.ensures.ids) no_numbers,
+  c.new-2.ensures.index (text_at (keys_of (map entry_of c.new.result.items))),
+)
