@@ -8,6 +8,7 @@ pub mod IndexRuns
 pub mod Letters
 pub mod Lexemes
 pub mod Listed
+pub mod MapTexts
 pub mod Members
 pub mod Numbered
 pub mod Places

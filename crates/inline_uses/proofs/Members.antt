@@ -11,7 +11,7 @@ use Rattle.inline_uses.specs.Symbols.{key_order}
 use Rattle.inline_uses.specs.Store.{Entries, AreInOrder, with_value, with_members}
 
 -- f of either of an order
-by_order : {A B : Type 0} (f : A → B) (o : Ordering) (x y z : A) (w : B) → f z ≡ w
+pub by_order : {A B : Type 0} (f : A → B) (o : Ordering) (x y z : A) (w : B) → f z ≡ w
     → f (match_ordering o x y z) ≡ match_ordering o (f x) (f y) w
 by_order f Less x y z w e = refl
 by_order f Equal x y z w e = refl
@@ -35,7 +35,7 @@ below key [] e more h = h.0
 below key (d ∷ done) e more h = below key done e more h.1
 
 -- a key that is above those before it goes last
-goes_last : (done : Entries) (e : List ℕ × List ℕ) (more : Entries)
+pub goes_last : (done : Entries) (e : List ℕ × List ℕ) (more : Entries)
     → AreInOrder (done ++ e ∷ more) → with_value done e.0 e.1 ≡ done ++ e ∷ []
 unfolding IsStrictlySortedBy
 goes_last [] e more h = refl

@@ -13,6 +13,7 @@ use std::marker::Model;
 use window::Window;
 
 pub mod json;
+mod of_map;
 mod window;
 
 /// A key and its value.
@@ -24,6 +25,8 @@ pub type Entry = (InlinableString, InlinableString);
 /// after it; where that side has no room for an insertion, a pass over all entries makes it, for at
 /// least an eighth of their number. A contract sees the list of the keys with their values, each as
 /// its bytes.
+///
+/// For a thousand keys or more a [`TextMap`](crate::text_map::TextMap) is faster.
 #[derive(Drop)]
 pub struct Store {
     alloc: Global,

@@ -15,6 +15,7 @@ use std::marker::Model;
 use std::mem::replace;
 
 mod iter;
+mod json;
 
 /// Values under texts. A search takes a number of comparisons that is logarithmic in the number of
 /// keys, whatever they are, since nothing is hashed, and allocates nothing. A new key moves the

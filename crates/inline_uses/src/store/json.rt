@@ -102,7 +102,7 @@ impl Store {
 }
 
 /// Whether each member of an object is a string.
-fn are_strings(members: &Map<String, Value>) -> bool
+pub(crate) fn are_strings(members: &Map<String, Value>) -> bool
     ensures { result ≡ is_some (with_members [] (members_view members.now.entries)) }
 {
     for (_, value) in members {
