@@ -1,12 +1,14 @@
 //! Callers of the modules, as a user writes them: each is proved from their contracts alone, with
 //! no answer written by hand.
-ghost use Rattle.std.specs.Prelude.{◌≡◌, [], Some, IfOk, OnErr, IsTrue, slice_get};
+ghost use Rattle.std.specs.Prelude.{◌≡◌, ◌↔◌, ◌+◌, ◌-◌, ◌^◌, ℕ, min, length, [], Some, None, IfOk, OnOk, OnErr, IsSome, IsTrue, slice_get};
 ghost use Rattle.inline_uses.specs.Editor.{text_of};
 ghost use Rattle.inline_uses.specs.Store.{with_value};
+ghost use Rattle.inline_uses.specs.TextMap.{entries_between, value_of, with_value as with_entry, without as without_entry};
 
 use crate::editor::Line;
 use crate::store::Store;
 use crate::symbols::Symbols;
+use crate::text_map::TextMap;
 use std::alloc::AllocError;
 
 /// Returns the ids of two texts, and gives ids to those that have none.
@@ -35,6 +37,58 @@ pub fn put_if_new(store: &mut Store, key: &str, value: &str) -> Result<bool, All
     }
     store.put(key, value)?;
     Ok(true)
+}
+
+/// Adds one to the number under a key, up to the greatest, and returns whether the key has one.
+pub fn add_one(map: &mut TextMap<u64>, key: &str) -> bool
+    ensures found { IsTrue result ↔ IsSome (value_of map.old key.now) }
+    ensures known { (n : ℕ) → value_of map.old key.now ≡ Some n
+        → map.new ≡ with_entry map.old key.now (min (n + 1) (2 ^ 64 - 1)) }
+    ensures unknown { value_of map.old key.now ≡ None → map.new ≡ map.old }
+{
+    match map.get_mut(key) {
+        Some(number) => {
+            *number = number.saturating_add(1);
+            true
+        }
+        None => false,
+    }
+}
+
+/// Puts a number under a key that has none, and returns whether it had none.
+pub fn put_first(map: &mut TextMap<u64>, key: &str, number: u64) -> Result<bool, AllocError>
+    ensures new { IfOk result (λ new. IsTrue new
+        → map.new ≡ with_entry map.old key.now number) }
+    ensures known { IfOk result (λ new. ¬ (IsTrue new) → map.new ≡ map.old) }
+    ensures err { OnErr result (map.new ≡ map.old) }
+{
+    if map.get(key).is_some() {
+        return Ok(false);
+    }
+    map.put(key, number)?;
+    Ok(true)
+}
+
+/// Removes a key, and returns the number that it had, or 0.
+pub fn take(map: &mut TextMap<u64>, key: &str) -> u64
+    ensures left { map.new ≡ without_entry map.old key.now }
+    ensures known { (n : ℕ) → value_of map.old key.now ≡ Some n → result ≡ n }
+{
+    map.delete(key).unwrap_or(0)
+}
+
+/// Returns the number of keys from one up to and not including another.
+pub fn count_between(map: &TextMap<u64>, from: &str, to: &str) -> usize
+    ensures { result ≡ length (entries_between map.now from.now to.now) }
+{
+    map.range(from, to).count()
+}
+
+/// Returns the number of all keys, one after the other.
+pub fn count_all(map: &TextMap<u64>) -> usize
+    ensures { result ≡ length map.now }
+{
+    map.iter().count()
 }
 
 /// Removes the whole line, wherever its cursor is.
