@@ -33,17 +33,8 @@ use_of entries word = lookup (is_at (slice_cmp nat_cmp word)) entries
 abbrev pub with_use : Entries → List ℕ → Uses → Entries
 with_use entries word uses = insert_entry (slice_cmp nat_cmp) entries word uses
 
--- entries, and then each of these words with its uses, where it goes in the order
-abbrev pub with_all : Entries → List (List ℕ) → List Uses → Entries
-with_all entries (word ∷ words) (uses ∷ rest) = with_all (with_use entries word uses) words rest
-with_all entries _ _ = entries
-
 abbrev pub entries_of : Inside → Entries
-entries_of a = with_all [] a.words a.uses.items
-
--- each word has its uses
-abbrev pub HaveUses : Inside → Type 0
-HaveUses a = length a.uses.items ≡ length a.words
+entries_of a = a.words
 
 -- uses with one more: a count stops at the greatest number, and the first line stays
 abbrev pub used : Option Uses → ℕ → Uses

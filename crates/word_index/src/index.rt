@@ -1,11 +1,10 @@
 //! The words of a text: how often each is used, and where first.
-ghost use Rattle.std.specs.Prelude.{◌≡◌, ◌-◌, ◌<◌, ◌^◌, List, [], ℕ, map, slice_get, Some, IfOk, OnOk, OnErr};
+ghost use Rattle.std.specs.Prelude.{◌≡◌, ◌-◌, ◌^◌, List, [], ℕ, map, IfOk, OnOk, OnErr};
 ghost use Rattle.std.specs.List.Sorted.{IsPermutation, IsNonDecreasingBy};
-ghost use Rattle.std.specs.Vec.{vec_len, vec_capacity};
 ghost use Rattle.word_index.specs.Index.{use_of, with_use, used, with_words, shown, AreWords};
 
 use inlinable_string::InlinableString;
-use inline_uses::symbols::Symbols;
+use inline_uses::text_map::TextMap;
 use std::alloc::{AllocError, Global};
 use std::marker::Model;
 
@@ -16,22 +15,19 @@ pub struct Uses {
     pub line: usize,
 }
 
-/// The words of a text with their uses, which are in a row by the ids of the words. A contract sees
-/// the list of them, each word as its bytes, in the order of the words.
+/// The words of a text with their uses. A contract sees the list of them, each word as its bytes,
+/// in the order of the words.
 #[derive(Drop)]
 pub struct Index {
-    words: Symbols,
-    uses: Vec<Uses>,
+    words: TextMap<Uses>,
 }
 
 impl Model for Index {
-    ghost use Rattle.word_index.specs.Index.{Entries, entries_of, HaveUses};
+    ghost use Rattle.word_index.specs.Index.{Entries, entries_of};
 
     ghost Value = { Entries };
 
     ghost view = { entries_of };
-
-    ghost invariant = { HaveUses };
 }
 
 impl Index {
@@ -40,8 +36,7 @@ impl Index {
         ensures { result ≡ [] }
     {
         Index {
-            words: Symbols::new(alloc),
-            uses: Vec::new(alloc),
+            words: TextMap::new(alloc),
         }
     }
 
@@ -63,13 +58,11 @@ impl Index {
             (self.new ≡ with_use self.old word.now (used (use_of self.old word.now) line)) }
         ensures err { OnErr result (self.new ≡ self.old) }
     {
-        reserve_for(&mut self.uses, &self.words, word)?;
-        let id = self.words.intern(word)?;
-        if let Some(uses) = self.uses.get_mut(id) {
+        if let Some(uses) = self.words.get_mut(word) {
             *uses = used_again(Some(*uses), line);
             return Ok(());
         }
-        self.uses.push_reserved(used_again(None, line));
+        self.words.put(word, used_again(None, line))?;
         Ok(())
     }
 
@@ -80,30 +73,12 @@ impl Index {
         ensures order { IfOk result (λ ranked.
             IsNonDecreasingBy (λ e. 2 ^ 64 - 1 - e.1.count) ranked.items) }
     {
-        let ids = self.words.ids_in_order(alloc)?;
-        let texts = self.words.texts();
         let mut ranked = Vec::with_capacity(alloc, self.words.len())?;
-        for id in ids.iter() {
-            ranked.push((&texts[*id], self.uses[*id]))?;
+        for (word, uses) in self.words.iter() {
+            ranked.push((word, *uses))?;
         }
         ranked.sort_by_key(|entry: &(&InlinableString, Uses)| usize::MAX - entry.1.count)?;
         Ok(ranked)
-    }
-}
-
-/// Makes room for the uses of a word, unless it has some. Fails only if an allocation does; in no
-/// case are the uses changed.
-fn reserve_for(uses: &mut Vec<Uses>, words: &Symbols, word: &str) -> Result<(), AllocError>
-    ensures items { uses.new.items ≡ uses.old.items }
-    ensures room { OnOk result (((id : ℕ) → ¬ (slice_get words.now id ≡ Some word.now))
-        → vec_len uses.new < vec_capacity uses.new) }
-{
-    if uses.len() < uses.capacity() {
-        return Ok(());
-    }
-    match words.find(word) {
-        Some(_) => Ok(()),
-        None => uses.reserve(1),
     }
 }
 

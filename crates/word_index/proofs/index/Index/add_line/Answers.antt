@@ -1,6 +1,6 @@
 use Rattle.std.proofs.Common.{[], ◌∷◌, ap, refl, ◌∙◌}
 use Rattle.std.specs.Str.Iter.{split_whitespace_rest}
-use Rattle.word_index.proofs.Entries.{begins}
+use Rattle.word_index.specs.Index.{BeginsWith}
 use Rattle.word_index.proofs.index.Index.add_line.Goals as goal
 
 pub loop-word-init : goal.loop-word-init
@@ -11,7 +11,16 @@ loop-word-init c =
 
 pub loop-word-preserved : goal.loop-word-preserved
 loop-word-preserved c =
-    let starts = begins _ c.in-Some.word.now _ c.in-Some.ensures.steps in
+    let (space, joined, some, blank, whole, ends) = c.in-Some.ensures.steps in
+    let starts : BeginsWith (split_whitespace_rest c.loop-word.word-iterator) c.in-Some.word.now
+    (split_whitespace_rest c.next.new.self) = record {
+      space = space;
+      joined = joined;
+      some = some;
+      blank = blank;
+      whole = whole;
+      ends = ends;
+    } in
     λ words are. rw c.in_ok-add.ensures.ok
     (c.loop-word.invariant (c.in-Some.word.now ∷ words) (_, starts, are))
 
