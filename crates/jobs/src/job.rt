@@ -1,6 +1,7 @@
 //! The jobs, by name.
 use task::Task;
 
+mod map;
 mod paths;
 mod store;
 mod symbols;
@@ -15,6 +16,7 @@ pub enum Job {
     Symbols,
     Paths,
     Store,
+    Map,
     Tree,
     Tokens,
     Texts,
@@ -22,10 +24,11 @@ pub enum Job {
 
 impl Job {
     /// Each job once.
-    pub const EACH: [Job; 6] = [
+    pub const EACH: [Job; 7] = [
         Job::Symbols,
         Job::Paths,
         Job::Store,
+        Job::Map,
         Job::Tree,
         Job::Tokens,
         Job::Texts,
@@ -37,6 +40,7 @@ impl Job {
             Job::Symbols => "symbols",
             Job::Paths => "paths",
             Job::Store => "store",
+            Job::Map => "map",
             Job::Tree => "tree",
             Job::Tokens => "tokens",
             Job::Texts => "texts",
@@ -59,6 +63,7 @@ impl Job {
             Job::Symbols => symbols::digest_of(task),
             Job::Paths => paths::digest_of(task),
             Job::Store => store::digest_of(task),
+            Job::Map => map::digest_of(task),
             Job::Tree => tree::digest_of(task),
             Job::Tokens => tokens::digest_of(task),
             Job::Texts => texts::digest_of(task),
