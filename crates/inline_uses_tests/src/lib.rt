@@ -14,6 +14,8 @@ mod store;
 #[cfg(test)]
 mod symbols;
 #[cfg(test)]
+mod text_map;
+#[cfg(test)]
 mod tokens;
 #[cfg(test)]
 mod tree;
