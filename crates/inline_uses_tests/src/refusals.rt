@@ -10,6 +10,7 @@ use test_support::Refusals;
 
 mod store;
 mod symbols;
+mod text_map;
 mod tokens;
 mod tree;
 
