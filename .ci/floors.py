@@ -14,7 +14,7 @@ REFUSALS = {'inline_refusals': (7, 192), 'inline_uses_tests': (29, 41)}
 PREPARED = {'inline_uses_tests': 24}
 
 # Edits in `wrong-bodies/` and `wrong-bodies-proved/`, by crate: just as many.
-WRONG_BODIES = {'inlinable_string': 19, 'inline_uses': 14}
+WRONG_BODIES = {'inlinable_string': 19, 'inline_uses': 22}
 WRONG_BODIES_PROVED = {'inline_uses': 5}
 
 
