@@ -27,7 +27,7 @@ const ORDERS: &[(Order, Order)] = &[
     (Order::Drawn(9_301), Order::Falling),
 ];
 
-/// As many numbers are drawn, each once, of which those below `COUNT` are used.
+/// How many numbers are drawn, each once. Those below `COUNT` are used.
 const DRAWN: usize = 32_768;
 
 impl Order {
