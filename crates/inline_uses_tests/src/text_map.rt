@@ -1,5 +1,5 @@
-//! Maps of many keys, each beside a table of the values that its keys have, and how often a map drops
-//! its values.
+//! Maps of many keys, each beside a table of the values that its keys have, and how often a map
+//! drops its values.
 use crate::names::name;
 use inlinable_string::{InlineStringN, StringExt};
 use inline_uses::text_map::{Iter, TextMap};
@@ -91,8 +91,8 @@ impl Pair {
         Ok(pair)
     }
 
-    /// Puts a value under a key, and returns whether it was put, and the map gave the value that the
-    /// key had.
+    /// Puts a value under a key, and returns whether it was put, and the map gave the value that
+    /// the key had.
     fn put(&mut self, number: usize, value: usize) -> bool {
         let Some(key) = self.keys.get(number) else {
             return false;
@@ -106,7 +106,7 @@ impl Pair {
         }
     }
 
-    /// Changes the value of a key where it is, and returns whether the map lent the one that it had.
+    /// Changes the value of a key where it is, and returns whether the map lent what it had.
     fn change(&mut self, number: usize, value: usize) -> bool {
         let Some(key) = self.keys.get(number) else {
             return false;
@@ -290,8 +290,8 @@ fn long_key(alloc: Global, number: usize) -> Result<String, AllocError> {
     Ok(key)
 }
 
-/// The first long key that has a value before it is put, has another once all are, or is there after
-/// it is deleted, or `LONG_KEYS` if the map is not empty at the end.
+/// The first long key that has a value before it is put, has another once all are, or is there
+/// after it is deleted, or `LONG_KEYS` if the map is not empty at the end.
 fn first_wrong_long_key(
     alloc: Global,
     map: &mut TextMap<usize>,
