@@ -9,6 +9,7 @@ pub mod Letters
 pub mod Lexemes
 pub mod Listed
 pub mod MapTexts
+pub mod Mapped
 pub mod Members
 pub mod Numbered
 pub mod Places

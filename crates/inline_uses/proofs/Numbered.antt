@@ -1,26 +1,20 @@
--- Entries by their numbers, and these in the order of the keys: what an edit does to both.
-use Rattle.std.proofs.Common.{arith, ◌≡◌, inl, inr, ℕ, zero, suc, ◌-◌, ◌<◌, ◌≤◌, List, [], ◌∷◌, ◌++◌, length, map, take, drop, set, get_or, Option, Some, None, option_map, Less, Equal, refl, sym, ap, subst, ◌∙◌}
+-- Entries by their numbers, and lists of these numbers: what an edit does to both.
+use Rattle.std.proofs.Common.{arith, ◌≡◌, inl, inr, ℕ, zero, suc, ◌-◌, ◌<◌, ◌≤◌, List, [], ◌∷◌, ◌++◌, length, map, take, drop, set, get_or, Option, Some, None, Less, Equal, refl, sym, ap, subst, ◌∙◌}
 use Rattle.std.proofs.lemmas.Bool.{cases_eq, cases_lt}
 use Rattle.std.proofs.lemmas.Cmp.{nat_list_cmp_total, tied_itself}
-use Rattle.std.proofs.lemmas.List.{length-append, length-map, length-set, length-take-le, map-append, map-set, take-append-drop, take-set}
+use Rattle.std.proofs.lemmas.List.{length-map, length-set, length-take-le, map-append, map-set, take-append-drop}
 use Rattle.std.proofs.lemmas.List.Edits.{length-insert, length-remove}
 use Rattle.std.proofs.lemmas.Option.{get_or_from_slice_get, slice_get-get_or, slice_get-map, slice_get_within}
 use Rattle.std.specs.Prelude.{slice_get}
 use Rattle.std.proofs.Math.ListN.{get_or-map}
-use Rattle.std.proofs.Math.Seq.{map-set_same, take-append_seam}
-use Rattle.std.specs.List.{AllByRecursion, insert, remove, swap_remove, drop-map, take-map}
+use Rattle.std.specs.List.{AllByRecursion, insert, remove, swap_remove, take-map}
 use Rattle.std.specs.List.Sorted.{IsStrictlySortedBy}
 use Rattle.std.specs.Map.{keys_of}
-use Rattle.inline_uses.specs.Symbols.{IsGap, bytes_at, key_order, text_at}
-use Rattle.inline_uses.specs.TextMap.{AreInOrder, AreNumbers, AreOthers, Entries, Has, IsRenumbered, entries_at, entry_of, value_of, with_value, without}
-use Rattle.inline_uses.specs.Index.{IsIndex, ids_in}
-use Rattle.inline_uses.specs.declared.index.Index.{Index}
-use Rattle.inlinable_string.specs.declared.inlinable_string.InlinableStringN.{InlinableStringN}
-use Rattle.inline_uses.proofs.Ids.{gap_with, index_with, index_without}
+use Rattle.inline_uses.specs.Symbols.{IsGap, key_order, text_at}
+use Rattle.inline_uses.specs.TextMap.{AreNumbers, AreOthers, Entries, Has, entries_at}
 use Rattle.inline_uses.proofs.InRuns.{all_append}
 use Rattle.inline_uses.proofs.RunEdits.{all_at, all_drop, all_insert, all_take}
-use Rattle.inline_uses.proofs.SameTexts.{same_texts}
-use Rattle.inline_uses.proofs.Search.{inserted_seen, none, removed_seen, there}
+use Rattle.inline_uses.proofs.Search.{inserted_seen, there}
 use Rattle.inline_uses.proofs.Tables.{at_push}
 
 -- a list around the element at an index
@@ -37,7 +31,7 @@ module _ {X : Type 0} where
   set_around (z ∷ xs) zero x y is = refl
   set_around (z ∷ xs) (suc at) x y is = ap (λ xs. z ∷ xs) (set_around xs at x y is)
 
-  other_set : (xs : List X) (at i : ℕ) (y : X) → ¬ (i ≡ at)
+  pub other_set : (xs : List X) (at i : ℕ) (y : X) → ¬ (i ≡ at)
       → slice_get (set xs at y) i ≡ slice_get xs i
   other_set [] at i y not = refl
   other_set (x ∷ xs) zero zero y not = absurd (not refl)
@@ -45,7 +39,8 @@ module _ {X : Type 0} where
   other_set (x ∷ xs) (suc at) zero y not = refl
   other_set (x ∷ xs) (suc at) (suc i) y not = other_set xs at i y (λ same. not (ap suc same))
 
-  this_set : (xs : List X) (at : ℕ) (y : X) → at < length xs → slice_get (set xs at y) at ≡ Some y
+  pub this_set : (xs : List X) (at : ℕ) (y : X) → at < length xs
+      → slice_get (set xs at y) at ≡ Some y
   this_set [] at y within = absurd (omega (arith, within))
   this_set (x ∷ xs) zero y within = refl
   this_set (x ∷ xs) (suc at) y within = this_set xs at y (omega (arith, within))
@@ -110,7 +105,7 @@ module _ (before after : List ℕ) (gone : ℕ) where
       go (x ∷ xs) id not (inr has) = inr (go xs id not has)
 
 -- what two lists have under numbers alike
-alike : {Y : Type 0} (f g : ℕ → Y) (ids : List ℕ) → AllByRecursion (λ id. f id ≡ g id) ids
+pub alike : {Y : Type 0} (f g : ℕ → Y) (ids : List ℕ) → AllByRecursion (λ id. f id ≡ g id) ids
     → map f ids ≡ map g ids
 alike f g [] all = refl
 alike f g (id ∷ ids) all =
@@ -134,7 +129,7 @@ module _ {V : Type 0} where
       ∙ length-map ids (slice_get es)
 
   -- the key of an entry that is there
-  abbrev key_or : Option (List ℕ × V) → List ℕ
+  abbrev pub key_or : Option (List ℕ × V) → List ℕ
   key_or None = []
   key_or (Some e) = e.0
 
@@ -143,7 +138,7 @@ module _ {V : Type 0} where
   key_at (e ∷ es) zero = refl
   key_at (e ∷ es) (suc id) = key_at es id
 
-  keys_at : (es : Entries V) (ids : List ℕ)
+  pub keys_at : (es : Entries V) (ids : List ℕ)
       → map (text_at (keys_of es)) ids ≡ map key_or (map (slice_get es) ids)
   keys_at es [] = refl
   keys_at es (id ∷ ids) =
@@ -216,7 +211,7 @@ not_among texts text at i gap is =
     ]
 
 -- the number at an index is none of the others
-abbrev Apart : List ℕ → ℕ → ℕ → Type 0
+abbrev pub Apart : List ℕ → ℕ → ℕ → Type 0
 Apart ids at id = AllByRecursion (λ other. ¬ (other ≡ id)) (take at ids)
     × AllByRecursion (λ other. ¬ (other ≡ id)) (drop (suc at) ids)
 
@@ -277,68 +272,12 @@ module _ (text_of : ℕ → List ℕ) where
   same_number (x ∷ ids) (suc i) (suc j) a b sorted is js same =
       same_number ids i j a b sorted.1 is js same
 
--- an entry has a key, and among the entries in order it is at an index
-pub record IsFound {V : Type 0} (es view : Entries V) (key : List ℕ) (at id : ℕ) : Type 0 where
-  pub value : V
-  pub entry : slice_get es id ≡ Some (key, value)
-  pub known : value_of view key ≡ Some value
-  pub left : without view key ≡ remove view at
-  pub put : (v : V) → with_value view key v ≡ set view at (key, v)
-
--- an element that is read is seen as the entry that is there
-pub read_entry : {V : Type 0} (items : List (InlinableStringN 30 × V)) (id : ℕ)
-    (x : InlinableStringN 30 × V) (e : List ℕ × V) → slice_get (map entry_of items) id ≡ Some e
-    → x ≡ get_or items id x → entry_of x ≡ e
-read_entry items id x e is read =
-    let within = slice_get_within (map entry_of items) id e is in
-    let seen : slice_get (map entry_of items) id ≡ Some (entry_of x)
-    = slice_get-map entry_of items id ∙ ap (option_map entry_of) (slice_get-get_or items id x
-    (rw length-map at within) ∙ ap Some (sym read)) in
-    cc
-
--- an index over the keys of entries gives the entries in the order of the keys
-module _ {V : Type 0} (es : Entries V) (index : Index) (numbers : AreNumbers (length es) (ids_in index))
-    (is : IsIndex (text_at (keys_of es)) index)
-  where
-    abbrev view : Entries V
-    view = entries_at es (ids_in index)
-
-    pub in_order : AreInOrder view
-    in_order = subst (IsStrictlySortedBy key_order)
-        (sym (keys_seen es (ids_in index) numbers.within)) is.sorted
-
-    pub len_seen : length es ≡ length view
-    len_seen = sym (count es (ids_in index) numbers.within ∙ numbers.once)
-
-    -- a key that has a number, and a value under it
-    pub found_entry : (key : List ℕ) (at id : ℕ)
-        → slice_get (map (text_at (keys_of es)) (ids_in index)) at ≡ Some key
-        → slice_get (ids_in index) at ≡ Some id → IsFound es view key at id
-    found_entry key at id text number =
-        let entry = there key view at in_order
-        (rw (keys_seen es (ids_in index) numbers.within) text) in
-        record {
-          value = entry.0;
-          entry = entry_seen es (ids_in index) at id (key, entry.0) numbers.within number entry.1;
-          known = entry.2;
-          left = entry.3;
-          put = entry.4;
-        }
-
-    -- a key that has none, and where it goes
-    pub missing : (key : List ℕ) (at : ℕ)
-        → IsGap (map (text_at (keys_of es)) (ids_in index)) key at
-        → (value_of view key ≡ None) × (without view key ≡ view)
-        × ((v : V) → with_value view key v ≡ insert view at (key, v))
-    missing key at gap =
-        none key view at (rw (keys_seen es (ids_in index) numbers.within) gap)
-
-weaker : {X : Type 0} (P Q : X → Type 0) → ((x : X) → P x → Q x) → (xs : List X)
+pub weaker : {X : Type 0} (P Q : X → Type 0) → ((x : X) → P x → Q x) → (xs : List X)
     → AllByRecursion P xs → AllByRecursion Q xs
 weaker P Q step [] all = tt
 weaker P Q step (x ∷ xs) all = (step x all.0, weaker P Q step xs all.1)
 
-both : {X : Type 0} (P Q R : X → Type 0) → ((x : X) → P x → Q x → R x) → (xs : List X)
+pub both : {X : Type 0} (P Q R : X → Type 0) → ((x : X) → P x → Q x → R x) → (xs : List X)
     → AllByRecursion P xs → AllByRecursion Q xs → AllByRecursion R xs
 both P Q R step [] all also = tt
 both P Q R step (x ∷ xs) all also = (step x all.0 also.0, both P Q R step xs all.1 also.1)
@@ -481,294 +420,3 @@ swapped_seen f xs i d = sym (take-map f (length xs - 1) (set xs i (get_or xs (le
     ∙ ap (set (map f xs) i) (sym (get_or-map f xs (length xs - 1) d)))
     ∙ ap (λ n. take (n - 1) (set (map f xs) i (get_or (map f xs) (n - 1) (f d))))
     (sym (length-map xs f))
-
--- entries of which one is in an index no longer
-module _ {V : Type 0} (es : Entries V) (last id : ℕ) (all : length es ≡ suc last) (before after : Index)
-    (are : AreOthers (length es) id (ids_in before))
-    (is : IsIndex (text_at (keys_of es)) before)
-  where
-    others : AreOthers (suc last) id (ids_in before)
-    others = subst (λ n. AreOthers n id (ids_in before)) all are
-
-    stay : (gone : List ℕ × V) (other : ℕ) → other < last → ¬ (other ≡ id)
-        → slice_get (swap_remove es id gone) other ≡ slice_get es other
-    stay gone other less not = swapped_stays es id last gone all other less not
-
-    texts : (gone : List ℕ × V) (ids : List ℕ)
-        → map (slice_get (swap_remove es id gone)) ids ≡ map (slice_get es) (ids_in before)
-        → map (text_at (keys_of (swap_remove es id gone))) ids
-        ≡ map (text_at (keys_of es)) (ids_in before)
-    texts gone ids same = keys_at (swap_remove es id gone) ids ∙ ap (map key_or) same
-        ∙ sym (keys_at es (ids_in before))
-
-    count_is : length es - 1 ≡ last
-    count_is = omega (arith, all)
-
-    -- it was the last one
-    pub last_renumbered : id ≡ last → IsRenumbered es id before before
-    last_renumbered same =
-        let numbers = numbers_without last id (ids_in before) others same in
-        let seen_same = λ (gone : List ℕ × V). alike (slice_get (swap_remove es id gone))
-        (slice_get es) (ids_in before) (both (λ other. other < last) (λ other. ¬ (other ≡ id))
-        (λ other. slice_get (swap_remove es id gone) other ≡ slice_get es other) (stay gone)
-        (ids_in before) numbers.within are.apart) in
-        record {
-          numbers = subst (λ n. AreNumbers n (ids_in before)) (sym count_is) numbers;
-          same = seen_same;
-          index = λ gone. same_texts (text_at (keys_of es))
-              (text_at (keys_of (swap_remove es id gone))) before
-              (texts gone (ids_in before) (seen_same gone)) is;
-        }
-
-    abbrev text_of : ℕ → List ℕ
-    text_of = text_at (keys_of es)
-
-    last_place : ¬ (id ≡ last) → (at : ℕ) × (slice_get (ids_in before) at ≡ Some last)
-    last_place not = place_of (ids_in before) last
-        (are.all last (omega (arith, all)) (λ same. not (sym same)))
-
-    -- the index of the last one, which is found by its key
-    pub last_found : (at : ℕ) → ¬ (id ≡ last)
-        → slice_get (map (text_at (keys_of es)) (ids_in before)) at
-        ≡ Some (text_at (keys_of es) last) → slice_get (ids_in before) at ≡ Some last
-    last_found at not found =
-        let ids = ids_in before in
-        let within = slice_get_within (map text_of ids) at (text_of last) found in
-        let here : slice_get ids at ≡ Some (get_or ids at 0)
-        = slice_get-get_or ids at 0 (rw length-map at within) in
-        let seen_there : Some (text_of (get_or ids at 0)) ≡ Some (text_of last)
-        = ap (option_map text_of) (sym here) ∙ sym (slice_get-map text_of ids at) ∙ found in
-        let text : text_of (get_or ids at 0) ≡ text_of last = cc in
-        let place = last_place not in
-        here ∙ ap Some (same_number text_of ids at place.0 (get_or ids at 0) last is.sorted here
-        place.1 text)
-
-    -- it is not missing
-    pub last_there : (at : ℕ) → ¬ (id ≡ last)
-        → IsGap (map (text_at (keys_of es)) (ids_in before)) (text_at (keys_of es) last) at → ⊥
-    last_there at not gap =
-        let place = last_place not in
-        let seen_there : slice_get (map text_of (ids_in before)) place.0 ≡ Some (text_of last)
-        = slice_get-map text_of (ids_in before) place.0 ∙ ap (option_map text_of) place.1 in
-        not_among (map text_of (ids_in before)) (text_of last) at place.0 gap seen_there
-
-    -- the last one gets its number
-    pub other_renumbered : (at : ℕ) → id < last → slice_get (ids_in before) at ≡ Some last
-        → ids_in after ≡ set (ids_in before) at id
-        → ((f g : ℕ → List ℕ) → IsIndex f before
-        → map g (ids_in after) ≡ map f (ids_in before) → IsIndex g after)
-        → IsRenumbered es id before after
-    other_renumbered at less there ids index =
-        let apart = differ (text_at (keys_of es)) (ids_in before) at last there is.sorted in
-        let seen_same = λ (gone : List ℕ × V). ap (map (slice_get (swap_remove es id gone))) ids
-        ∙ renamed_seen last id (ids_in before) others at there less apart
-        (slice_get (swap_remove es id gone)) (slice_get es)
-        (swapped_moves es id last gone all less) (stay gone) in
-        record {
-          numbers = subst (λ n. AreNumbers n (ids_in after)) (sym count_is)
-              (subst (AreNumbers last) (sym ids)
-              (numbers_renamed last id (ids_in before) others at there less apart));
-          same = seen_same;
-          index = λ gone. index (text_at (keys_of es)) (text_at (keys_of (swap_remove es id gone)))
-              is (texts gone (ids_in after) (seen_same gone));
-        }
-
--- a map without the entry of a number, which was at an index in the order of the keys
-module _ {V : Type 0} (items : List (InlinableStringN 30 × V)) (at id : ℕ)
-    (order removed : Index)
-    (numbers : AreNumbers (length (map entry_of items)) (ids_in order))
-    (index : IsIndex (text_at (keys_of (map entry_of items))) order)
-    (is : slice_get (ids_in order) at ≡ Some id) (ids : ids_in removed ≡ remove (ids_in order) at)
-  where
-    abbrev es : Entries V
-    es = map entry_of items
-
-    pub others_left : AreOthers (length es) id (ids_in removed)
-    others_left = subst (AreOthers (length es) id) (sym ids)
-        (others_of (length es) at id (ids_in order) is
-        (differ (text_at (keys_of es)) (ids_in order) at id is index.sorted) numbers)
-
-    module _ (x : InlinableStringN 30 × V) (after : Index) (they : IsRenumbered es id removed after) where
-      abbrev new : Entries V
-      new = map entry_of (swap_remove items id x)
-
-      new_is : new ≡ swap_remove es id (entry_of x)
-      new_is = swapped_seen entry_of items id x
-
-      new_numbers : AreNumbers (length new) (ids_in after)
-      new_numbers = subst (λ n. AreNumbers n (ids_in after)) (sym length_is) they.numbers
-        where
-          some : length es ≡ suc (length es - 1)
-          some =
-              let under = all_at (λ id. id < length es) (ids_in order) at id numbers.within (sym is)
-              in omega (arith, under)
-
-          length_is : length new ≡ length es - 1
-          length_is = ap length new_is ∙ swapped_length es id (length es - 1) (entry_of x) some
-
-      pub mapped_left : AreNumbers (length new) (ids_in after)
-          × IsIndex (text_at (keys_of new)) after
-      mapped_left = (
-        new_numbers,
-        subst (λ es. IsIndex (text_at (keys_of es)) after) (sym new_is) (they.index (entry_of x)),
-      )
-
-      pub entries_left : entries_at new (ids_in after) ≡ remove (entries_at es (ids_in order)) at
-      entries_left = same_entries new (ids_in after) (remove (entries_at es (ids_in order)) at)
-          new_numbers.within (ap (λ es. map (slice_get es) (ids_in after)) new_is
-          ∙ they.same (entry_of x) ∙ ap (map (slice_get es)) ids
-          ∙ removed_seen (slice_get es) (ids_in order) at
-          ∙ ap (λ xs. remove xs at) (sym (seen es (ids_in order) numbers.within))
-          ∙ sym (removed_seen Some (entries_at es (ids_in order)) at))
-
--- a map in which the value of a key is another, whose entry has a number and is at an index
-module _ {V : Type 0} (items : List (InlinableStringN 30 × V)) (x : InlinableStringN 30 × V) (v : V)
-    (key : List ℕ) (at id : ℕ) (order : Index)
-    (numbers : AreNumbers (length (map entry_of items)) (ids_in order))
-    (index : IsIndex (text_at (keys_of (map entry_of items))) order)
-    (number : slice_get (ids_in order) at ≡ Some id)
-    (found : IsFound (map entry_of items) (entries_at (map entry_of items) (ids_in order)) key at id)
-    (read : x ≡ get_or items id x)
-  where
-    abbrev known : Entries V
-    known = map entry_of items
-
-    abbrev valued : Entries V
-    valued = map entry_of (set items id (x.0, v))
-
-    name : bytes_at x.0 ≡ key
-    name = ap (λ e. e.0) (read_entry items id x (key, found.value) found.entry read)
-
-    valued_is : valued ≡ set known id (key, v)
-    valued_is = map-set entry_of items id (x.0, v) ∙ ap (λ k. set known id (k, v)) name
-
-    same_count : length valued ≡ length known
-    same_count = ap length valued_is ∙ length-set known id (key, v)
-
-    same_keys : keys_of valued ≡ keys_of known
-    same_keys = ap keys_of valued_is ∙ map-set_same (λ e. e.0) known id (key, v) (key, found.value)
-        (sym (ap (λ e. e.0) (get_or_from_slice_get known id (key, found.value) (key, found.value)
-        found.entry)))
-
-    valued_numbers : AreNumbers (length valued) (ids_in order)
-    valued_numbers = subst (λ n. AreNumbers n (ids_in order)) (sym same_count) numbers
-
-    pub mapped_valued : AreNumbers (length valued) (ids_in order)
-        × IsIndex (text_at (keys_of valued)) order
-    mapped_valued = (
-      valued_numbers,
-      subst (λ keys. IsIndex (text_at keys) order) (sym same_keys) index,
-    )
-
-    others_stay : (ids : List ℕ) → AllByRecursion (λ other. ¬ (other ≡ id)) ids
-        → map (slice_get (set known id (key, v))) ids ≡ map (slice_get known) ids
-    others_stay ids apart = alike (slice_get (set known id (key, v))) (slice_get known) ids
-        (weaker (λ other. ¬ (other ≡ id))
-        (λ other. slice_get (set known id (key, v)) other ≡ slice_get known other)
-        (λ other not. other_set known id other (key, v) not) ids apart)
-
-    valued_seen : map (slice_get (set known id (key, v))) (ids_in order)
-        ≡ set (map (slice_get known) (ids_in order)) at (Some (key, v))
-    valued_seen =
-        let ids = ids_in order in
-        let new = slice_get (set known id (key, v)) in
-        let apart = differ (text_at (keys_of known)) ids at id number index.sorted in
-        let within = slice_get_within known id (key, found.value) found.entry in
-        let there : slice_get (map (slice_get known) ids) at ≡ Some (slice_get known id)
-        = slice_get-map (slice_get known) ids at ∙ ap (option_map (slice_get known)) number in
-        ap (map new) (around ids at id number)
-        ∙ map-append new (take at ids) (id ∷ drop (suc at) ids)
-        ∙ ap (λ e. map new (take at ids) ++ e ∷ map new (drop (suc at) ids))
-        (this_set known id (key, v) within)
-        ∙ ap (λ xs. xs ++ Some (key, v) ∷ map new (drop (suc at) ids))
-        (others_stay (take at ids) apart.0 ∙ sym (take-map (slice_get known) at ids))
-        ∙ ap (λ xs. take at (map (slice_get known) ids) ++ Some (key, v) ∷ xs)
-        (others_stay (drop (suc at) ids) apart.1 ∙ sym (drop-map (slice_get known) (suc at) ids))
-        ∙ sym (set_around (map (slice_get known) ids) at (slice_get known id) (Some (key, v)) there)
-
-    pub entries_valued : entries_at valued (ids_in order)
-        ≡ with_value (entries_at known (ids_in order)) key v
-    entries_valued = same_entries valued (ids_in order)
-        (set (entries_at known (ids_in order)) at (key, v)) valued_numbers.within
-        (ap (λ es. map (slice_get es) (ids_in order)) valued_is ∙ valued_seen
-        ∙ ap (λ xs. set xs at (Some (key, v))) (sym (seen known (ids_in order) numbers.within))
-        ∙ sym (map-set Some (entries_at known (ids_in order)) at (key, v)))
-        ∙ sym (found.put v)
-
--- a list whose new last element goes again
-pub last_swapped : {X : Type 0} (xs : List X) (x d : X)
-    → swap_remove (xs ++ x ∷ []) (length xs) d ≡ xs
-last_swapped xs x d =
-    let grown = xs ++ x ∷ [] in
-    let end : length grown - 1 ≡ length xs = rw length-append (omega arith) in
-    ap (λ n. take n (set grown (length xs) (get_or grown n d))) end
-    ∙ take-set grown (length xs) (get_or grown (length xs) d) ∙ take-append_seam xs (x ∷ [])
-
--- a map with an entry more, which has no number yet
-module _ {V : Type 0} (items : List (InlinableStringN 30 × V)) (e : InlinableStringN 30 × V)
-    (order : Index) (numbers : AreNumbers (length (map entry_of items)) (ids_in order))
-    (index : IsIndex (text_at (keys_of (map entry_of items))) order)
-  where
-    abbrev unpushed : Entries V
-    unpushed = map entry_of items
-
-    abbrev pushed : Entries V
-    pushed = map entry_of (items ++ e ∷ [])
-
-    pushed_is : pushed ≡ unpushed ++ entry_of e ∷ []
-    pushed_is = map-append entry_of items (e ∷ [])
-
-    pushed_keys : keys_of pushed ≡ keys_of unpushed ++ bytes_at e.0 ∷ []
-    pushed_keys = ap keys_of pushed_is ∙ map-append (λ f. f.0) unpushed (entry_of e ∷ [])
-
-    keys_count : length (keys_of unpushed) ≡ length items
-    keys_count = length-map unpushed (λ f. f.0) ∙ length-map items entry_of
-
-    under_keys : AllByRecursion (λ id. id < length (keys_of unpushed)) (ids_in order)
-    under_keys = subst (λ n. AllByRecursion (λ id. id < n) (ids_in order))
-        (sym (length-map unpushed (λ f. f.0))) numbers.within
-
-    pub pushed_index : IsIndex (text_at (keys_of pushed)) order
-    pushed_index = subst (λ keys. IsIndex (text_at keys) order) (sym pushed_keys)
-        (index_with (keys_of unpushed) (bytes_at e.0) order under_keys index)
-
-    -- where its key goes
-    module _ (at : ℕ)
-        (gap : IsGap (map (text_at (keys_of unpushed)) (ids_in order)) (bytes_at e.0) at)
-      where
-        pub pushed_gap : IsGap (map (text_at (keys_of pushed)) (ids_in order))
-            (text_at (keys_of pushed) (length items)) at
-        pushed_gap = subst (λ keys. IsGap (map (text_at keys) (ids_in order))
-            (text_at keys (length items)) at) (sym pushed_keys)
-            (subst (λ n. IsGap (map (text_at (keys_of unpushed ++ bytes_at e.0 ∷ [])) (ids_in order))
-            (text_at (keys_of unpushed ++ bytes_at e.0 ∷ []) n) at) keys_count
-            (gap_with (keys_of unpushed) (bytes_at e.0) (ids_in order) at under_keys gap))
-
-        -- with its number there
-        module _ (after : Index) (ids : ids_in after ≡ insert (ids_in order) at (length items))
-          where
-            pub pushed_numbers : AreNumbers (length pushed) (ids_in after)
-            pushed_numbers =
-                let count : length pushed ≡ suc (length unpushed)
-                = ap length pushed_is ∙ rw length-append (omega arith) in
-                let own : length items ≡ length unpushed = sym (length-map items entry_of) in
-                subst (λ n. AreNumbers n (ids_in after)) (sym count)
-                (subst (AreNumbers (suc (length unpushed)))
-                (ap (insert (ids_in order) at) (sym own) ∙ sym ids)
-                (numbers_with (length unpushed) at (ids_in order) (rw length-map at gap.0) numbers))
-
-            pub entries_pushed : entries_at pushed (ids_in after)
-                ≡ insert (entries_at unpushed (ids_in order)) at (entry_of e)
-            entries_pushed = same_entries pushed (ids_in after)
-                (insert (entries_at unpushed (ids_in order)) at (entry_of e)) pushed_numbers.within
-                (ap (λ es. map (slice_get es) (ids_in after)) pushed_is
-                ∙ ap (map (slice_get (unpushed ++ entry_of e ∷ []))) (ids
-                ∙ ap (insert (ids_in order) at) (sym (length-map items entry_of)))
-                ∙ with_entry unpushed (ids_in order) at (entry_of e) numbers.within)
-
-    -- and where it could get none, and goes again
-    pub unpushed_index : (after : Index) → ids_in after ≡ ids_in order
-        → IsIndex (text_at (keys_of pushed)) after → IsIndex (text_at (keys_of unpushed)) after
-    unpushed_index after ids is = index_without (keys_of unpushed) (bytes_at e.0) after
-        (subst (AllByRecursion (λ id. id < length (keys_of unpushed))) (sym ids) under_keys)
-        (subst (λ keys. IsIndex (text_at keys) after) pushed_keys is)

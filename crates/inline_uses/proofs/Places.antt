@@ -14,7 +14,8 @@ use Rattle.inline_uses.specs.declared.index.Spot.{Spot}
 use Rattle.inline_uses.specs.declared.index.run.Run.{Run}
 use Rattle.inlinable_string.specs.declared.inlinable_string.InlinableStringN.{InlinableStringN}
 use Rattle.inline_uses.proofs.InRuns.{flat, ids_at_is}
-use Rattle.inline_uses.proofs.Numbered.{count, entry_seen, keys_seen, read_entry}
+use Rattle.inline_uses.proofs.Mapped.{read_entry}
+use Rattle.inline_uses.proofs.Numbered.{count, entry_seen, keys_seen}
 use Rattle.inline_uses.proofs.Search.{run}
 
 -- a run ends where the next one starts

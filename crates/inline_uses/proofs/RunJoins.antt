@@ -78,7 +78,7 @@ module _ (old next : Run) where
         ap (λ n. new ∷ n ∷ later) (sym other)
     put_back r (n ∷ later) (suc k) then = ap (λ rs. r ∷ rs) (put_back n later k then)
 
-    -- with the ids of both in the place of both all are the same
+    -- with the ids of both instead of both all are the same
     flat_joined : (r : Run) (later : List Run) (k : ℕ) → slice_get (r ∷ later) k ≡ Some old
         → slice_get later k ≡ Some next → ids_of new ≡ ids_of old ++ ids_of next
         → flat (set (r ∷ remove later k) k new) ≡ flat (r ∷ later)

@@ -139,7 +139,7 @@ pub record IsSplit (text_of : ℕ → List ℕ) (before after : Index) (at : ℕ
   pub ordered : IsOrdered text_of upper
   pub rest : ids_of upper ≡ drop HALF (ids_of lower.old)
 
--- an index with another run in the place of one
+-- an index with another run instead of one
 abbrev pub with_run : Index → ℕ → Run → Index
 with_run index zero run = record index { first = run }
 with_run index (suc k) run = record index { later = with_item index.later k run }

@@ -1,5 +1,5 @@
--- What the contracts of a map from texts cite: its whole state is a list of keys, each as its bytes,
--- with their values, in which each key occurs once, in the order of the keys.
+-- What the contracts of a map from texts cite: its whole state is a list of keys, each as its
+-- bytes, with their values, in which each key occurs once, in the order of the keys.
 use Rattle.std.specs.Prelude.{◌≡◌, ◌<◌, ◌+◌, ◌-◌, ◌&&◌, ◌⊎◌, not, ℕ, List, [], ◌∷◌, Option, map, length, filter, take, drop, slice_get}
 use Rattle.std.specs.Ordering.{is_gt}
 use Rattle.std.specs.List.{AllByRecursion, flat_map, swap_remove}

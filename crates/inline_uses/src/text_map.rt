@@ -19,8 +19,8 @@ mod json;
 
 /// Values under texts. A search takes a number of comparisons that is logarithmic in the number of
 /// keys, whatever they are, since nothing is hashed, and allocates nothing. A new key moves the
-/// numbers of at most 255 others; now and then it splits their run, which moves the runs after it. A
-/// deletion moves one entry. A contract sees the list of the keys, each as its bytes, with their
+/// numbers of at most 255 others; now and then it splits their run, which moves the runs after it.
+/// A deletion moves one entry. A contract sees the list of the keys, each as its bytes, with their
 /// values, in the order of the keys.
 ///
 /// For a thousand keys or more this is faster than a [`Store`](crate::store::Store), whose entries
@@ -173,8 +173,8 @@ impl<V: Drop> TextMap<V> {
     }
 }
 
-/// Gives the number of an entry, which is in the index no longer, to the last entry, which is to take
-/// its place.
+/// Gives the number of an entry, which is in the index no longer, to the last entry, which is to
+/// take its place.
 fn rename_last<V>(order: &mut Index, entries: &Vec<(InlinableString, V)>, id: usize)
     requires within { id < length entries.now.items }
     requires others { AreOthers (length entries.now.items) id (ids_in order.old) }

@@ -8,8 +8,8 @@ use crate::index::{Index, Spot};
 use inlinable_string::InlinableString;
 use std::marker::Model;
 
-/// Keys of a map with their values, in the order of the keys. A contract sees the list of those that
-/// are left.
+/// Keys of a map with their values, in the order of the keys. A contract sees the list of those
+/// that are left.
 #[derive(Drop)]
 pub struct Iter<'a, V> {
     entries: &'a Vec<(InlinableString, V)>,
@@ -35,7 +35,8 @@ impl<'a, V> Model for Iter<'a, V> {
 }
 
 impl<'a, V> Iter<'a, V> {
-    /// Returns the iterator over the entries from one place up to another, in the order of the keys.
+    /// Returns the iterator over the entries from one place up to another, in the order of the
+    /// keys.
     pub(super) fn new(
         entries: &'a Vec<(InlinableString, V)>,
         order: &'a Index,

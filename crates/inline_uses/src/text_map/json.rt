@@ -38,8 +38,8 @@ impl TextMap<InlinableString> {
     }
 
     /// Returns the map of these bytes. Fails with [`ReadError::NotAStore`] only if they are not the
-    /// JSON of an object of strings, so never on what [`TextMap::to_bytes`] gave, and otherwise only
-    /// if an allocation does.
+    /// JSON of an object of strings, so never on what [`TextMap::to_bytes`] gave, and otherwise
+    /// only if an allocation does.
     pub fn from_bytes(alloc: Global, bytes: &[u8]) -> Result<Self, ReadError>
         ensures entries { IfOk result (λ map. entries_in bytes.now ≡ Some (texts_of map)) }
         ensures not_a_store { result ≡ Err ReadError.NotAStore → IsUtf8 bytes.now

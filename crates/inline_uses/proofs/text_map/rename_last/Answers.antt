@@ -2,7 +2,8 @@ use Rattle.std.proofs.Common.{arith, rules, ◌≡◌, ◌-◌, ◌<◌, ℕ, Li
 use Rattle.std.proofs.lemmas.List.{length-map}
 use Rattle.inlinable_string.specs.declared.inlinable_string.InlinableStringN.{InlinableStringN}
 use Rattle.inline_uses.specs.TextMap.{AreOthers, entry_of}
-use Rattle.inline_uses.proofs.Numbered.{last_found, last_renumbered, last_there, not_last, other_renumbered}
+use Rattle.inline_uses.proofs.Mapped.{last_found, last_renumbered, last_there, other_renumbered}
+use Rattle.inline_uses.proofs.Numbered.{not_last}
 use Rattle.inline_uses.proofs.text_map.rename_last.Goals as goal
 
 -- the entries of a list that is not empty

@@ -3,7 +3,7 @@ use Rattle.std.proofs.lemmas.List.{length-map}
 use Rattle.std.proofs.lemmas.Option.{slice_get_within}
 use Rattle.inline_uses.specs.Index.{ids_in, index_of}
 use Rattle.inline_uses.specs.TextMap.{by_number, entries_at, entry_of}
-use Rattle.inline_uses.proofs.Numbered.{IsFound, entries_left, found_entry, mapped_left, missing, others_left, read_entry}
+use Rattle.inline_uses.proofs.Mapped.{IsFound, entries_left, found_entry, mapped_left, missing, others_left, read_entry}
 use Rattle.inline_uses.proofs.text_map.TextMap.delete.Given.{Over}
 use Rattle.inline_uses.proofs.text_map.TextMap.delete.Goals.{After-id-id}
 use Rattle.inline_uses.proofs.text_map.TextMap.delete.Goals as goal

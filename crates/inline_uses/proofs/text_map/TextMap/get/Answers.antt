@@ -3,7 +3,7 @@ use Rattle.std.proofs.lemmas.List.{length-map}
 use Rattle.std.proofs.lemmas.Option.{slice_get_within}
 use Rattle.inline_uses.specs.Index.{ids_in}
 use Rattle.inline_uses.specs.TextMap.{by_number, entries_at, entry_of}
-use Rattle.inline_uses.proofs.Numbered.{IsFound, found_entry, missing, read_entry}
+use Rattle.inline_uses.proofs.Mapped.{IsFound, found_entry, missing, read_entry}
 use Rattle.inline_uses.proofs.text_map.TextMap.get.Given.{Over}
 use Rattle.inline_uses.proofs.text_map.TextMap.get.Goals.{In-Ok}
 use Rattle.inline_uses.proofs.text_map.TextMap.get.Goals as goal

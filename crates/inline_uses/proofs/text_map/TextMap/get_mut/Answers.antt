@@ -4,7 +4,7 @@ use Rattle.std.proofs.lemmas.Option.{slice_get_within}
 use Rattle.std.proofs.Math.Path.{fun_ext}
 use Rattle.inline_uses.specs.Index.{ids_in}
 use Rattle.inline_uses.specs.TextMap.{by_number, entries_at, entry_of, with_value}
-use Rattle.inline_uses.proofs.Numbered.{IsFound, entries_valued, found_entry, mapped_valued, missing, read_entry}
+use Rattle.inline_uses.proofs.Mapped.{IsFound, entries_valued, found_entry, mapped_valued, missing, read_entry}
 use Rattle.inline_uses.proofs.text_map.TextMap.get_mut.Given.{Over}
 use Rattle.inline_uses.proofs.text_map.TextMap.get_mut.Goals.{In-Ok}
 use Rattle.inline_uses.proofs.text_map.TextMap.get_mut.Goals as goal

@@ -1,7 +1,7 @@
 use Rattle.std.proofs.Common.{rules, ◌≡◌, length, sym, ◌∙◌}
 use Rattle.std.proofs.lemmas.List.{length-map}
 use Rattle.inline_uses.specs.TextMap.{by_number}
-use Rattle.inline_uses.proofs.Numbered.{in_order, len_seen}
+use Rattle.inline_uses.proofs.Mapped.{in_order, len_seen}
 use Rattle.inline_uses.proofs.text_map.TextMap.len.Goals as goal
 
 pub returns-clause-count : goal.returns-clause-count

@@ -6,7 +6,7 @@ use Rattle.std.specs.Map.{keys_of}
 use Rattle.inline_uses.specs.Index.{IsIndex, ids_in, index_of}
 use Rattle.inline_uses.specs.Symbols.{IsGap, bytes_at, text_at}
 use Rattle.inline_uses.specs.TextMap.{AreNumbers, by_number, entries_at, entry_of, value_of}
-use Rattle.inline_uses.proofs.Numbered.{IsFound, entries_pushed, entries_valued, found_entry, last_swapped, mapped_valued, missing, pushed_gap, pushed_index, pushed_numbers, read_entry, unpushed_index}
+use Rattle.inline_uses.proofs.Mapped.{IsFound, entries_pushed, entries_valued, found_entry, last_swapped, mapped_valued, missing, pushed_gap, pushed_index, pushed_numbers, read_entry, unpushed_index}
 use Rattle.inline_uses.proofs.text_map.TextMap.put.Given.{Over}
 use Rattle.inline_uses.proofs.text_map.TextMap.put.Goals.{In-Err, In-Ok, In-Ok-insert, In_default-push, Joined-swap_remove}
 use Rattle.inline_uses.proofs.text_map.TextMap.put.Goals as goal
