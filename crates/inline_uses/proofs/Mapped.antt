@@ -185,37 +185,37 @@ module _ {V : Type 0} (items : List (InlinableStringN 30 × V)) (at id : ℕ)
     module _ (x : InlinableStringN 30 × V) (after : Index)
         (they : IsRenumbered es id removed after)
       where
-      abbrev new : Entries V
-      new = map entry_of (swap_remove items id x)
+        abbrev new : Entries V
+        new = map entry_of (swap_remove items id x)
 
-      new_is : new ≡ swap_remove es id (entry_of x)
-      new_is = swapped_seen entry_of items id x
+        new_is : new ≡ swap_remove es id (entry_of x)
+        new_is = swapped_seen entry_of items id x
 
-      new_numbers : AreNumbers (length new) (ids_in after)
-      new_numbers = subst (λ n. AreNumbers n (ids_in after)) (sym length_is) they.numbers
-        where
-          some : length es ≡ suc (length es - 1)
-          some =
-              let under = all_at (λ id. id < length es) (ids_in order) at id numbers.within (sym is)
-              in omega (arith, under)
+        new_numbers : AreNumbers (length new) (ids_in after)
+        new_numbers = subst (λ n. AreNumbers n (ids_in after)) (sym length_is) they.numbers
+          where
+            some : length es ≡ suc (length es - 1)
+            some =
+                let under = all_at (λ id. id < length es) (ids_in order) at id numbers.within (sym is)
+                in omega (arith, under)
 
-          length_is : length new ≡ length es - 1
-          length_is = ap length new_is ∙ swapped_length es id (length es - 1) (entry_of x) some
+            length_is : length new ≡ length es - 1
+            length_is = ap length new_is ∙ swapped_length es id (length es - 1) (entry_of x) some
 
-      pub mapped_left : AreNumbers (length new) (ids_in after)
-          × IsIndex (text_at (keys_of new)) after
-      mapped_left = (
-        new_numbers,
-        subst (λ es. IsIndex (text_at (keys_of es)) after) (sym new_is) (they.index (entry_of x)),
-      )
+        pub mapped_left : AreNumbers (length new) (ids_in after)
+            × IsIndex (text_at (keys_of new)) after
+        mapped_left = (
+          new_numbers,
+          subst (λ es. IsIndex (text_at (keys_of es)) after) (sym new_is) (they.index (entry_of x)),
+        )
 
-      pub entries_left : entries_at new (ids_in after) ≡ remove (entries_at es (ids_in order)) at
-      entries_left = same_entries new (ids_in after) (remove (entries_at es (ids_in order)) at)
-          new_numbers.within (ap (λ es. map (slice_get es) (ids_in after)) new_is
-          ∙ they.same (entry_of x) ∙ ap (map (slice_get es)) ids
-          ∙ removed_seen (slice_get es) (ids_in order) at
-          ∙ ap (λ xs. remove xs at) (sym (seen es (ids_in order) numbers.within))
-          ∙ sym (removed_seen Some (entries_at es (ids_in order)) at))
+        pub entries_left : entries_at new (ids_in after) ≡ remove (entries_at es (ids_in order)) at
+        entries_left = same_entries new (ids_in after) (remove (entries_at es (ids_in order)) at)
+            new_numbers.within (ap (λ es. map (slice_get es) (ids_in after)) new_is
+            ∙ they.same (entry_of x) ∙ ap (map (slice_get es)) ids
+            ∙ removed_seen (slice_get es) (ids_in order) at
+            ∙ ap (λ xs. remove xs at) (sym (seen es (ids_in order) numbers.within))
+            ∙ sym (removed_seen Some (entries_at es (ids_in order)) at))
 
 -- a map in which the value of a key is another, whose entry has a number and is at an index
 module _ {V : Type 0} (items : List (InlinableStringN 30 × V)) (x : InlinableStringN 30 × V) (v : V)
