@@ -196,7 +196,8 @@ module _ {V : Type 0} (items : List (InlinableStringN 30 × V)) (at id : ℕ)
           where
             some : length es ≡ suc (length es - 1)
             some =
-                let under = all_at (λ id. id < length es) (ids_in order) at id numbers.within (sym is)
+                let under = all_at (λ id. id < length es) (ids_in order) at id numbers.within
+                (sym is)
                 in omega (arith, under)
 
             length_is : length new ≡ length es - 1
