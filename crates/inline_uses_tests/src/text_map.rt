@@ -344,7 +344,7 @@ impl Drop for Counted<'_> {
     }
 }
 
-/// How many values are put, under half as many keys.
+/// How many values are put, two of them under each key.
 const VALUES: usize = 1000;
 
 /// Puts the values, so that half are replaced, and then deletes each second key. How many are

@@ -252,7 +252,7 @@ fn deletions_that_empty_runs(rt: HostRuntime) -> Result<(), Fail> {
 }
 
 /// The third run joins the second, and both the first. No run joins another to more than 128 keys,
-/// and each has room for as many, since it was split once, so this requests none.
+/// and each has room for 128, since it was split once, so this requests none.
 #[test]
 fn deletions_that_join_runs(rt: HostRuntime) -> Result<(), Fail> {
     let map = numbered(rt.alloc(), THREE_RUNS);
