@@ -9,7 +9,7 @@ ghost use Rattle.inline_uses.specs.Index.{IsOrdered, IsShared, Lengthens, common
 mod edits;
 
 use super::Texts;
-use super::mark::{Mark, bits_after, compare, compare_texts};
+use super::mark::{Mark, bits_after, compare, compare_bytes, compare_texts};
 use std::alloc::{AllocError, Global};
 use std::cmp::Ordering;
 
@@ -139,8 +139,8 @@ impl Run {
         if self.front == 0 {
             return Ordering::Equal;
         }
-        let known = texts.text(first.id).as_bytes();
-        front_of(known, self.front).cmp(front_of(text.as_bytes(), self.front))
+        let known = front_of(texts.text(first.id).as_bytes(), self.front);
+        compare_bytes(known, front_of(text.as_bytes(), self.front))
     }
 
     /// Inserts the id of a text at the index at which it goes. Fails only if an allocation does;
