@@ -8,6 +8,7 @@ use std::process::Abort;
 use std::test::Fail;
 use test_support::Refusals;
 
+mod map_texts;
 mod store;
 mod symbols;
 mod text_map;
