@@ -1,4 +1,5 @@
 //! The inputs, which a seed determines.
+pub mod drawn;
 pub mod names;
 pub mod random;
 pub mod sources;

@@ -2,7 +2,7 @@
 //! all results. `bench/workloads.txt` lists the jobs, and `bench/run OLD NEW` times them.
 //!
 //! The arguments are a job, a seed, the size of an input and the number of inputs. The job `each`
-//! does all of them, one after the other, and prints a line for each.
+//! does all of those, one after the other, and prints a line for each. `bench/growth` times others.
 #![tactic(auto)]
 
 mod digest;
