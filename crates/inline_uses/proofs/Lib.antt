@@ -13,6 +13,7 @@ pub mod Mapped
 pub mod Members
 pub mod Numbered
 pub mod Places
+pub mod Pushed
 pub mod ReadBack
 pub mod Readable
 pub mod Remarked

@@ -1,30 +1,22 @@
 -- A map from texts, seen as the list of its entries in the order of the keys, and each edit of it.
-use Rattle.std.proofs.Common.{arith, ◌≡◌, ℕ, suc, ◌-◌, ◌<◌, List, [], ◌∷◌, ◌++◌, length, map, take, drop, set, get_or, Some, None, option_map, sym, ap, subst, ◌∙◌}
-use Rattle.std.proofs.lemmas.List.{length-append, length-map, length-set, map-append, map-set, take-set}
+use Rattle.std.proofs.Common.{arith, ◌≡◌, ℕ, suc, ◌-◌, ◌<◌, List, ◌∷◌, ◌++◌, length, map, take, drop, set, get_or, Some, None, option_map, sym, ap, subst, ◌∙◌}
+use Rattle.std.proofs.lemmas.List.{length-map, length-set, map-append, map-set}
 use Rattle.std.proofs.lemmas.Option.{get_or_from_slice_get, slice_get-get_or, slice_get-map, slice_get_within}
 use Rattle.std.specs.Prelude.{slice_get}
-use Rattle.std.proofs.Math.Seq.{map-set_same, take-append_seam}
+use Rattle.std.proofs.Math.Path.{fun_ext}
+use Rattle.std.proofs.Math.Seq.{map-set_same}
 use Rattle.std.specs.List.{AllByRecursion, insert, remove, swap_remove, drop-map, take-map}
 use Rattle.std.specs.List.Sorted.{IsStrictlySortedBy}
 use Rattle.std.specs.Map.{keys_of}
 use Rattle.inline_uses.specs.Symbols.{IsGap, bytes_at, key_order, text_at}
-use Rattle.inline_uses.specs.TextMap.{AreInOrder, AreNumbers, AreOthers, Entries, IsRenumbered, entries_at, entry_of, value_of, with_value, without}
+use Rattle.inline_uses.specs.TextMap.{AreInOrder, AreMapped, AreNumbers, AreOthers, Entries, IsFound, IsRenumbered, entries_at, entry_of, value_of, with_value, without}
 use Rattle.inline_uses.specs.Index.{IsIndex, ids_in}
 use Rattle.inline_uses.specs.declared.index.Index.{Index}
 use Rattle.inlinable_string.specs.declared.inlinable_string.InlinableStringN.{InlinableStringN}
-use Rattle.inline_uses.proofs.Ids.{gap_with, index_with, index_without}
 use Rattle.inline_uses.proofs.RunEdits.{all_at}
 use Rattle.inline_uses.proofs.SameTexts.{same_texts}
 use Rattle.inline_uses.proofs.Search.{none, removed_seen, there}
-use Rattle.inline_uses.proofs.Numbered.{alike, around, both, count, differ, entry_seen, key_or, keys_at, keys_seen, not_among, numbers_renamed, numbers_with, numbers_without, other_set, others_of, place_of, renamed_seen, same_entries, same_number, seen, set_around, swapped_length, swapped_moves, swapped_seen, swapped_stays, this_set, weaker, with_entry}
-
--- an entry has a key, and among the entries in order it is at an index
-pub record IsFound {V : Type 0} (es view : Entries V) (key : List ℕ) (at id : ℕ) : Type 0 where
-  pub value : V
-  pub entry : slice_get es id ≡ Some (key, value)
-  pub known : value_of view key ≡ Some value
-  pub left : without view key ≡ remove view at
-  pub put : (v : V) → with_value view key v ≡ set view at (key, v)
+use Rattle.inline_uses.proofs.Numbered.{alike, around, both, count, differ, entry_seen, key_or, keys_at, keys_seen, not_among, numbers_renamed, numbers_without, other_set, others_of, place_of, renamed_seen, same_entries, same_number, seen, set_around, swapped_length, swapped_moves, swapped_seen, swapped_stays, this_set, weaker}
 
 -- an element that is read is seen as the entry that is there
 pub read_entry : {V : Type 0} (items : List (InlinableStringN 30 × V)) (id : ℕ)
@@ -38,42 +30,39 @@ read_entry items id x e is read =
     cc
 
 -- an index over the keys of entries gives the entries in the order of the keys
-module _ {V : Type 0} (es : Entries V) (index : Index)
-    (numbers : AreNumbers (length es) (ids_in index))
-    (is : IsIndex (text_at (keys_of es)) index)
-  where
-    abbrev view : Entries V
-    view = entries_at es (ids_in index)
+module _ {V : Type 0} (es : Entries V) (index : Index) (are : AreMapped es index) where
+  abbrev view : Entries V
+  view = entries_at es (ids_in index)
 
-    pub in_order : AreInOrder view
-    in_order = subst (IsStrictlySortedBy key_order)
-        (sym (keys_seen es (ids_in index) numbers.within)) is.sorted
+  pub in_order : AreInOrder view
+  in_order = subst (IsStrictlySortedBy key_order)
+      (sym (keys_seen es (ids_in index) are.0.within)) are.1.sorted
 
-    pub len_seen : length es ≡ length view
-    len_seen = sym (count es (ids_in index) numbers.within ∙ numbers.once)
+  pub len_seen : length es ≡ length view
+  len_seen = sym (count es (ids_in index) are.0.within ∙ are.0.once)
 
-    -- a key that has a number, and a value under it
-    pub found_entry : (key : List ℕ) (at id : ℕ)
-        → slice_get (map (text_at (keys_of es)) (ids_in index)) at ≡ Some key
-        → slice_get (ids_in index) at ≡ Some id → IsFound es view key at id
-    found_entry key at id text number =
-        let entry = there key view at in_order
-        (rw (keys_seen es (ids_in index) numbers.within) text) in
-        record {
-          value = entry.0;
-          entry = entry_seen es (ids_in index) at id (key, entry.0) numbers.within number entry.1;
-          known = entry.2;
-          left = entry.3;
-          put = entry.4;
-        }
+  -- a key that has a number, and a value under it
+  pub found_entry : (key : List ℕ) (at id : ℕ)
+      → slice_get (map (text_at (keys_of es)) (ids_in index)) at ≡ Some key
+      → slice_get (ids_in index) at ≡ Some id → IsFound es index key at id
+  found_entry key at id text number =
+      let entry = there key view at in_order
+      (rw (keys_seen es (ids_in index) are.0.within) text) in
+      record {
+        value = entry.0;
+        entry = entry_seen es (ids_in index) at id (key, entry.0) are.0.within number entry.1;
+        number = number;
+        known = entry.2;
+        left = entry.3;
+        put = entry.4;
+      }
 
-    -- a key that has none, and where it goes
-    pub missing : (key : List ℕ) (at : ℕ)
-        → IsGap (map (text_at (keys_of es)) (ids_in index)) key at
-        → (value_of view key ≡ None) × (without view key ≡ view)
-        × ((v : V) → with_value view key v ≡ insert view at (key, v))
-    missing key at gap =
-        none key view at (rw (keys_seen es (ids_in index) numbers.within) gap)
+  -- a key that has none, and where it goes
+  pub missing : (key : List ℕ) (at : ℕ)
+      → IsGap (map (text_at (keys_of es)) (ids_in index)) key at
+      → (value_of view key ≡ None) × (without view key ≡ view)
+      × ((v : V) → with_value view key v ≡ insert view at (key, v))
+  missing key at gap = none key view at (rw (keys_seen es (ids_in index) are.0.within) gap)
 
 -- entries of which one is in an index no longer
 module _ {V : Type 0} (es : Entries V) (last id : ℕ) (all : length es ≡ suc last)
@@ -218,156 +207,83 @@ module _ {V : Type 0} (items : List (InlinableStringN 30 × V)) (at id : ℕ)
             ∙ ap (λ xs. remove xs at) (sym (seen es (ids_in order) numbers.within))
             ∙ sym (removed_seen Some (entries_at es (ids_in order)) at))
 
--- a map in which the value of a key is another, whose entry has a number and is at an index
-module _ {V : Type 0} (items : List (InlinableStringN 30 × V)) (x : InlinableStringN 30 × V) (v : V)
-    (key : List ℕ) (at id : ℕ) (order : Index)
-    (numbers : AreNumbers (length (map entry_of items)) (ids_in order))
-    (index : IsIndex (text_at (keys_of (map entry_of items))) order)
-    (number : slice_get (ids_in order) at ≡ Some id)
-    (found : IsFound (map entry_of items) (entries_at (map entry_of items) (ids_in order)) key at
-    id)
-    (read : x ≡ get_or items id x)
+-- the entry of a key is read by its number
+module _ {V : Type 0} (items : List (InlinableStringN 30 × V)) {order : Index} {key : List ℕ}
+    {at id : ℕ} (found : IsFound (map entry_of items) order key at id)
+    {x : InlinableStringN 30 × V} (read : x ≡ get_or items id x)
   where
     abbrev known : Entries V
     known = map entry_of items
 
-    abbrev valued : Entries V
-    valued = map entry_of (set items id (x.0, v))
+    pub value_read : Some x.1 ≡ value_of (entries_at known (ids_in order)) key
+    value_read = ap (λ e. Some e.1) (read_entry items id x (key, found.value) found.entry read)
+        ∙ sym found.known
 
-    name : bytes_at x.0 ≡ key
-    name = ap (λ e. e.0) (read_entry items id x (key, found.value) found.entry read)
+    -- and its value is then another
+    module _ (are : AreMapped known order) (v : V) where
+      abbrev valued : Entries V
+      valued = map entry_of (set items id (x.0, v))
 
-    valued_is : valued ≡ set known id (key, v)
-    valued_is = map-set entry_of items id (x.0, v) ∙ ap (λ k. set known id (k, v)) name
+      name : bytes_at x.0 ≡ key
+      name = ap (λ e. e.0) (read_entry items id x (key, found.value) found.entry read)
 
-    same_count : length valued ≡ length known
-    same_count = ap length valued_is ∙ length-set known id (key, v)
+      valued_is : valued ≡ set known id (key, v)
+      valued_is = map-set entry_of items id (x.0, v) ∙ ap (λ k. set known id (k, v)) name
 
-    same_keys : keys_of valued ≡ keys_of known
-    same_keys = ap keys_of valued_is ∙ map-set_same (λ e. e.0) known id (key, v) (key, found.value)
-        (sym (ap (λ e. e.0) (get_or_from_slice_get known id (key, found.value) (key, found.value)
-        found.entry)))
+      same_count : length valued ≡ length known
+      same_count = ap length valued_is ∙ length-set known id (key, v)
 
-    valued_numbers : AreNumbers (length valued) (ids_in order)
-    valued_numbers = subst (λ n. AreNumbers n (ids_in order)) (sym same_count) numbers
+      same_keys : keys_of valued ≡ keys_of known
+      same_keys = ap keys_of valued_is ∙ map-set_same (λ e. e.0) known id (key, v)
+          (key, found.value) (sym (ap (λ e. e.0) (get_or_from_slice_get known id
+          (key, found.value) (key, found.value) found.entry)))
 
-    pub mapped_valued : AreNumbers (length valued) (ids_in order)
-        × IsIndex (text_at (keys_of valued)) order
-    mapped_valued = (
-      valued_numbers,
-      subst (λ keys. IsIndex (text_at keys) order) (sym same_keys) index,
-    )
+      pub mapped_valued : AreMapped valued order
+      mapped_valued = (
+        subst (λ n. AreNumbers n (ids_in order)) (sym same_count) are.0,
+        subst (λ keys. IsIndex (text_at keys) order) (sym same_keys) are.1,
+      )
 
-    others_stay : (ids : List ℕ) → AllByRecursion (λ other. ¬ (other ≡ id)) ids
-        → map (slice_get (set known id (key, v))) ids ≡ map (slice_get known) ids
-    others_stay ids apart = alike (slice_get (set known id (key, v))) (slice_get known) ids
-        (weaker (λ other. ¬ (other ≡ id))
-        (λ other. slice_get (set known id (key, v)) other ≡ slice_get known other)
-        (λ other not. other_set known id other (key, v) not) ids apart)
+      others_stay : (ids : List ℕ) → AllByRecursion (λ other. ¬ (other ≡ id)) ids
+          → map (slice_get (set known id (key, v))) ids ≡ map (slice_get known) ids
+      others_stay ids apart = alike (slice_get (set known id (key, v))) (slice_get known) ids
+          (weaker (λ other. ¬ (other ≡ id))
+          (λ other. slice_get (set known id (key, v)) other ≡ slice_get known other)
+          (λ other not. other_set known id other (key, v) not) ids apart)
 
-    valued_seen : map (slice_get (set known id (key, v))) (ids_in order)
-        ≡ set (map (slice_get known) (ids_in order)) at (Some (key, v))
-    valued_seen =
-        let ids = ids_in order in
-        let new = slice_get (set known id (key, v)) in
-        let apart = differ (text_at (keys_of known)) ids at id number index.sorted in
-        let within = slice_get_within known id (key, found.value) found.entry in
-        let there : slice_get (map (slice_get known) ids) at ≡ Some (slice_get known id)
-        = slice_get-map (slice_get known) ids at ∙ ap (option_map (slice_get known)) number in
-        ap (map new) (around ids at id number)
-        ∙ map-append new (take at ids) (id ∷ drop (suc at) ids)
-        ∙ ap (λ e. map new (take at ids) ++ e ∷ map new (drop (suc at) ids))
-        (this_set known id (key, v) within)
-        ∙ ap (λ xs. xs ++ Some (key, v) ∷ map new (drop (suc at) ids))
-        (others_stay (take at ids) apart.0 ∙ sym (take-map (slice_get known) at ids))
-        ∙ ap (λ xs. take at (map (slice_get known) ids) ++ Some (key, v) ∷ xs)
-        (others_stay (drop (suc at) ids) apart.1 ∙ sym (drop-map (slice_get known) (suc at) ids))
-        ∙ sym (set_around (map (slice_get known) ids) at (slice_get known id) (Some (key, v)) there)
+      valued_seen : map (slice_get (set known id (key, v))) (ids_in order)
+          ≡ set (map (slice_get known) (ids_in order)) at (Some (key, v))
+      valued_seen =
+          let ids = ids_in order in
+          let new = slice_get (set known id (key, v)) in
+          let apart = differ (text_at (keys_of known)) ids at id found.number are.1.sorted in
+          let within = slice_get_within known id (key, found.value) found.entry in
+          let there : slice_get (map (slice_get known) ids) at ≡ Some (slice_get known id)
+          = slice_get-map (slice_get known) ids at
+          ∙ ap (option_map (slice_get known)) found.number in
+          ap (map new) (around ids at id found.number)
+          ∙ map-append new (take at ids) (id ∷ drop (suc at) ids)
+          ∙ ap (λ e. map new (take at ids) ++ e ∷ map new (drop (suc at) ids))
+          (this_set known id (key, v) within)
+          ∙ ap (λ xs. xs ++ Some (key, v) ∷ map new (drop (suc at) ids))
+          (others_stay (take at ids) apart.0 ∙ sym (take-map (slice_get known) at ids))
+          ∙ ap (λ xs. take at (map (slice_get known) ids) ++ Some (key, v) ∷ xs)
+          (others_stay (drop (suc at) ids) apart.1
+          ∙ sym (drop-map (slice_get known) (suc at) ids))
+          ∙ sym (set_around (map (slice_get known) ids) at (slice_get known id) (Some (key, v))
+          there)
 
-    pub entries_valued : entries_at valued (ids_in order)
-        ≡ with_value (entries_at known (ids_in order)) key v
-    entries_valued = same_entries valued (ids_in order)
-        (set (entries_at known (ids_in order)) at (key, v)) valued_numbers.within
-        (ap (λ es. map (slice_get es) (ids_in order)) valued_is ∙ valued_seen
-        ∙ ap (λ xs. set xs at (Some (key, v))) (sym (seen known (ids_in order) numbers.within))
-        ∙ sym (map-set Some (entries_at known (ids_in order)) at (key, v)))
-        ∙ sym (found.put v)
+      pub entries_valued : entries_at valued (ids_in order)
+          ≡ with_value (entries_at known (ids_in order)) key v
+      entries_valued = same_entries valued (ids_in order)
+          (set (entries_at known (ids_in order)) at (key, v)) mapped_valued.0.within
+          (ap (λ es. map (slice_get es) (ids_in order)) valued_is ∙ valued_seen
+          ∙ ap (λ xs. set xs at (Some (key, v))) (sym (seen known (ids_in order) are.0.within))
+          ∙ sym (map-set Some (entries_at known (ids_in order)) at (key, v)))
+          ∙ sym (found.put v)
 
--- a list whose new last element goes again
-pub last_swapped : {X : Type 0} (xs : List X) (x d : X)
-    → swap_remove (xs ++ x ∷ []) (length xs) d ≡ xs
-last_swapped xs x d =
-    let grown = xs ++ x ∷ [] in
-    let end : length grown - 1 ≡ length xs = rw length-append (omega arith) in
-    ap (λ n. take n (set grown (length xs) (get_or grown n d))) end
-    ∙ take-set grown (length xs) (get_or grown (length xs) d) ∙ take-append_seam xs (x ∷ [])
-
--- a map with an entry more, which has no number yet
-module _ {V : Type 0} (items : List (InlinableStringN 30 × V)) (e : InlinableStringN 30 × V)
-    (order : Index) (numbers : AreNumbers (length (map entry_of items)) (ids_in order))
-    (index : IsIndex (text_at (keys_of (map entry_of items))) order)
-  where
-    abbrev unpushed : Entries V
-    unpushed = map entry_of items
-
-    abbrev pushed : Entries V
-    pushed = map entry_of (items ++ e ∷ [])
-
-    pushed_is : pushed ≡ unpushed ++ entry_of e ∷ []
-    pushed_is = map-append entry_of items (e ∷ [])
-
-    pushed_keys : keys_of pushed ≡ keys_of unpushed ++ bytes_at e.0 ∷ []
-    pushed_keys = ap keys_of pushed_is ∙ map-append (λ f. f.0) unpushed (entry_of e ∷ [])
-
-    keys_count : length (keys_of unpushed) ≡ length items
-    keys_count = length-map unpushed (λ f. f.0) ∙ length-map items entry_of
-
-    under_keys : AllByRecursion (λ id. id < length (keys_of unpushed)) (ids_in order)
-    under_keys = subst (λ n. AllByRecursion (λ id. id < n) (ids_in order))
-        (sym (length-map unpushed (λ f. f.0))) numbers.within
-
-    pub pushed_index : IsIndex (text_at (keys_of pushed)) order
-    pushed_index = subst (λ keys. IsIndex (text_at keys) order) (sym pushed_keys)
-        (index_with (keys_of unpushed) (bytes_at e.0) order under_keys index)
-
-    -- where its key goes
-    module _ (at : ℕ)
-        (gap : IsGap (map (text_at (keys_of unpushed)) (ids_in order)) (bytes_at e.0) at)
-      where
-        pub pushed_gap : IsGap (map (text_at (keys_of pushed)) (ids_in order))
-            (text_at (keys_of pushed) (length items)) at
-        pushed_gap = subst (λ keys. IsGap (map (text_at keys) (ids_in order))
-            (text_at keys (length items)) at) (sym pushed_keys)
-            (subst (λ n. IsGap
-            (map (text_at (keys_of unpushed ++ bytes_at e.0 ∷ [])) (ids_in order))
-            (text_at (keys_of unpushed ++ bytes_at e.0 ∷ []) n) at) keys_count
-            (gap_with (keys_of unpushed) (bytes_at e.0) (ids_in order) at under_keys gap))
-
-        -- with its number there
-        module _ (after : Index) (ids : ids_in after ≡ insert (ids_in order) at (length items))
-          where
-            pub pushed_numbers : AreNumbers (length pushed) (ids_in after)
-            pushed_numbers =
-                let count : length pushed ≡ suc (length unpushed)
-                = ap length pushed_is ∙ rw length-append (omega arith) in
-                let own : length items ≡ length unpushed = sym (length-map items entry_of) in
-                subst (λ n. AreNumbers n (ids_in after)) (sym count)
-                (subst (AreNumbers (suc (length unpushed)))
-                (ap (insert (ids_in order) at) (sym own) ∙ sym ids)
-                (numbers_with (length unpushed) at (ids_in order) (rw length-map at gap.0) numbers))
-
-            pub entries_pushed : entries_at pushed (ids_in after)
-                ≡ insert (entries_at unpushed (ids_in order)) at (entry_of e)
-            entries_pushed = same_entries pushed (ids_in after)
-                (insert (entries_at unpushed (ids_in order)) at (entry_of e)) pushed_numbers.within
-                (ap (λ es. map (slice_get es) (ids_in after)) pushed_is
-                ∙ ap (map (slice_get (unpushed ++ entry_of e ∷ []))) (ids
-                ∙ ap (insert (ids_in order) at) (sym (length-map items entry_of)))
-                ∙ with_entry unpushed (ids_in order) at (entry_of e) numbers.within)
-
-    -- and where it could get none, and goes again
-    pub unpushed_index : (after : Index) → ids_in after ≡ ids_in order
-        → IsIndex (text_at (keys_of pushed)) after → IsIndex (text_at (keys_of unpushed)) after
-    unpushed_index after ids is = index_without (keys_of unpushed) (bytes_at e.0) after
-        (subst (AllByRecursion (λ id. id < length (keys_of unpushed))) (sym ids) under_keys)
-        (subst (λ keys. IsIndex (text_at keys) after) pushed_keys is)
+    -- whatever it is once it was lent
+    pub lent : (are : AreMapped known order)
+        → (λ (v : V). entries_at (map entry_of (set items id (x.0, v))) (ids_in order))
+        ≡ with_value (entries_at known (ids_in order)) key
+    lent are = fun_ext (entries_valued are)

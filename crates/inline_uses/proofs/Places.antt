@@ -8,7 +8,7 @@ use Rattle.std.specs.Map.{keys_of}
 use Rattle.std.specs.Ordering.{is_gt}
 use Rattle.inline_uses.specs.Index.{HaveFirsts, IsAt, IsPlace, ids_at, ids_in, ids_of, index_of, runs_of}
 use Rattle.inline_uses.specs.Symbols.{key_order, text_at}
-use Rattle.inline_uses.specs.TextMap.{AreNumbers, Entries, entries_at, entries_between, entries_in, entry_of}
+use Rattle.inline_uses.specs.TextMap.{AreMapped, AreNumbers, Entries, entries_at, entries_between, entries_in, entry_of}
 use Rattle.inline_uses.specs.declared.index.Index.{Index}
 use Rattle.inline_uses.specs.declared.index.Spot.{Spot}
 use Rattle.inline_uses.specs.declared.index.run.Run.{Run}
@@ -116,8 +116,7 @@ first_between xs i j x less is =
     (ap (λ x. x ∷ take (j - suc i) (drop (suc i) xs)) (get_or_from_slice_get xs i x x is))
 
 -- entries by their numbers, which an index has in the order of the keys
-module _ {V : Type 0} (es : Entries V) (index : Index)
-    (numbers : AreNumbers (length es) (ids_in index))
+module _ {V : Type 0} (es : Entries V) (index : Index) (are : AreMapped es index)
   where
     abbrev view : Entries V
     view = entries_at es (ids_in index)
@@ -126,7 +125,7 @@ module _ {V : Type 0} (es : Entries V) (index : Index)
     pub all_between : (from to : Spot) → index_of index from ≡ 0
         → index_of index to ≡ length (ids_in index) → entries_in es index from to ≡ view
     all_between from to none all =
-        rw (none, all, ← count es (ids_in index) numbers.within) (take_all _ view (omega arith))
+        rw (none, all, ← count es (ids_in index) are.0.within) (take_all _ view (omega arith))
 
     -- those before a place are below a key, and the others are not
     pub record IsFrom (key : List ℕ) (place : Spot) : Type 0 where
@@ -140,8 +139,8 @@ module _ {V : Type 0} (es : Entries V) (index : Index)
     pub between : (low high : List ℕ) (from to : Spot) → IsFrom low from → IsFrom high to
         → entries_in es index from to ≡ entries_between view low high
     between low high from to start end =
-        let keys = keys_seen es (ids_in index) numbers.within in
-        let size = count es (ids_in index) numbers.within in
+        let keys = keys_seen es (ids_in index) are.0.within in
+        let size = count es (ids_in index) are.0.within in
         let first = index_of index from in
         let last = index_of index to in
         sym (run (λ k. not (is_gt (key_order low k)) && is_gt (key_order high k)) view first

@@ -1,13 +1,13 @@
 -- What the contracts of a map from texts cite: its whole state is a list of keys, each as its
 -- bytes, with their values, in which each key occurs once, in the order of the keys.
-use Rattle.std.specs.Prelude.{◌≡◌, ◌<◌, ◌+◌, ◌-◌, ◌&&◌, ◌⊎◌, not, ℕ, List, [], ◌∷◌, Option, map, length, filter, take, drop, slice_get}
+use Rattle.std.specs.Prelude.{◌≡◌, ◌<◌, ◌+◌, ◌-◌, ◌&&◌, ◌⊎◌, not, ℕ, List, [], ◌∷◌, Option, Some, None, map, length, filter, take, drop, set, slice_get}
 use Rattle.std.specs.Ordering.{is_gt}
-use Rattle.std.specs.List.{AllByRecursion, flat_map, swap_remove}
+use Rattle.std.specs.List.{AllByRecursion, flat_map, insert, remove, swap_remove}
 use Rattle.std.specs.List.Sorted.{IsStrictlySortedBy}
 use Rattle.std.specs.Map.{keys_of, lookup, remove_entry}
 use Rattle.std.specs.BTreeMap.{is_at, insert_entry}
-use Rattle.inline_uses.specs.Index.{IsIndex, ids_in, index_of}
-use Rattle.inline_uses.specs.Symbols.{bytes_at, key_order, text_at}
+use Rattle.inline_uses.specs.Index.{IsIndex, IsSpot, ids_in, index_of}
+use Rattle.inline_uses.specs.Symbols.{IsGap, bytes_at, key_order, text_at}
 use Rattle.inlinable_string.specs.declared.inlinable_string.InlinableStringN.{InlinableStringN}
 use Rattle.inline_uses.specs.declared.index.Index.{Index}
 use Rattle.inline_uses.specs.declared.index.Spot.{Spot}
@@ -70,6 +70,30 @@ module _ {V : Type 0} where
   abbrev pub entries_at : Entries V → List ℕ → Entries V
   entries_at entries ids = flat_map (λ id. take 1 (drop id entries)) ids
 
+  -- the entries in the order of an index
+  abbrev pub entries_by : Entries V → Index → Entries V
+  entries_by entries order = entries_at entries (ids_in order)
+
+  -- the entry of a key has a number, which is at an index among the numbers in order
+  pub record IsFound (entries : Entries V) (order : Index) (key : List ℕ) (at id : ℕ)
+      : Type 0 where
+    pub value : V
+    pub entry : slice_get entries id ≡ Some (key, value)
+    pub number : slice_get (ids_in order) at ≡ Some id
+    pub known : value_of (entries_by entries order) key ≡ Some value
+    pub left : without (entries_by entries order) key ≡ remove (entries_by entries order) at
+    pub put : (v : V)
+        → with_value (entries_by entries order) key v ≡ set (entries_by entries order) at (key, v)
+
+  -- no entry has a key, whose number goes at a spot
+  pub record IsMissing (entries : Entries V) (order : Index) (key : List ℕ) (spot : Spot)
+      : Type 0 where
+    pub within : IsSpot order spot
+    pub gap : IsGap (map (text_at (keys_of entries)) (ids_in order)) key (index_of order spot)
+    pub none : value_of (entries_by entries order) key ≡ None
+    pub put : (v : V) → with_value (entries_by entries order) key v
+        ≡ insert (entries_by entries order) (index_of order spot) (key, v)
+
   -- an index in which the last entry has the number of one that is in it no longer
   pub record IsRenumbered (entries : Entries V) (id : ℕ) (before after : Index) : Type 0 where
     pub numbers : AreNumbers (length entries - 1) (ids_in after)
@@ -84,7 +108,7 @@ module _ {V : Type 0} where
 
   -- and in the order of the keys
   abbrev pub entries_of : Inside V → Entries V
-  entries_of a = entries_at (by_number a) (ids_in a.order)
+  entries_of a = entries_by (by_number a) a.order
 
   -- each entry has its number in an index, which has them in the order of the keys
   abbrev pub AreMapped : Entries V → Index → Type 0

@@ -1,12 +1,12 @@
 //! A map from texts, for many keys.
-ghost use Rattle.std.specs.Prelude.{◌≡◌, ◌<◌, ◌^◌, [], length, map, option_copied, IfOk, IfErr, OnOk, OnErr, IsOk, IsSome, IsTrue, ◌↔◌};
+ghost use Rattle.std.specs.Prelude.{◌≡◌, ◌<◌, ◌^◌, ℕ, [], ◌∷◌, ◌++◌, length, map, option_copied, IfOk, IfErr, OnOk, OnErr, IsOk, IsSome, IsTrue, ◌↔◌};
 ghost use Rattle.std.specs.Map.{keys_of};
 ghost use Rattle.std.specs.Option.{option_copied_mut};
 ghost use Rattle.inline_uses.specs.Index.{IsIndex, ids_in};
 ghost use Rattle.inline_uses.specs.Symbols.{text_at};
-ghost use Rattle.inline_uses.specs.TextMap.{AreInOrder, AreOthers, IsRenumbered, entries_between, entry_of, value_of, with_value, without};
+ghost use Rattle.inline_uses.specs.TextMap.{AreInOrder, AreMapped, AreOthers, IsFound, IsMissing, IsRenumbered, entries_between, entries_by, entry_of, value_of, with_value, without};
 
-use crate::index::{Index, Texts};
+use crate::index::{Index, Spot, Texts};
 use inlinable_string::laws::bytes_of_parts;
 use inlinable_string::{InlinableString, StringExt};
 pub use iter::Iter;
@@ -105,7 +105,7 @@ impl<V> TextMap<V> {
     pub fn get(&self, key: &str) -> Option<&V>
         ensures { option_copied result ≡ value_of self.now key.now }
     {
-        match self.order.find(&self.entries, key) {
+        match search(&self.entries, &self.order, key) {
             Ok(id) => Some(&self.entries[id].1),
             Err(_) => None,
         }
@@ -117,7 +117,7 @@ impl<V> TextMap<V> {
         ensures* writes_back { sem 𝓛 (LendsValue V.row self.entry key.now result) }
         ensures value { option_copied_mut result ≡ value_of self.old key.now }
     {
-        match self.order.find(&self.entries, key) {
+        match search(&self.entries, &self.order, key) {
             Ok(id) => Some(&mut self.entries[id].1),
             Err(_) => None,
         }
@@ -134,25 +134,16 @@ impl<V: Drop> TextMap<V> {
         ensures known { IsSome (value_of self.old key.now) → IsOk result }
         ensures value_returned { IfErr result (λ failed. failed.value ≡ value) }
     {
-        bytes_of_parts();
-        match self.order.find(&self.entries, key) {
+        match search(&self.entries, &self.order, key) {
             Ok(id) => Ok(Some(replace(&mut self.entries[id].1, value))),
             Err(spot) => {
-                let Ok(key) = InlinableString::from(self.alloc, key) else {
-                    return Err(AllocFailed { value });
-                };
-                let id = self.entries.len();
-                if let Err(failed) = self.entries.push((key, value)) {
-                    let (_, value) = failed.value;
-                    return Err(AllocFailed { value });
-                }
-                match self.order.insert(&self.entries, spot, id) {
-                    Ok(()) => Ok(None),
-                    Err(_) => {
-                        let (_, value) = self.entries.swap_remove(id);
-                        Err(AllocFailed { value })
-                    }
-                }
+                let Self {
+                    alloc,
+                    entries,
+                    order,
+                } = self;
+                insert(*alloc, entries, order, key, value, spot)?;
+                Ok(None)
             }
         }
     }
@@ -170,6 +161,59 @@ impl<V: Drop> TextMap<V> {
         rename_last(&mut self.order, &self.entries, id);
         let (_, value) = self.entries.swap_remove(id);
         Some(value)
+    }
+}
+
+/// Returns the number of the entry of a key, or else where its number goes. Does not allocate.
+#[inline]
+fn search<V>(entries: &Vec<(InlinableString, V)>, order: &Index, key: &str) -> Result<usize, Spot>
+    requires mapped { AreMapped (map entry_of entries.now.items) order.now }
+    ensures within { IfOk result (λ id. id < length entries.now.items) }
+    ensures found { IfOk result (λ id. (at : ℕ)
+        × IsFound (map entry_of entries.now.items) order.now key.now at id) }
+    ensures missing { IfErr result
+        (IsMissing (map entry_of entries.now.items) order.now key.now) }
+{
+    order.find(entries, key)
+}
+
+/// Inserts a key that has no entry, whose entry is then the last one. Fails only if an allocation
+/// does; the entries are then unchanged, and the value comes back.
+#[inline]
+fn insert<V>(
+    alloc: Global,
+    entries: &mut Vec<(InlinableString, V)>,
+    order: &mut Index,
+    key: &str,
+    value: V,
+    spot: Spot,
+) -> Result<(), AllocFailed<V>>
+    requires mapped { AreMapped (map entry_of entries.old.items) order.old }
+    requires missing { IsMissing (map entry_of entries.old.items) order.old key.now spot }
+    ensures mapped { AreMapped (map entry_of entries.new.items) order.new }
+    ensures entry { OnOk result (map entry_of entries.new.items
+        ≡ map entry_of entries.old.items ++ (key.now, value) ∷ []) }
+    ensures ok { OnOk result (entries_by (map entry_of entries.new.items) order.new
+        ≡ with_value (entries_by (map entry_of entries.old.items) order.old) key.now value) }
+    ensures err { OnErr result (entries_by (map entry_of entries.new.items) order.new
+        ≡ entries_by (map entry_of entries.old.items) order.old) }
+    ensures value_returned { IfErr result (λ failed. failed.value ≡ value) }
+{
+    bytes_of_parts();
+    let Ok(key) = InlinableString::from(alloc, key) else {
+        return Err(AllocFailed { value });
+    };
+    let id = entries.len();
+    if let Err(failed) = entries.push((key, value)) {
+        let (_, value) = failed.value;
+        return Err(AllocFailed { value });
+    }
+    match order.insert(entries, spot, id) {
+        Ok(()) => Ok(()),
+        Err(_) => {
+            let (_, value) = entries.swap_remove(id);
+            Err(AllocFailed { value })
+        }
     }
 }
 

@@ -1,9 +1,9 @@
 use Rattle.std.proofs.Common.{arith, rules, sym, ap, ◌∙◌, Some}
 use Rattle.std.proofs.lemmas.List.{length-map}
 use Rattle.std.proofs.lemmas.Option.{slice_get_within}
-use Rattle.inline_uses.specs.Index.{ids_in, index_of}
-use Rattle.inline_uses.specs.TextMap.{by_number, entries_at, entry_of}
-use Rattle.inline_uses.proofs.Mapped.{IsFound, entries_left, found_entry, mapped_left, missing, others_left, read_entry}
+use Rattle.inline_uses.specs.Index.{index_of}
+use Rattle.inline_uses.specs.TextMap.{IsFound, by_number, entry_of}
+use Rattle.inline_uses.proofs.Mapped.{entries_left, found_entry, mapped_left, missing, others_left, read_entry}
 use Rattle.inline_uses.proofs.text_map.TextMap.delete.Given.{Over}
 use Rattle.inline_uses.proofs.text_map.TextMap.delete.Goals.{After-id-id}
 use Rattle.inline_uses.proofs.text_map.TextMap.delete.Goals as goal
@@ -13,22 +13,21 @@ locate-requires g c = c.self.invariant.1
 
 pub returns-in_default-clause-left : goal.returns-in_default-clause-left
 returns-in_default-clause-left g c = rw (← c.self.view_is) (sym (missing (by_number c.self.inside)
-    c.self.inside.order c.self.invariant.0 c.self.invariant.1 c.args.key.now _
+    c.self.inside.order c.self.invariant c.args.key.now _
     c.in_default.ensures.gap).1)
 
 pub returns-in_default-clause-value : goal.returns-in_default-clause-value
 returns-in_default-clause-value g c = rw (← c.self.view_is) (sym (missing (by_number c.self.inside)
-    c.self.inside.order c.self.invariant.0 c.self.invariant.1 c.args.key.now _
+    c.self.inside.order c.self.invariant c.args.key.now _
     c.in_default.ensures.gap).0)
 
 pub remove-requires-clause-index : goal.remove-requires-clause-index
 remove-requires-clause-index g c = c.self.invariant.1
 
 found : (g : Over) → (c : After-id-id g) → IsFound (by_number c.self.inside)
-    (entries_at (by_number c.self.inside) (ids_in c.self.inside.order)) c.args.key.now
-    (index_of c.self.inside.order c.in-Ok.spot) c.id-id.result
-found g c = found_entry (by_number c.self.inside) c.self.inside.order c.self.invariant.0
-    c.self.invariant.1 c.args.key.now (index_of c.self.inside.order c.in-Ok.spot) c.id-id.result
+    c.self.inside.order c.args.key.now (index_of c.self.inside.order c.in-Ok.spot) c.id-id.result
+found g c = found_entry (by_number c.self.inside) c.self.inside.order c.self.invariant
+    c.args.key.now (index_of c.self.inside.order c.in-Ok.spot) c.id-id.result
     c.in-Ok.ensures.found c.id-id.ensures
 
 pub rename_last-requires-clause-within : goal.rename_last-requires-clause-within

@@ -10,18 +10,17 @@ returns-clause-between g c =
     let start = c.place_from-start.ensures in
     let end = c.place_from-end.ensures in
     rw (c.new.ensures, ← c.self.view_is) (between (by_number c.self.inside) c.self.inside.order
-    c.self.invariant.0 c.args.from.now c.args.to.now _ _
+    c.self.invariant c.args.from.now c.args.to.now _ _
     (record { below = start.below; above = start.above })
     (record { below = end.below; above = end.above }))
 
 pub returns-clause-order : goal.returns-clause-order
 returns-clause-order g c = rw (← c.self.view_is)
-    (in_order (by_number c.self.inside) c.self.inside.order c.self.invariant.0 c.self.invariant.1)
+    (in_order (by_number c.self.inside) c.self.inside.order c.self.invariant)
 
 pub returns-clause-fits : goal.returns-clause-fits
 returns-clause-fits g c =
-    let seen = len_seen (by_number c.self.inside) c.self.inside.order c.self.invariant.0
-    c.self.invariant.1 in
+    let seen = len_seen (by_number c.self.inside) c.self.inside.order c.self.invariant in
     let count = length-map c.self.inside.entries.items (entry_of {V = g.row.V.Denot}) in
     rw (c.new.ensures, length-take, length-drop)
     (omega (arith, seen, count, c.self.inside.entries.ok, c.self.inside.entries.small))

@@ -1,0 +1,120 @@
+-- A map with a new key, whose entry is the last one, and whose number goes where the key does.
+use Rattle.std.proofs.Common.{arith, ◌≡◌, ℕ, suc, ◌-◌, ◌<◌, List, [], ◌∷◌, ◌++◌, length, map, take, set, get_or, sym, ap, subst, ◌∙◌}
+use Rattle.std.proofs.lemmas.List.{length-append, length-map, map-append, take-set}
+use Rattle.std.specs.Prelude.{slice_get}
+use Rattle.std.proofs.Math.Seq.{take-append_seam}
+use Rattle.std.specs.List.{AllByRecursion, insert, swap_remove}
+use Rattle.std.specs.Map.{keys_of}
+use Rattle.inline_uses.specs.Symbols.{IsGap, bytes_at, text_at}
+use Rattle.inline_uses.specs.TextMap.{AreMapped, AreNumbers, Entries, IsMissing, entries_at, entry_of, with_value}
+use Rattle.inline_uses.specs.Index.{IsIndex, ids_in, index_of}
+use Rattle.inline_uses.specs.declared.index.Index.{Index}
+use Rattle.inline_uses.specs.declared.index.Spot.{Spot}
+use Rattle.inlinable_string.specs.declared.inlinable_string.InlinableStringN.{InlinableStringN}
+use Rattle.inline_uses.proofs.Ids.{gap_with, index_with, index_without}
+use Rattle.inline_uses.proofs.Numbered.{numbers_with, same_entries, with_entry}
+
+-- a list whose new last element goes again
+pub last_swapped : {X : Type 0} (xs : List X) (x d : X)
+    → swap_remove (xs ++ x ∷ []) (length xs) d ≡ xs
+last_swapped xs x d =
+    let grown = xs ++ x ∷ [] in
+    let end : length grown - 1 ≡ length xs = rw length-append (omega arith) in
+    ap (λ n. take n (set grown (length xs) (get_or grown n d))) end
+    ∙ take-set grown (length xs) (get_or grown (length xs) d) ∙ take-append_seam xs (x ∷ [])
+
+-- the entries of a map have another one after them, whose key is missing
+pub record IsPushed {V : Type 0} (items grown : List (InlinableStringN 30 × V)) (order : Index)
+    (key : List ℕ) (value : V) (spot : Spot) (id : ℕ) : Type 0 where
+  pub text : InlinableStringN 30
+  pub bytes : bytes_at text ≡ key
+  pub grown_is : grown ≡ items ++ (text, value) ∷ []
+  pub id_is : id ≡ length items
+  pub mapped : AreMapped (map entry_of items) order
+  pub missing : IsMissing (map entry_of items) order key spot
+
+module _ {V : Type 0} {items grown : List (InlinableStringN 30 × V)} {order : Index}
+    {key : List ℕ} {value : V} {spot : Spot} {id : ℕ}
+    (is : IsPushed items grown order key value spot id)
+  where
+    abbrev unpushed : Entries V
+    unpushed = map entry_of items
+
+    abbrev pushed : Entries V
+    pushed = map entry_of grown
+
+    pub pushed_is : pushed ≡ unpushed ++ (key, value) ∷ []
+    pushed_is = ap (map entry_of) is.grown_is ∙ map-append entry_of items ((is.text, value) ∷ [])
+        ∙ ap (λ k. unpushed ++ (k, value) ∷ []) is.bytes
+
+    pushed_keys : keys_of pushed ≡ keys_of unpushed ++ key ∷ []
+    pushed_keys = ap keys_of pushed_is ∙ map-append (λ f. f.0) unpushed ((key, value) ∷ [])
+
+    keys_count : length (keys_of unpushed) ≡ id
+    keys_count = length-map unpushed (λ f. f.0) ∙ length-map items entry_of ∙ sym is.id_is
+
+    under_keys : AllByRecursion (λ id. id < length (keys_of unpushed)) (ids_in order)
+    under_keys = subst (λ n. AllByRecursion (λ id. id < n) (ids_in order))
+        (sym (length-map unpushed (λ f. f.0))) is.mapped.0.within
+
+    pub pushed_index : IsIndex (text_at (keys_of pushed)) order
+    pushed_index = subst (λ keys. IsIndex (text_at keys) order) (sym pushed_keys)
+        (index_with (keys_of unpushed) key order under_keys is.mapped.1)
+
+    -- where its key goes
+    pub pushed_gap : IsGap (map (text_at (keys_of pushed)) (ids_in order))
+        (text_at (keys_of pushed) id) (index_of order spot)
+    pushed_gap = subst (λ keys. IsGap (map (text_at keys) (ids_in order)) (text_at keys id)
+        (index_of order spot)) (sym pushed_keys)
+        (subst (λ n. IsGap (map (text_at (keys_of unpushed ++ key ∷ [])) (ids_in order))
+        (text_at (keys_of unpushed ++ key ∷ []) n) (index_of order spot)) keys_count
+        (gap_with (keys_of unpushed) key (ids_in order) (index_of order spot) under_keys
+        is.missing.gap))
+
+    -- with its number there
+    module _ (after : Index) (ids : ids_in after ≡ insert (ids_in order) (index_of order spot) id)
+        (index : IsIndex (text_at (keys_of pushed)) after)
+      where
+        new_ids : ids_in after ≡ insert (ids_in order) (index_of order spot) (length unpushed)
+        new_ids = ids ∙ ap (insert (ids_in order) (index_of order spot))
+            (is.id_is ∙ sym (length-map items entry_of))
+
+        pub mapped_pushed : AreMapped pushed after
+        mapped_pushed =
+            let count : length pushed ≡ suc (length unpushed)
+            = ap length pushed_is ∙ rw length-append (omega arith) in (
+              subst (λ n. AreNumbers n (ids_in after)) (sym count)
+                  (subst (AreNumbers (suc (length unpushed))) (sym new_ids)
+                  (numbers_with (length unpushed) (index_of order spot) (ids_in order)
+                  (rw length-map at is.missing.gap.0) is.mapped.0)),
+              index,
+            )
+
+        pub entries_pushed : entries_at pushed (ids_in after)
+            ≡ with_value (entries_at unpushed (ids_in order)) key value
+        entries_pushed = same_entries pushed (ids_in after)
+            (insert (entries_at unpushed (ids_in order)) (index_of order spot) (key, value))
+            mapped_pushed.0.within
+            (ap (λ es. map (slice_get es) (ids_in after)) pushed_is
+            ∙ ap (map (slice_get (unpushed ++ (key, value) ∷ []))) new_ids
+            ∙ with_entry unpushed (ids_in order) (index_of order spot) (key, value)
+            is.mapped.0.within)
+            ∙ sym (is.missing.put value)
+
+    -- and where it could get none, and goes again
+    module _ (after : Index) (ids : ids_in after ≡ ids_in order)
+        (index : IsIndex (text_at (keys_of pushed)) after)
+        (left : List (InlinableStringN 30 × V)) (gone : InlinableStringN 30 × V)
+        (left_is : left ≡ swap_remove grown id gone)
+      where
+        items_back : left ≡ items
+        items_back = rw (left_is, is.grown_is, is.id_is)
+            (last_swapped items (is.text, value) gone)
+
+        pub mapped_back : AreMapped (map entry_of left) after
+        mapped_back = rw items_back (
+          rw ids is.mapped.0,
+          index_without (keys_of unpushed) key after
+              (subst (AllByRecursion (λ id. id < length (keys_of unpushed))) (sym ids) under_keys)
+              (subst (λ keys. IsIndex (text_at keys) after) pushed_keys index),
+        )
