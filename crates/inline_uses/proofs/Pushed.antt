@@ -1,18 +1,24 @@
 -- A map with a new key, whose entry is the last one, and whose number goes where the key does.
-use Rattle.std.proofs.Common.{arith, ◌≡◌, ℕ, suc, ◌-◌, ◌<◌, List, [], ◌∷◌, ◌++◌, length, map, take, set, get_or, sym, ap, subst, ◌∙◌}
+use Rattle.std.proofs.Common.{arith, ◌≡◌, ℕ, suc, ◌-◌, ◌<◌, List, [], ◌∷◌, ◌++◌, length, map, take, set, get_or, option_map, Some, Ordering, Less, Equal, Greater, refl, sym, ap, subst, ◌∙◌}
 use Rattle.std.proofs.lemmas.List.{length-append, length-map, map-append, take-set}
 use Rattle.std.specs.Prelude.{slice_get}
+use Rattle.std.proofs.Math.Path.{fun_ext}
 use Rattle.std.proofs.Math.Seq.{take-append_seam}
+use Rattle.std.proofs.lemmas.Cmp.{nat_list_cmp_total, tied_itself}
+use Rattle.std.proofs.lemmas.Option.{get_or_from_slice_get, slice_get-map, slice_get_within}
+use Rattle.std.specs.Ordering.{match_ordering}
 use Rattle.std.specs.List.{AllByRecursion, insert, swap_remove}
 use Rattle.std.specs.Map.{keys_of}
-use Rattle.inline_uses.specs.Symbols.{IsGap, bytes_at, text_at}
-use Rattle.inline_uses.specs.TextMap.{AreMapped, AreNumbers, Entries, IsMissing, entries_at, entry_of, with_value}
+use Rattle.inline_uses.specs.Symbols.{IsGap, bytes_at, key_order, text_at}
+use Rattle.inline_uses.specs.TextMap.{AreMapped, AreNumbers, Entries, IsFound, IsMissing, entries_at, entries_by, entry_of, with_value}
 use Rattle.inline_uses.specs.Index.{IsIndex, ids_in, index_of}
 use Rattle.inline_uses.specs.declared.index.Index.{Index}
 use Rattle.inline_uses.specs.declared.index.Spot.{Spot}
 use Rattle.inlinable_string.specs.declared.inlinable_string.InlinableStringN.{InlinableStringN}
 use Rattle.inline_uses.proofs.Ids.{gap_with, index_with, index_without}
-use Rattle.inline_uses.proofs.Numbered.{numbers_with, same_entries, with_entry}
+use Rattle.inline_uses.proofs.Mapped.{found_entry, lent, mapped_valued, read_entry}
+use Rattle.inline_uses.proofs.Tables.{at_push}
+use Rattle.inline_uses.proofs.Numbered.{numbers_with, place_of, same_entries, with_entry}
 
 -- a list whose new last element goes again
 pub last_swapped : {X : Type 0} (xs : List X) (x d : X)
@@ -118,3 +124,67 @@ module _ {V : Type 0} {items grown : List (InlinableStringN 30 × V)} {order : I
               (subst (AllByRecursion (λ id. id < length (keys_of unpushed))) (sym ids) under_keys)
               (subst (λ keys. IsIndex (text_at keys) after) pushed_keys index),
         )
+
+-- a value that was put under a key is replaced
+put_again : {V : Type 0} (es : Entries V) (key : List ℕ) (v w : V)
+    → with_value (with_value es key v) key w ≡ with_value es key w
+put_again [] key v w = rw (tied_itself nat_list_cmp_total key) refl
+put_again {V} (e ∷ es) key v w = by (key_order key e.0) refl (put_again es key v w)
+  where
+    by : (o : Ordering) → key_order key e.0 ≡ o
+        → with_value (with_value es key v) key w ≡ with_value es key w
+        → with_value {V = V} (match_ordering o ((key, v) ∷ e ∷ es) ((e.0, v) ∷ es)
+        (e ∷ with_value es key v)) key w
+        ≡ match_ordering o ((key, w) ∷ e ∷ es) ((e.0, w) ∷ es) (e ∷ with_value es key w)
+    by Less is rest = rw (tied_itself nat_list_cmp_total key) refl
+    by Equal is rest = rw is refl
+    by Greater is rest = rw is (ap (λ es. e ∷ es) rest)
+
+-- a map has got a new key, whose entry is the last one
+pub record IsPut {V : Type 0} (items grown : List (InlinableStringN 30 × V)) (order after : Index)
+    (key : List ℕ) (value : V) (id : ℕ) : Type 0 where
+  pub mapped : AreMapped (map entry_of grown) after
+  pub grown_is : map entry_of grown ≡ map entry_of items ++ (key, value) ∷ []
+  pub put : entries_by (map entry_of grown) after
+      ≡ with_value (entries_by (map entry_of items) order) key value
+  pub id_is : id ≡ length items
+
+-- its value is read
+module _ {V : Type 0} {items grown : List (InlinableStringN 30 × V)} {order after : Index}
+    {key : List ℕ} {value : V} {id : ℕ} (is : IsPut items grown order after key value id)
+    {x : InlinableStringN 30 × V} (read : x ≡ get_or grown id x)
+  where
+    abbrev old : Entries V
+    old = map entry_of items
+
+    id_old : id ≡ length old
+    id_old = is.id_is ∙ sym (length-map items entry_of)
+
+    last_entry : slice_get (map entry_of grown) id ≡ Some (key, value)
+    last_entry = rw (is.grown_is, id_old) (at_push old (key, value))
+
+    pub last_value : x.1 ≡ value
+    last_value = ap (λ e. e.1) (read_entry grown id x (key, value) last_entry read)
+
+    last_found : (at : ℕ) × IsFound (map entry_of grown) after key at id
+    last_found =
+        let texts = text_at (keys_of (map entry_of grown)) in
+        let place = place_of (ids_in after) id (is.mapped.0.all id
+        (slice_get_within (map entry_of grown) id (key, value) last_entry)) in
+        let name : texts id ≡ key = get_or_from_slice_get (keys_of (map entry_of grown)) id key []
+        (slice_get-map (λ e. e.0) (map entry_of grown) id ∙ ap (option_map (λ e. e.0)) last_entry)
+        in (
+          place.0,
+          found_entry (map entry_of grown) after is.mapped key place.0 id
+              (slice_get-map texts (ids_in after) place.0 ∙ ap (option_map texts) place.1
+              ∙ ap Some name) place.1,
+        )
+
+    -- and then another
+    pub last_mapped : (v : V) → AreMapped (map entry_of (set grown id (x.0, v))) after
+    last_mapped = mapped_valued grown last_found.1 read is.mapped
+
+    pub last_lent : (λ (v : V). entries_by (map entry_of (set grown id (x.0, v))) after)
+        ≡ with_value (entries_by old order) key
+    last_lent = lent grown last_found.1 read is.mapped ∙ ap (λ es. with_value es key) is.put
+        ∙ fun_ext (put_again (entries_by old order) key value)

@@ -125,6 +125,10 @@ impl<V> TextMap<V> {
 }
 
 impl<V: Drop> TextMap<V> {
+    ghost use Rattle.std.specs.Borrow.{sem};
+    ghost use Rattle.std.specs.Option.{unwrap_or};
+    ghost use Rattle.inline_uses.specs.Lending.{LendsValueIfOk};
+
     /// Puts a value under a key, and returns the one that it had. Fails only if an allocation does,
     /// and never if the key has a value; the map is then unchanged, and the new value comes back.
     pub fn put(&mut self, key: &str, value: V) -> Result<Option<V>, AllocFailed<V>>
@@ -144,6 +148,32 @@ impl<V: Drop> TextMap<V> {
                 } = self;
                 insert(*alloc, entries, order, key, value, spot)?;
                 Ok(None)
+            }
+        }
+    }
+
+    /// Returns the value under a key to be changed. A key that has none gets this one first. Fails
+    /// only if an allocation does, and never if the key has a value; the map is then unchanged, and
+    /// the new value comes back.
+    pub fn get_or_put(&mut self, key: &str, value: V) -> Result<&mut V, AllocFailed<V>>
+        ensures* writes_back { sem 𝓛 (LendsValueIfOk V.row self.entry key.now result) }
+        ensures value { IfOk result (λ r. r.now ≡ unwrap_or (value_of self.old key.now) value) }
+        ensures known { IsSome (value_of self.old key.now) → IsOk result }
+        ensures value_returned { IfErr result (λ failed. failed.value ≡ value) }
+    {
+        match search(&self.entries, &self.order, key) {
+            Ok(id) => Ok(&mut self.entries[id].1),
+            Err(spot) => {
+                let id = self.entries.len();
+                insert(
+                    self.alloc,
+                    &mut self.entries,
+                    &mut self.order,
+                    key,
+                    value,
+                    spot,
+                )?;
+                Ok(&mut self.entries[id].1)
             }
         }
     }
