@@ -58,11 +58,8 @@ impl Index {
             (self.new ≡ with_use self.old word.now (used (use_of self.old word.now) line)) }
         ensures err { OnErr result (self.new ≡ self.old) }
     {
-        if let Some(uses) = self.words.get_mut(word) {
-            *uses = used_again(Some(*uses), line);
-            return Ok(());
-        }
-        self.words.put(word, used_again(None, line))?;
+        let uses = self.words.get_or_put(word, Uses { count: 0, line })?;
+        uses.count = uses.count.saturating_add(1);
         Ok(())
     }
 
@@ -79,18 +76,5 @@ impl Index {
         }
         ranked.sort_by_key(|entry: &(&InlinableString, Uses)| usize::MAX - entry.1.count)?;
         Ok(ranked)
-    }
-}
-
-/// The uses of a word with one more, on this line.
-fn used_again(uses: Option<Uses>, line: usize) -> Uses
-    ensures { result ≡ used uses line }
-{
-    match uses {
-        Some(uses) => Uses {
-            count: uses.count.saturating_add(1),
-            line: uses.line,
-        },
-        None => Uses { count: 1, line },
     }
 }
