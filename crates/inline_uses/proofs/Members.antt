@@ -1,7 +1,7 @@
 -- The entries of a store, and the members of a JSON object.
-use Rattle.std.proofs.Common.{◌≡◌, ℕ, List, [], ◌∷◌, ◌++◌, Some, Ordering, Less, Equal, Greater, refl, sym, ap, ◌∙◌, append-nil}
+use Rattle.std.proofs.Common.{◌≡◌, ℕ, List, [], ◌∷◌, ◌++◌, map, Some, Ordering, Less, Equal, Greater, refl, sym, ap, subst, ◌∙◌, append-nil}
 use Rattle.std.proofs.lemmas.Cmp.{nat_list_cmp_total}
-use Rattle.std.proofs.lemmas.List.{append_assoc}
+use Rattle.std.proofs.lemmas.List.{append_assoc, map-append}
 use Rattle.std.specs.List.{AllByRecursion}
 use Rattle.std.specs.List.Sorted.{IsStrictlySortedBy}
 use Rattle.std.specs.Map.{keys_of}
@@ -35,7 +35,7 @@ below key [] e more h = h.0
 below key (d ∷ done) e more h = below key done e more h.1
 
 -- a key that is above those before it goes last
-pub goes_last : (done : Entries) (e : List ℕ × List ℕ) (more : Entries)
+goes_last : (done : Entries) (e : List ℕ × List ℕ) (more : Entries)
     → AreInOrder (done ++ e ∷ more) → with_value done e.0 e.1 ≡ done ++ e ∷ []
 unfolding IsStrictlySortedBy
 goes_last [] e more h = refl
@@ -52,7 +52,7 @@ in_turn done (e ∷ more) h =
     (in_turn (done ++ e ∷ []) more (rw append_assoc h) ∙ append_assoc done (e ∷ []) more)
 
 -- a key that is below those after it goes first
-pub goes_first : (before : Entries) (e : List ℕ × List ℕ) (after : Entries)
+goes_first : (before : Entries) (e : List ℕ × List ℕ) (after : Entries)
     → AreInOrder (before ++ e ∷ after) → with_value after e.0 e.1 ≡ e ∷ after
 unfolding IsStrictlySortedBy
 goes_first [] e [] h = refl
@@ -64,11 +64,26 @@ pub all_in_turn : (entries : Entries) → AreInOrder entries → with_all [] ent
 all_in_turn entries h = in_turn [] entries h
 
 -- a value that is put in is a member that is put in
-pub put_in : (entries : Entries) (key value : List ℕ)
+put_in : (entries : Entries) (key value : List ℕ)
     → put key (string value) (members_of entries) ≡ members_of (with_value entries key value)
 put_in [] key value = refl
 put_in (e ∷ entries) key value = sym (by_order members_of (key_order key e.0) _ _ _ _
     (ap (λ rest. member e.0 (string e.1) rest) (sym (put_in entries key value))))
+
+-- the last of the entries that are left is put in before those after it
+module _ {X : Type 0} (view : X → List ℕ × List ℕ) (rest left : List X) (e : X)
+    (done all : Entries) (last : rest ≡ left ++ e ∷ []) (parts : map view rest ++ done ≡ all)
+  where
+    pub left_parts : map view left ++ view e ∷ done ≡ all
+    left_parts =
+        let same : map view left ++ view e ∷ done ≡ map view rest ++ done
+        = rw (last, map-append, append_assoc) refl in
+        same ∙ parts
+
+    pub put_first : AreInOrder all → put (view e).0 (string (view e).1) (members_of done)
+        ≡ members_of (view e ∷ done)
+    put_first order = put_in done (view e).0 (view e).1 ∙ ap members_of
+        (goes_first (map view left) (view e) done (subst AreInOrder (sym left_parts) order))
 
 -- members are read as entries that are put in one after another
 pub read_back : (entries more : Entries)

@@ -1,8 +1,8 @@
 -- Places among the ids of an index, and the entries between two of them.
-use Rattle.std.proofs.Common.{arith, ◌≡◌, ℕ, zero, suc, ◌+◌, ◌-◌, ◌<◌, ◌≤◌, ◌⊎◌, inl, inr, List, [], ◌∷◌, map, length, take, drop, get_or, Some, true, false, not, ◌&&◌, refl, sym, ap, ◌∙◌}
+use Rattle.std.proofs.Common.{arith, ◌≡◌, ℕ, zero, suc, ◌+◌, ◌-◌, ◌<◌, ◌≤◌, ◌⊎◌, inl, inr, List, [], ◌∷◌, ◌++◌, map, length, take, drop, get_or, Some, true, false, not, ◌&&◌, refl, sym, ap, ◌∙◌}
 use Rattle.std.specs.Prelude.{slice_get}
-use Rattle.std.proofs.Math.Seq.{drop-cons, take-nil}
-use Rattle.std.proofs.lemmas.List.{length-append, take_all}
+use Rattle.std.proofs.Math.Seq.{drop-cons, take-nil, take-suc}
+use Rattle.std.proofs.lemmas.List.{get_or-drop, length-append, length-drop, take_all}
 use Rattle.std.proofs.lemmas.Option.{get_or_from_slice_get, slice_get-get_or, slice_get_within}
 use Rattle.std.specs.Map.{keys_of}
 use Rattle.std.specs.Ordering.{is_gt}
@@ -89,6 +89,43 @@ module _ (index : Index) where
             same = omega (arith, past, place.within, own, next_start runs from.run);
           })
 
+  -- only the first run may have no ids
+  none_earlier : (k : ℕ) → HaveFirsts (ids_of index.starts) index.later.items
+      → k ≤ length index.later.items → length (ids_at runs k) ≡ 0
+      → length (flat (take k runs)) ≡ 0
+  none_earlier zero have within none = refl
+  none_earlier (suc k) have within none =
+      let some = has_first (ids_of index.starts) index.later.items k have within in
+      absurd (omega (arith, some, none))
+
+  -- the last id before a place
+  pub record IsLast (place spot : Spot) : Type 0 where
+    pub at : IsAt index spot
+    pub same : index_of index spot + 1 ≡ index_of index place
+
+  -- a place where a run starts is after the last id of the run before it
+  module _ (place : Spot) (k : ℕ) (run : Run) (is : IsPlace index place) (start : place.at ≤ 0)
+      (earlier : (1 ≤ place.run) × (k ≡ place.run - 1)) (there : slice_get runs k ≡ Some run)
+    where
+      full : length (ids_at runs k) ≡ length (ids_of run)
+      full = ap length (ids_at_is runs k run there)
+
+      next : place.run ≡ suc k
+      next = omega (arith, earlier)
+
+      pub last_at : (at : ℕ) → length (ids_of run) ≡ at + 1
+          → IsLast place (record { run = k; at = at })
+      last_at at some = record {
+        at = record { run = omega (arith, is.run, next); within = omega (arith, full, some) };
+        same = rw next (omega (arith, next_start runs k, full, some, start));
+      }
+
+      pub none_before : HaveFirsts (ids_of index.starts) index.later.items
+          → length (ids_of run) ≡ 0 → index_of index place ≡ 0
+      none_before have none =
+          let first = none_earlier k have (omega (arith, is.run, next)) (full ∙ none) in
+          rw next (omega (arith, next_start runs k, full, none, first, start))
+
   -- places are in the order of their runs, and in one run of their indices there
   pub is_before : (a b : Spot) → IsAt index a
       → (a.run < b.run) ⊎ (b.run ≤ a.run × (a.run ≡ b.run) × (a.at < b.at))
@@ -114,6 +151,17 @@ first_between xs i j x less is =
     let left : j - i ≡ suc (j - suc i) = omega (arith, less) in
     rw (next, left, drop-cons xs i x (slice_get_within xs i x is))
     (ap (λ x. x ∷ take (j - suc i) (drop (suc i) xs)) (get_or_from_slice_get xs i x x is))
+
+-- and ends with what is before the second
+last_between : {X : Type 0} (xs : List X) (i j : ℕ) (x : X) → i ≤ j → slice_get xs j ≡ Some x
+    → take (j + 1 - i) (drop i xs) ≡ take (j - i) (drop i xs) ++ x ∷ []
+last_between xs i j x within is =
+    let next : j + 1 - i ≡ suc (j - i) = omega (arith, within) in
+    let place : i + (j - i) ≡ j = omega (arith, within) in
+    let less = slice_get_within xs j x is in
+    rw next (take-suc (drop i xs) (j - i) x (rw length-drop (omega (arith, within, less)))
+    ∙ ap (λ y. take (j - i) (drop i xs) ++ y ∷ []) (get_or-drop i xs (j - i) x
+    ∙ ap (λ k. get_or xs k x) place ∙ get_or_from_slice_get xs j x x is))
 
 -- entries by their numbers, which an index has in the order of the keys
 module _ {V : Type 0} (es : Entries V) (index : Index) (are : AreMapped es index)
@@ -154,23 +202,38 @@ module _ {V : Type 0} (es : Entries V) (index : Index) (are : AreMapped es index
           end.above k (omega arith) (omega (arith, size)),
         ) refl))
 
--- the entry of the first place comes first, and then those from the place after it
-pub next_entry : {V : Type 0} (items : List (InlinableStringN 30 × V)) (x : InlinableStringN 30 × V)
-    (id : ℕ) (index : Index) (from spot next to : Spot)
-    → AreNumbers (length (map entry_of items)) (ids_in index)
-    → index_of index spot ≡ index_of index from → index_of index spot < index_of index to
-    → index_of index next ≡ index_of index spot + 1
-    → slice_get (ids_in index) (index_of index spot) ≡ Some id → x ≡ get_or items id x
-    → entries_in (map entry_of items) index from to
-    ≡ entry_of x ∷ entries_in (map entry_of items) index next to
-next_entry items x id index from spot next to numbers same less after is read =
-    let es = map entry_of items in
-    let all = entries_at es (ids_in index) in
-    let at = index_of index spot in
-    let e = get_or all at (entry_of x) in
-    let within = slice_get_within (ids_in index) at id is in
-    let size = count es (ids_in index) numbers.within in
-    let there = slice_get-get_or all at (entry_of x) (omega (arith, within, size)) in
-    let entry = entry_seen es (ids_in index) at id e numbers.within is there in
-    rw (← same, after, read_entry items id x e entry read)
-    (first_between all at (index_of index to) e less there)
+-- an entry, and the index of its number among those of an index
+module _ {V : Type 0} (items : List (InlinableStringN 30 × V)) (x : InlinableStringN 30 × V)
+    (id : ℕ) (index : Index) (spot : Spot)
+    (numbers : AreNumbers (length (map entry_of items)) (ids_in index))
+    (is : slice_get (ids_in index) (index_of index spot) ≡ Some id) (read : x ≡ get_or items id x)
+  where
+    abbrev all : Entries V
+    all = entries_at (map entry_of items) (ids_in index)
+
+    there : slice_get all (index_of index spot) ≡ Some (entry_of x)
+    there =
+        let es = map entry_of items in
+        let at = index_of index spot in
+        let e = get_or all at (entry_of x) in
+        let within = slice_get_within (ids_in index) at id is in
+        let size = count es (ids_in index) numbers.within in
+        let here = slice_get-get_or all at (entry_of x) (omega (arith, within, size)) in
+        let entry = entry_seen es (ids_in index) at id e numbers.within is here in
+        here ∙ ap Some (sym (read_entry items id x e entry read))
+
+    -- it comes first, and then those from the place after it
+    pub next_entry : (from next to : Spot) → index_of index spot ≡ index_of index from
+        → index_of index spot < index_of index to → index_of index next ≡ index_of index spot + 1
+        → entries_in (map entry_of items) index from to
+        ≡ entry_of x ∷ entries_in (map entry_of items) index next to
+    next_entry from next to same less after = rw (← same, after)
+        (first_between all (index_of index spot) (index_of index to) (entry_of x) less there)
+
+    -- it comes last, after those up to its place
+    pub last_entry : (from to : Spot) → index_of index spot + 1 ≡ index_of index to
+        → index_of index from ≤ index_of index spot
+        → entries_in (map entry_of items) index from to
+        ≡ entries_in (map entry_of items) index from spot ++ entry_of x ∷ []
+    last_entry from to same within = rw (← same)
+        (last_between all (index_of index from) (index_of index spot) (entry_of x) within there)

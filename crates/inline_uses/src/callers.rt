@@ -1,14 +1,15 @@
 //! Callers of the modules, as a user writes them: each is proved from their contracts alone, with
 //! no answer written by hand.
-ghost use Rattle.std.specs.Prelude.{◌≡◌, ◌↔◌, ◌+◌, ◌-◌, ◌^◌, ℕ, min, length, [], Some, None, IfOk, OnOk, OnErr, IsSome, IsTrue, slice_get};
+ghost use Rattle.std.specs.Prelude.{◌≡◌, ◌↔◌, ◌+◌, ◌-◌, ◌^◌, ℕ, min, length, [], Some, None, IfOk, IfSome, IfNone, OnOk, OnErr, IsSome, IsTrue, slice_get};
 ghost use Rattle.inline_uses.specs.Editor.{text_of};
 ghost use Rattle.inline_uses.specs.Store.{with_value};
-ghost use Rattle.inline_uses.specs.TextMap.{entries_between, value_of, with_value as with_entry, without as without_entry};
+ghost use Rattle.inline_uses.specs.TextMap.{deref_entry, entries_between, value_of, with_value as with_entry, without as without_entry};
 
 use crate::editor::Line;
 use crate::store::Store;
 use crate::symbols::Symbols;
 use crate::text_map::TextMap;
+use inlinable_string::InlinableString;
 use std::alloc::AllocError;
 
 /// Returns the ids of two texts, and gives ids to those that have none.
@@ -89,6 +90,15 @@ pub fn count_all(map: &TextMap<u64>) -> usize
     ensures { result ≡ length map.now }
 {
     map.iter().count()
+}
+
+/// Returns the greatest key with its number, if there is a key.
+pub fn greatest(map: &TextMap<u64>) -> Option<(&InlinableString, &u64)>
+    ensures last { IfSome result (λ entry. slice_get map.now (length map.now - 1)
+        ≡ Some (deref_entry entry)) }
+    ensures none { IfNone result (map.now ≡ []) }
+{
+    map.iter().next_back()
 }
 
 /// Removes the whole line, wherever its cursor is.

@@ -250,6 +250,40 @@ fn short_runs_are_joined_and_grow_again(rt: HostRuntime) -> Result<(), Fail> {
     Ok(())
 }
 
+/// Goes over the entries of a map of all keys from both ends by turns. The first turn that gives
+/// another entry than the table has, or `COUNT` if more come than the map has.
+fn first_wrong_by_turns(pair: &Pair) -> Option<usize> {
+    let mut found = pair.map.iter();
+    for turn in 0..COUNT {
+        let is_front = turn % 2 == 0;
+        let (number, entry) = if is_front {
+            (turn / 2, found.next())
+        } else {
+            (COUNT - 1 - turn / 2, found.next_back())
+        };
+        let is_same = match (entry, pair.keys.get(number)) {
+            (Some((text, value)), Some(key)) => text.as_str() == key.as_str() && *value == number,
+            _ => false,
+        };
+        if !is_same {
+            return Some(turn);
+        }
+    }
+    if found.next_back().is_none() && found.next().is_none() {
+        None
+    } else {
+        Some(COUNT)
+    }
+}
+
+#[test]
+fn entries_come_from_both_ends_by_turns(rt: HostRuntime) -> Result<(), Fail> {
+    let pair = Pair::full(rt.alloc(), Order::Drawn(20_077))?;
+    let wrong = first_wrong_by_turns(&pair);
+    assert!(rt; wrong.is_none(), "{wrong:?}");
+    Ok(())
+}
+
 /// How many keys a queue has, and how many come after its first ones.
 const QUEUE: usize = 100;
 

@@ -70,6 +70,45 @@ impl Index {
         }
     }
 
+    /// Returns the spot of the last id before an end, if that is not before a place.
+    pub(crate) fn last_in(&self, from: Spot, end: Spot) -> Option<Spot>
+        requires firsts { HaveFirsts (ids_of self.now.starts) self.now.later.items }
+        requires from { IsPlace self.now from }
+        requires end { IsPlace self.now end }
+        ensures at { IfSome result (IsAt self.now) }
+        ensures same { IfSome result (λ spot. index_of self.now spot + 1 ≡ index_of self.now end) }
+        ensures after { IfSome result (λ spot. index_of self.now from ≤ index_of self.now spot) }
+        ensures none { IfNone result (index_of self.now end ≤ index_of self.now from) }
+    {
+        let spot = self.before(end)?;
+        if spot.run < from.run || spot.run == from.run && spot.at < from.at {
+            None
+        } else {
+            Some(spot)
+        }
+    }
+
+    /// Returns the spot of the id before a place, if one is before it.
+    fn before(&self, place: Spot) -> Option<Spot>
+        requires firsts { HaveFirsts (ids_of self.now.starts) self.now.later.items }
+        requires place { IsPlace self.now place }
+        ensures at { IfSome result (IsAt self.now) }
+        ensures same { IfSome result (λ spot. index_of self.now spot + 1
+            ≡ index_of self.now place) }
+        ensures none { IfNone result (index_of self.now place ≡ 0) }
+    {
+        if place.at > 0 {
+            return Some(Spot {
+                run: place.run,
+                at: place.at - 1,
+            });
+        }
+        // Only the first run may be empty.
+        let run = place.run.checked_sub(1)?;
+        let at = self.run(run).len().checked_sub(1)?;
+        Some(Spot { run, at })
+    }
+
     /// Returns the place after an id.
     pub(crate) fn after(&self, spot: Spot) -> Spot
         requires { IsAt self.now spot }

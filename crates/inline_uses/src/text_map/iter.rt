@@ -1,6 +1,6 @@
 //! The iterator over the entries of a map.
 ghost use Rattle.std.specs.Prelude.{◌≡◌, map};
-ghost use Rattle.std.specs.Iterator.{YieldsFirstBy, item_count};
+ghost use Rattle.std.specs.Iterator.{YieldsFirstBy, YieldsLastBy, item_count};
 ghost use Rattle.inline_uses.specs.Index.{IsPlace};
 ghost use Rattle.inline_uses.specs.TextMap.{AreMapped, deref_entry, entries_in, entry_of};
 
@@ -67,6 +67,17 @@ impl<'a, V> Iterator for Iter<'a, V> {
     fn next(&mut self) -> Option<(&'a InlinableString, &'a V)> {
         let spot = self.order.first_in(self.next, self.end)?;
         self.next = self.order.after(spot);
+        let entry = &self.entries[self.order.id(spot)];
+        Some((&entry.0, &entry.1))
+    }
+}
+
+impl<'a, V> DoubleEndedIterator for Iter<'a, V> {
+    ghost next_back_gives = { YieldsLastBy deref_entry (λ rest. rest) };
+
+    fn next_back(&mut self) -> Option<(&'a InlinableString, &'a V)> {
+        let spot = self.order.last_in(self.next, self.end)?;
+        self.end = spot;
         let entry = &self.entries[self.order.id(spot)];
         Some((&entry.0, &entry.1))
     }

@@ -24,14 +24,15 @@ impl TextMap<InlinableString> {
         Ok(bytes)
     }
 
-    /// The members of that object.
+    /// The members of that object. They are put in from the last key on, since a map looks for the
+    /// place of a key from its first key on.
     fn members(&self) -> Result<Map<String, Value>, AllocError>
         ensures entries { IfOk result (λ members.
             with_members [] (members_view members.entries) ≡ Some (texts_of self.now)) }
         ensures flat { IfOk result (λ members. members_depth (members_view members.entries) ≡ 0) }
     {
         let mut members = Map::new(self.alloc);
-        for (key, value) in self.iter() {
+        for (key, value) in self.iter().rev() {
             put(&mut members, self.alloc, key.as_str(), value.to_json()?)?;
         }
         Ok(members)

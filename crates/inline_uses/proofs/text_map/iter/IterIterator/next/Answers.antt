@@ -10,9 +10,9 @@ steps : (g : Over) → (c : After-index-entry g) → c.args.self.now
     ≡ entry_of c.index-entry.result.now ∷ entries_in (map entry_of c.self.inside.entries.now.items)
     c.self.inside.order.now c.after-self-inside.result c.self.inside.end
 steps g c = sym c.self.view_is ∙ next_entry c.self.inside.entries.now.items c.index-entry.result.now
-    c.id.result c.self.inside.order.now c.self.inside.next c.in_ok-spot.spot
-    c.after-self-inside.result c.self.inside.end c.self.invariant.0.0 c.in_ok-spot.ensures.same
-    c.in_ok-spot.ensures.before c.after-self-inside.ensures.at c.id.ensures c.index-entry.ensures
+    c.id.result c.self.inside.order.now c.in_ok-spot.spot c.self.invariant.0.0 c.id.ensures
+    c.index-entry.ensures c.self.inside.next c.after-self-inside.result c.self.inside.end
+    c.in_ok-spot.ensures.same c.in_ok-spot.ensures.before c.after-self-inside.ensures.at
 
 pub returns-clause-steps : goal.returns-clause-steps
 returns-clause-steps = steps

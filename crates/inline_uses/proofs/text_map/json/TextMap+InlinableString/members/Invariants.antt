@@ -7,4 +7,4 @@ use Rattle.inline_uses.proofs.text_map.json.TextMap+InlinableString.members.Give
 
 abbrev pub invariant-loop-key : goal.invariant-loop-key
 invariant-loop-key l = (done : Entries) × (members_view l.members.entries ≡ members_of done)
-    × (done ++ texts_of l.key-iterator ≡ texts_of l.fn.self)
+    × (texts_of l.key-iterator.iter ++ done ≡ texts_of l.fn.self)
