@@ -1,5 +1,6 @@
 pub mod Ascii
 pub mod Cursor
+pub mod Deleted
 pub mod Gaps
 pub mod Ids
 pub mod InRuns

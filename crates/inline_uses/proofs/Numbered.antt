@@ -1,8 +1,11 @@
 -- Entries by their numbers, and lists of these numbers: what an edit does to both.
-use Rattle.std.proofs.Common.{arith, ◌≡◌, inl, inr, ℕ, zero, suc, ◌-◌, ◌<◌, ◌≤◌, List, [], ◌∷◌, ◌++◌, length, map, take, drop, set, get_or, Option, Some, None, Less, Equal, refl, sym, ap, subst, ◌∙◌}
+use Rattle.std.proofs.Common.{arith, ◌≡◌, ◌⊎◌, inl, inr, ℕ, zero, suc, ◌-◌, ◌<◌, ◌≤◌, List, [], ◌∷◌, ◌++◌, length, map, take, drop, set, get_or, Option, Some, None, Less, Equal, refl, sym, ap, subst, ◌∙◌}
 use Rattle.std.proofs.lemmas.Bool.{cases_eq, cases_lt}
 use Rattle.std.proofs.lemmas.Cmp.{nat_list_cmp_total, tied_itself}
-use Rattle.std.proofs.lemmas.List.{length-map, length-set, length-take-le, map-append, map-set, take-append-drop}
+use Rattle.std.proofs.lemmas.List.{get_or-set_other, get_or-set_same, get_or-take, length-map, length-set, length-take-le, map-append, map-set, set-get_or, set_split}
+use Rattle.std.proofs.lemmas.List.Elements.{All-from_recursion, All-map, recursion_from_All}
+use Rattle.std.proofs.lemmas.Map.Keys.{Less-from_sorted}
+use Rattle.std.proofs.lemmas.Simd.{map-map}
 use Rattle.std.proofs.lemmas.List.Edits.{length-insert, length-remove}
 use Rattle.std.proofs.lemmas.Option.{get_or_from_slice_get, slice_get-get_or, slice_get-map, slice_get_within}
 use Rattle.std.specs.Prelude.{slice_get}
@@ -12,24 +15,21 @@ use Rattle.std.specs.List.Sorted.{IsStrictlySortedBy}
 use Rattle.std.specs.Map.{keys_of}
 use Rattle.inline_uses.specs.Symbols.{IsGap, key_order, text_at}
 use Rattle.inline_uses.specs.TextMap.{AreNumbers, AreOthers, Entries, Has, entries_at}
-use Rattle.inline_uses.proofs.InRuns.{all_append}
+use Rattle.inline_uses.proofs.InRuns.{all_append, all_weaker}
 use Rattle.inline_uses.proofs.RunEdits.{all_at, all_drop, all_insert, all_take}
 use Rattle.inline_uses.proofs.Search.{inserted_seen, there}
-use Rattle.inline_uses.proofs.Tables.{at_push}
+use Rattle.inline_uses.proofs.Tables.{at_push, before_append}
 
 -- a list around the element at an index
 module _ {X : Type 0} where
-  pub around : (xs : List X) (at : ℕ) (x : X) → slice_get xs at ≡ Some x
-      → xs ≡ take at xs ++ x ∷ drop (suc at) xs
-  around [] at x is = cc
-  around (y ∷ xs) zero x is = let same : y ≡ x = cc in ap (λ y. y ∷ xs) same
-  around (y ∷ xs) (suc at) x is = ap (λ xs. y ∷ xs) (around xs at x is)
-
   pub set_around : (xs : List X) (at : ℕ) (x y : X) → slice_get xs at ≡ Some x
       → set xs at y ≡ take at xs ++ y ∷ drop (suc at) xs
-  set_around [] at x y is = cc
-  set_around (z ∷ xs) zero x y is = refl
-  set_around (z ∷ xs) (suc at) x y is = ap (λ xs. z ∷ xs) (set_around xs at x y is)
+  set_around xs at x y is = set_split xs at y (slice_get_within xs at x is)
+
+  pub around : (xs : List X) (at : ℕ) (x : X) → slice_get xs at ≡ Some x
+      → xs ≡ take at xs ++ x ∷ drop (suc at) xs
+  around xs at x is = sym (set-get_or xs at x)
+      ∙ ap (set xs at) (get_or_from_slice_get xs at x x is) ∙ set_around xs at x x is
 
   pub other_set : (xs : List X) (at i : ℕ) (y : X) → ¬ (i ≡ at)
       → slice_get (set xs at y) i ≡ slice_get xs i
@@ -41,15 +41,8 @@ module _ {X : Type 0} where
 
   pub this_set : (xs : List X) (at : ℕ) (y : X) → at < length xs
       → slice_get (set xs at y) at ≡ Some y
-  this_set [] at y within = absurd (omega (arith, within))
-  this_set (x ∷ xs) zero y within = refl
-  this_set (x ∷ xs) (suc at) y within = this_set xs at y (omega (arith, within))
-
-  in_front : (xs : List X) (n i : ℕ) → i < n → slice_get (take n xs) i ≡ slice_get xs i
-  in_front xs zero i less = absurd (omega (arith, less))
-  in_front [] (suc n) i less = refl
-  in_front (x ∷ xs) (suc n) zero less = refl
-  in_front (x ∷ xs) (suc n) (suc i) less = in_front xs n i (omega (arith, less))
+  this_set xs at y within = slice_get-get_or (set xs at y) at y (rw length-set within)
+      ∙ ap Some (get_or-set_same xs at y y within)
 
   all_some : (xs ys : List X) → map Some xs ≡ map Some ys → xs ≡ ys
   all_some [] [] same = refl
@@ -66,43 +59,35 @@ module _ {X : Type 0} where
   one (x ∷ xs) zero less = refl
   one (x ∷ xs) (suc i) less = one xs i (omega (arith, less))
 
--- numbers among others
-has_front : (xs ys : List ℕ) (id : ℕ) → Has xs id → Has (xs ++ ys) id
-has_front [] ys id has = absurd has
-has_front (x ∷ xs) ys id (inl same) = inl same
-has_front (x ∷ xs) ys id (inr has) = inr (has_front xs ys id has)
-
-has_rest : (xs ys : List ℕ) (id : ℕ) → Has ys id → Has (xs ++ ys) id
-has_rest [] ys id has = has
-has_rest (x ∷ xs) ys id has = inr (has_rest xs ys id has)
-
 -- one that is there is at an index
 pub place_of : (ids : List ℕ) (id : ℕ) → Has ids id → (at : ℕ) × (slice_get ids at ≡ Some id)
 place_of [] id has = absurd has
 place_of (x ∷ ids) id (inl same) = (0, ap Some same)
 place_of (x ∷ ids) id (inr has) = let rest = place_of ids id has in (suc rest.0, rest.1)
 
-module _ (before after : List ℕ) (gone : ℕ) where
-  -- with one more the others stay
-  has_with : (id : ℕ) → Has (before ++ after) id → Has (before ++ gone ∷ after) id
-  has_with = go before
-    where
-      go : (xs : List ℕ) (id : ℕ) → Has (xs ++ after) id → Has (xs ++ gone ∷ after) id
-      go [] id has = inr has
-      go (x ∷ xs) id (inl same) = inl same
-      go (x ∷ xs) id (inr has) = inr (go xs id has)
+has_map : (f : ℕ → ℕ) (ids : List ℕ) (id : ℕ) → Has ids id → Has (map f ids) (f id)
+has_map f [] id has = has
+has_map f (x ∷ ids) id (inl same) = inl (ap f same)
+has_map f (x ∷ ids) id (inr has) = inr (has_map f ids id has)
 
-  -- and so without it
-  has_without : (id : ℕ) → ¬ (id ≡ gone) → Has (before ++ gone ∷ after) id
-      → Has (before ++ after) id
-  has_without = go before
-    where
-      go : (xs : List ℕ) (id : ℕ) → ¬ (id ≡ gone) → Has (xs ++ gone ∷ after) id
-          → Has (xs ++ after) id
-      go [] id not (inl same) = absurd (not (sym same))
-      go [] id not (inr has) = has
-      go (x ∷ xs) id not (inl same) = inl same
-      go (x ∷ xs) id not (inr has) = inr (go xs id not has)
+-- with one more it has that one and the others, and without one the others
+has_with : (ids : List ℕ) (at new id : ℕ) → (new ≡ id) ⊎ Has ids id → Has (insert ids at new) id
+has_with ids zero new id has = has
+has_with [] (suc at) new id has = has
+has_with (x ∷ ids) (suc at) new id (inl same) = inr (has_with ids at new id (inl same))
+has_with (x ∷ ids) (suc at) new id (inr (inl same)) = inl same
+has_with (x ∷ ids) (suc at) new id (inr (inr has)) = inr (has_with ids at new id (inr has))
+
+has_without : (ids : List ℕ) (at gone id : ℕ) → slice_get ids at ≡ Some gone → ¬ (id ≡ gone)
+    → Has ids id → Has (remove ids at) id
+has_without [] at gone id is not has = absurd has
+has_without (x ∷ ids) zero gone id is not (inl same) =
+    let here : x ≡ gone = cc in
+    absurd (not (sym same ∙ here))
+has_without (x ∷ ids) zero gone id is not (inr has) = has
+has_without (x ∷ ids) (suc at) gone id is not (inl same) = inl same
+has_without (x ∷ ids) (suc at) gone id is not (inr has) =
+    inr (has_without ids at gone id is not has)
 
 -- what two lists have under numbers alike
 pub alike : {Y : Type 0} (f g : ℕ → Y) (ids : List ℕ) → AllByRecursion (λ id. f id ≡ g id) ids
@@ -160,12 +145,9 @@ module _ {V : Type 0} where
       → slice_get ids at ≡ Some id → slice_get (entries_at es ids) at ≡ Some e
       → slice_get es id ≡ Some e
   entry_seen es ids at id e all is there =
-      let by_id : slice_get (map (slice_get es) ids) at ≡ Some (slice_get es id)
-      = rw (slice_get-map, is) refl in
-      let by_place : slice_get (map Some (entries_at es ids)) at ≡ Some (Some e)
-      = rw (slice_get-map, there) refl in
-      let both : Some (slice_get es id) ≡ Some (Some e) = sym by_id
-      ∙ ap (λ xs. slice_get xs at) (sym (seen es ids all)) ∙ by_place in
+      let same = ap (λ xs. slice_get xs at) (seen es ids all) in
+      let both : Some (Some e) ≡ Some (slice_get es id)
+      = rw (slice_get-map, slice_get-map, there, is) at same in
       cc
 
   -- lists that have the same entries under their numbers in order are the same in that order
@@ -179,20 +161,17 @@ module _ {V : Type 0} where
       ≡ map Some (insert (entries_at es ids) at e)
   with_entry es ids at e all = inserted_seen (slice_get (es ++ e ∷ [])) ids at (length es)
       ∙ ap (insert (map (slice_get (es ++ e ∷ [])) ids) at) (at_push es e)
-      ∙ ap (λ xs. insert xs at (Some e)) (stay es ids all ∙ sym (seen es ids all))
+      ∙ ap (λ xs. insert xs at (Some e)) (stay ∙ sym (seen es ids all))
       ∙ sym (inserted_seen Some (entries_at es ids) at e)
     where
-      here : (es : Entries V) (i : ℕ) → i < length es
-          → slice_get (es ++ e ∷ []) i ≡ slice_get es i
-      here [] i less = absurd (omega (arith, less))
-      here (x ∷ es) zero less = refl
-      here (x ∷ es) (suc i) less = here es i (omega (arith, less))
+      here : (i : ℕ) → i < length es → slice_get (es ++ e ∷ []) i ≡ slice_get es i
+      here i less =
+          let is = slice_get-get_or es i e less in
+          before_append es (e ∷ []) i (get_or es i e) is ∙ sym is
 
-      stay : (es : Entries V) (ids : List ℕ) → Within es ids
-          → map (slice_get (es ++ e ∷ [])) ids ≡ map (slice_get es) ids
-      stay es [] all = refl
-      stay es (id ∷ ids) all = ap (λ x. x ∷ map (slice_get (es ++ e ∷ [])) ids) (here es id all.0)
-          ∙ ap (λ xs. slice_get es id ∷ xs) (stay es ids all.1)
+      stay : map (slice_get (es ++ e ∷ [])) ids ≡ map (slice_get es) ids
+      stay = alike (slice_get (es ++ e ∷ [])) (slice_get es) ids (all_weaker (λ i. i < length es)
+          (λ i. slice_get (es ++ e ∷ []) i ≡ slice_get es i) here ids all)
 
 -- no text is below itself
 not_below : (text : List ℕ) → key_order text text ≡ Less → ⊥
@@ -245,32 +224,22 @@ module _ (text_of : ℕ → List ℕ) where
       sorted.0 seen in
       (((λ same. not_equal x id below (sym same)), rest.0), rest.1)
 
-  -- one before others has not the text of one of them
-  apart : (ids : List ℕ) (j a b : ℕ)
-      → AllByRecursion (λ t. key_order (text_of a) t ≡ Less) (map text_of ids)
-      → slice_get ids j ≡ Some b → text_of a ≡ text_of b → ⊥
-  apart ids j a b all js same =
-      let seen : Some (text_of b) ≡ slice_get (map text_of ids) j = rw (slice_get-map, js) refl in
-      let less = all_at (λ t. key_order (text_of a) t ≡ Less) (map text_of ids) j (text_of b)
-      all seen in
-      not_below (text_of a) (subst (λ t. key_order (text_of a) t ≡ Less) (sym same) less)
+-- texts in order are at one index each
+not_earlier : (texts : List (List ℕ)) (i j : ℕ) (text : List ℕ)
+    → IsStrictlySortedBy key_order texts → slice_get texts i ≡ Some text
+    → slice_get texts j ≡ Some text → ¬ (i < j)
+not_earlier texts i j text sorted is js less = not_below text
+    (rw (get_or_from_slice_get texts i text [] is, get_or_from_slice_get texts j text [] js) at
+    (Less-from_sorted key_order texts i j [] sorted less (slice_get_within texts j text js)))
 
-  -- two of them with the same text are one
-  pub same_number : (ids : List ℕ) (i j a b : ℕ) → IsStrictlySortedBy key_order (map text_of ids)
-      → slice_get ids i ≡ Some a → slice_get ids j ≡ Some b → text_of a ≡ text_of b → a ≡ b
-  unfolding IsStrictlySortedBy
-  same_number [] i j a b sorted is js same = cc
-  same_number (x ∷ ids) zero zero a b sorted is js same = cc
-  same_number (x ∷ ids) zero (suc j) a b sorted is js same =
-      let here : x ≡ a = cc in
-      absurd (apart ids j a b (subst (λ x. AllByRecursion (λ t. key_order (text_of x) t ≡ Less)
-      (map text_of ids)) here sorted.0) js same)
-  same_number (x ∷ ids) (suc i) zero a b sorted is js same =
-      let here : x ≡ b = cc in
-      absurd (apart ids i b a (subst (λ x. AllByRecursion (λ t. key_order (text_of x) t ≡ Less)
-      (map text_of ids)) here sorted.0) is (sym same))
-  same_number (x ∷ ids) (suc i) (suc j) a b sorted is js same =
-      same_number ids i j a b sorted.1 is js same
+pub one_index : (texts : List (List ℕ)) (i j : ℕ) (text : List ℕ)
+    → IsStrictlySortedBy key_order texts → slice_get texts i ≡ Some text
+    → slice_get texts j ≡ Some text → i ≡ j
+one_index texts i j text sorted is js = omega (
+  arith,
+  not_earlier texts i j text sorted is js,
+  not_earlier texts j i text sorted js is,
+)
 
 pub weaker : {X : Type 0} (P Q : X → Type 0) → ((x : X) → P x → Q x) → (xs : List X)
     → AllByRecursion P xs → AllByRecursion Q xs
@@ -303,11 +272,10 @@ numbers_with count at ids within are = record {
   within = all_insert (λ id. id < suc count) at ids count
       (weaker (λ id. id < count) (λ id. id < suc count) (λ id less. omega (arith, less)) ids
       are.within) (omega arith);
-  all = λ id less. elim (cases_lt id count) [
-    | inl old ↦ has_with (take at ids) (drop at ids) count id
-        (subst (λ ids. Has ids id) (sym (take-append-drop at ids)) (are.all id old))
-    | inr new ↦ has_rest (take at ids) (count ∷ drop at ids) id (inl (omega (arith, less, new)))
-  ];
+  all = λ id less. has_with ids at count id (elim (cases_lt id count) [
+    | inl old ↦ inr (are.all id old)
+    | inr new ↦ inl (omega (arith, less, new))
+  ]);
   once = length-insert ids at count within ∙ rw are.once (omega arith);
 }
 
@@ -319,74 +287,82 @@ others_of count at id ids is apart are = record {
       (all_take (λ other. other < count) at ids are.within)
       (all_drop (λ other. other < count) (suc at) ids are.within);
   apart = all_append (λ other. ¬ (other ≡ id)) (take at ids) (drop (suc at) ids) apart.0 apart.1;
-  all = λ other less not. has_without (take at ids) (drop (suc at) ids) id other not
-      (subst (λ ids. Has ids other) (around ids at id is) (are.all other less));
+  all = λ other less not. has_without ids at id other is not (are.all other less);
   once = length-remove ids at (slice_get_within ids at id is) ∙ are.once;
 }
 
--- the others of numbers, of which there was one more than `last`
-module _ (last id : ℕ) (left : List ℕ) (are : AreOthers (suc last) id left) where
-  -- the last one went
-  pub numbers_without : id ≡ last → AreNumbers last left
-  numbers_without same = record {
-    within = both (λ other. other < suc last) (λ other. ¬ (other ≡ id)) (λ other. other < last)
-        (λ other less not. not_last other last less (λ e. not (e ∙ sym same)))
-        left are.within are.apart;
-    all = λ other less. are.all other (omega (arith, less)) (λ e. omega (arith, e, same, less));
-    once = let one = are.once in omega (arith, one);
-  }
+-- numbers with another one for the last
+module _ (last id : ℕ) where
+  chosen : (other : ℕ) → (other ≡ last) ⊎ (¬ (other ≡ last)) → ℕ
+  chosen other (inl same) = id
+  chosen other (inr not) = other
 
-  -- another went, and the last one gets its number
-  module _ (j : ℕ) (there : slice_get left j ≡ Some last) (less : id < last)
-      (later : Apart left j last)
+  pub renamed : ℕ → ℕ
+  renamed other = chosen other (cases_eq other last)
+
+  by_cases : (P : ℕ → Type 0) (other : ℕ) → (other ≡ last → P id) → (¬ (other ≡ last) → P other)
+      → P (renamed other)
+  unfolding chosen renamed
+  by_cases P other same stays = go (cases_eq other last)
     where
-      under : (ids : List ℕ) → AllByRecursion (λ other. other < suc last) ids
-          → AllByRecursion (λ other. ¬ (other ≡ last)) ids
-          → AllByRecursion (λ other. other < last) ids
-      under = both (λ other. other < suc last) (λ other. ¬ (other ≡ last))
-          (λ other. other < last) (λ other less not. not_last other last less not)
+      go : (c : (other ≡ last) ⊎ (¬ (other ≡ last))) → P (chosen other c)
+      go (inl e) = same e
+      go (inr not) = stays not
 
-      front_under : AllByRecursion (λ other. other < last) (take j left)
-      front_under =
-          under (take j left) (all_take (λ other. other < suc last) j left are.within) later.0
+  kept : (other : ℕ) → ¬ (other ≡ last) → renamed other ≡ other
+  kept other not = by_cases (λ n. n ≡ other) other (λ e. absurd (not e)) (λ same. refl)
 
-      rest_under : AllByRecursion (λ other. other < last) (drop (suc j) left)
-      rest_under = under (drop (suc j) left)
-          (all_drop (λ other. other < suc last) (suc j) left are.within) later.1
+  -- none changes if the last one stays, or is not among them
+  pub none_renamed : (ids : List ℕ) → id ≡ last → map renamed ids ≡ ids
+  none_renamed [] same = refl
+  none_renamed (x ∷ ids) same =
+      ap (λ n. n ∷ map renamed ids) (by_cases (λ n. n ≡ x) x (λ e. same ∙ sym e) (λ not. refl))
+      ∙ ap (λ ns. x ∷ ns) (none_renamed ids same)
 
-      pub numbers_renamed : AreNumbers last (set left j id)
-      numbers_renamed = subst (AreNumbers last) (sym (set_around left j last id there)) (record {
-        within = all_append (λ other. other < last) (take j left) (id ∷ drop (suc j) left)
-            front_under (less, rest_under);
-        all = λ other below. elim (cases_eq other id) [
-          | inl same ↦ has_rest (take j left) (id ∷ drop (suc j) left) other (inl (sym same))
-          | inr not ↦ has_with (take j left) (drop (suc j) left) id other
-              (has_without (take j left) (drop (suc j) left) last other
-              (λ same. omega (arith, same, below)) (subst (λ ids. Has ids other)
-              (around left j last there) (are.all other (omega (arith, below)) not)))
-        ];
-        once = let one = are.once in ap length (sym (set_around left j last id there))
-            ∙ length-set left j id ∙ omega (arith, one);
-      })
+  others_kept : (ids : List ℕ) → AllByRecursion (λ other. ¬ (other ≡ last)) ids
+      → map renamed ids ≡ ids
+  others_kept [] apart = refl
+  others_kept (x ∷ ids) apart = ap (λ n. n ∷ map renamed ids) (kept x apart.0)
+      ∙ ap (λ ns. x ∷ ns) (others_kept ids apart.1)
 
-      -- what is seen of them then, where the last entry took the place of the one that went
-      pub renamed_seen : {Y : Type 0} (f g : ℕ → Y) → f id ≡ g last
-          → ((other : ℕ) → other < last → ¬ (other ≡ id) → f other ≡ g other)
-          → map f (set left j id) ≡ map g left
-      renamed_seen f g moved stay = ap (map f) (set_around left j last id there)
-          ∙ map-append f (take j left) (id ∷ drop (suc j) left)
-          ∙ ap (λ y. map f (take j left) ++ y ∷ map f (drop (suc j) left)) moved
-          ∙ ap (λ ys. ys ++ g last ∷ map f (drop (suc j) left)) (same (take j left) front_under
-          (all_take (λ other. ¬ (other ≡ id)) j left are.apart))
-          ∙ ap (λ ys. map g (take j left) ++ g last ∷ ys) (same (drop (suc j) left) rest_under
-          (all_drop (λ other. ¬ (other ≡ id)) (suc j) left are.apart))
-          ∙ sym (map-append g (take j left) (last ∷ drop (suc j) left))
-          ∙ ap (map g) (sym (around left j last there))
-        where
-          same : (ids : List ℕ) → AllByRecursion (λ other. other < last) ids
-              → AllByRecursion (λ other. ¬ (other ≡ id)) ids → map f ids ≡ map g ids
-          same ids less not = alike f g ids (both (λ other. other < last)
-              (λ other. ¬ (other ≡ id)) (λ other. f other ≡ g other) stay ids less not)
+  pub is_renamed : (ids : List ℕ) (at : ℕ) → slice_get ids at ≡ Some last → Apart ids at last
+      → set ids at id ≡ map renamed ids
+  is_renamed [] at is apart = cc
+  is_renamed (x ∷ ids) zero is apart =
+      let here : x ≡ last = cc in
+      ap (λ n. n ∷ ids) (by_cases (λ n. id ≡ n) x (λ e. refl) (λ not. absurd (not here)))
+      ∙ ap (λ ns. renamed x ∷ ns) (sym (others_kept ids apart.1))
+  is_renamed (x ∷ ids) (suc at) is apart = ap (λ n. n ∷ set ids at id) (sym (kept x apart.0.0))
+      ∙ ap (λ ns. renamed x ∷ ns) (is_renamed ids at is (apart.0.1, apart.1))
+
+  -- the others of numbers, of which there was one more than `last`
+  module _ (left : List ℕ) (are : AreOthers (suc last) id left) where
+    pub renamed_seen : {Y : Type 0} (f g : ℕ → Y) → (id < last → f id ≡ g last)
+        → ((other : ℕ) → other < last → ¬ (other ≡ id) → f other ≡ g other) → id < suc last
+        → map f (map renamed left) ≡ map g left
+    renamed_seen f g moved stay within = map-map f renamed left
+        ∙ alike (λ n. f (renamed n)) g left (both (λ n. n < suc last) (λ n. ¬ (n ≡ id))
+        (λ n. f (renamed n) ≡ g n) (λ n less not. by_cases (λ m. f m ≡ g n) n
+        (λ e. moved (not_last id last within (λ same. not (e ∙ sym same))) ∙ ap g (sym e))
+        (λ other. stay n (not_last n last less other) not)) left are.within are.apart)
+
+    pub numbers_renamed : id < suc last → AreNumbers last (map renamed left)
+    numbers_renamed within = record {
+      within = recursion_from_All (λ n. n < last) (map renamed left)
+          (All-map (λ n. n < last) renamed left (All-from_recursion (λ n. renamed n < last) left
+          (both (λ n. n < suc last) (λ n. ¬ (n ≡ id)) (λ n. renamed n < last)
+          (λ n less not. by_cases (λ m. m < last) n
+          (λ e. not_last id last within (λ same. not (e ∙ sym same)))
+          (λ other. not_last n last less other)) left are.within are.apart)));
+      all = λ other less. elim (cases_eq other id) [
+        | inl same ↦ subst (Has (map renamed left)) (by_cases (λ n. n ≡ other) last
+            (λ e. sym same) (λ not. absurd (not refl))) (has_map renamed left last
+            (are.all last (omega arith) (λ e. omega (arith, e, same, less))))
+        | inr not ↦ subst (Has (map renamed left)) (kept other (λ e. omega (arith, e, less)))
+            (has_map renamed left other (are.all other (omega (arith, less)) not))
+      ];
+      once = length-map left renamed ∙ (let one = are.once in omega (arith, one));
+    }
 
 -- a list without an element, of which the last one took its place
 module _ {X : Type 0} (xs : List X) (i count : ℕ) (d : X) (all : length xs ≡ suc count) where
@@ -397,20 +373,22 @@ module _ {X : Type 0} (xs : List X) (i count : ℕ) (d : X) (all : length xs ≡
   swapped_length = length-take-le (length xs - 1) (set xs i (get_or xs (length xs - 1) d))
       (rw length-set (omega (arith, all))) ∙ omega (arith, all)
 
-  front_of : (j : ℕ) → j < count
-      → slice_get swapped j ≡ slice_get (set xs i (get_or xs (length xs - 1) d)) j
-  front_of j less = in_front (set xs i (get_or xs (length xs - 1) d)) (length xs - 1) j
-      (omega (arith, all, less))
+  read : (j : ℕ) → j < count
+      → slice_get swapped j ≡ Some (get_or (set xs i (get_or xs count d)) j d)
+  read j less =
+      let end : length xs - 1 ≡ count = omega (arith, all) in
+      slice_get-get_or swapped j d (rw swapped_length less)
+      ∙ ap Some (get_or-take (length xs - 1) (set xs i (get_or xs (length xs - 1) d)) j d
+      (omega (arith, end, less)) ∙ ap (λ k. get_or (set xs i (get_or xs k d)) j d) end)
 
   pub swapped_stays : (j : ℕ) → j < count → ¬ (j ≡ i) → slice_get swapped j ≡ slice_get xs j
-  swapped_stays j less not =
-      front_of j less ∙ other_set xs i j (get_or xs (length xs - 1) d) not
+  swapped_stays j less not = read j less
+      ∙ ap Some (get_or-set_other xs i j (get_or xs count d) d not)
+      ∙ sym (slice_get-get_or xs j d (omega (arith, all, less)))
 
   pub swapped_moves : i < count → slice_get swapped i ≡ slice_get xs count
-  swapped_moves less =
-      let end : length xs - 1 ≡ count = omega (arith, all) in
-      front_of i less ∙ this_set xs i (get_or xs (length xs - 1) d) (omega (arith, all, less))
-      ∙ ap (λ k. Some (get_or xs k d)) end
+  swapped_moves less = read i less
+      ∙ ap Some (get_or-set_same xs i (get_or xs count d) d (omega (arith, all, less)))
       ∙ sym (slice_get-get_or xs count d (omega (arith, all)))
 
 pub swapped_seen : {A B : Type 0} (f : A → B) (xs : List A) (i : ℕ) (d : A)

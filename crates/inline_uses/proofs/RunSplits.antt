@@ -1,5 +1,5 @@
 -- An index in which a run is split.
-use Rattle.std.proofs.Common.{arith, ◌≡◌, ◌⊎◌, ℕ, zero, suc, ◌+◌, ◌-◌, ◌<◌, ◌≤◌, List, [], ◌∷◌, ◌++◌, map, length, take, drop, set, Some, Less, refl, sym, ap, subst, ◌∙◌, inl, inr, add-one, append_assoc}
+use Rattle.std.proofs.Common.{arith, ◌≡◌, ℕ, zero, suc, ◌+◌, ◌-◌, ◌<◌, ◌≤◌, List, [], ◌∷◌, ◌++◌, map, length, take, drop, set, Some, Less, refl, sym, ap, subst, ◌∙◌, inl, inr, add-one, append_assoc}
 use Rattle.std.specs.Prelude.{Err, IfOk, Ok, OnErr, OnOk, Result, slice_get}
 use Rattle.std.proofs.lemmas.Bool.{cases_lt}
 use Rattle.std.proofs.lemmas.List.{append-nil, length-append, length-drop, length-map, length-take-le, map-append, take-append-drop}
@@ -154,8 +154,7 @@ pub record IsRoomy (text_of : ℕ → List ℕ) (before roomy after : Index) : T
 pub record IsMoved (text_of : ℕ → List ℕ) (before after : Index) (old new : Spot) : Type 0 where
   pub index : IsIndex text_of after
   pub ids : ids_in after ≡ ids_in before
-  pub room : (length (ids_at (runs_of after) new.run) ≡ HALF)
-      ⊎ (length (ids_at (runs_of after) new.run) ≡ 256 - HALF)
+  pub room : 256 - HALF ≡ HALF → length (ids_at (runs_of after) new.run) ≡ HALF
   pub spot : IsSpot after new
   pub at : index_of after new ≡ index_of before old
 
@@ -281,9 +280,8 @@ module _ {text_of : ℕ → List ℕ} {index roomy parted : Index}
                 (all_insert P (suc spot.run) (set (runs_of index) spot.run lower) upper
                 (all_set P (runs_of index) spot.run lower is low) high)
 
-            half_moved : ((length (ids_at (runs_of after) moved.run) ≡ HALF)
-                ⊎ (length (ids_at (runs_of after) moved.run) ≡ 256 - HALF)) × IsSpot after moved
-                × (index_of after moved ≡ index_of index spot)
+            half_moved : (256 - HALF ≡ HALF → length (ids_at (runs_of after) moved.run) ≡ HALF)
+                × IsSpot after moved × (index_of after moved ≡ index_of index spot)
             half_moved =
                 let within = slice_get_within (runs_of index) spot.run old to.there in
                 elim (cases_lt HALF spot.at) [
@@ -292,7 +290,7 @@ module _ {text_of : ℕ → List ℕ} {index roomy parted : Index}
                       let run = by.0 ∙ add-one spot.run in
                       let half : length (ids_at (runs_of after) moved.run) ≡ 256 - HALF
                       = rw (run, parts.4) upper_count in (
-                        inr half,
+                        (λ even. half ∙ even),
                         record {
                           run = omega (arith, within, run, parts.5);
                           within = rw half (omega (arith, by.1, spot_is.within, full));
@@ -304,7 +302,7 @@ module _ {text_of : ℕ → List ℕ} {index roomy parted : Index}
                       let half : length (ids_at (runs_of after) spot.run) ≡ HALF
                       = rw parts.3 lower_count in
                       rw (stays le) (
-                        inl half,
+                        (λ even. half),
                         record {
                           run = omega (arith, within, parts.5);
                           within = rw half le;

@@ -179,6 +179,7 @@ impl<V: Drop> TextMap<V> {
     }
 
     /// Removes a key, and returns its value if it had one. Cannot fail.
+    #[tactic(auto, using(crate::proofs::Deleted::number_within))]
     pub fn delete(&mut self, key: &str) -> Option<V>
         ensures left { self.new ≡ without self.old key.now }
         ensures value { result ≡ value_of self.old key.now }

@@ -1,4 +1,4 @@
-use Rattle.std.proofs.Common.{arith, ◌∷◌, inl, inr, refl, ap}
+use Rattle.std.proofs.Common.{◌∷◌, refl, ap}
 use Rattle.inline_uses.proofs.RunSplits.{IsMoved, IsRoomy, spot_moved, unsplit, upper_gap, upper_some}
 use Rattle.inline_uses.proofs.index.Index.split.Given.{Over}
 use Rattle.inline_uses.proofs.index.Index.split.Goals.{After-after_split, After-split_run}
@@ -51,10 +51,7 @@ pub returns-clause-ids : goal.returns-clause-ids
 returns-clause-ids g c = (runs_are g c).ids
 
 pub returns-clause-room : goal.returns-clause-room
-returns-clause-room g c = elim (runs_are g c).room [
-  | inl lower ↦ lower
-  | inr upper ↦ omega (arith, upper)
-]
+returns-clause-room g c = (runs_are g c).room refl
 
 pub returns-clause-spot : goal.returns-clause-spot
 returns-clause-spot g c = (runs_are g c).spot
