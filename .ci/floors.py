@@ -10,11 +10,11 @@ EDITS = {'inlinable_string': 209, 'inline_model': 20, 'inline_uses': 179, 'scrip
 
 # By crate: the last request for memory of those that fail one after the other, and how often a test met one.
 # And how many requests each test of a crate makes before the first that fails.
-REFUSALS = {'inline_refusals': (7, 192), 'inline_uses_tests': (29, 41)}
+REFUSALS = {'inline_refusals': (7, 192), 'inline_uses_tests': (29, 50)}
 PREPARED = {'inline_uses_tests': 24}
 
 # Edits in `wrong-bodies/` and `wrong-bodies-proved/`, by crate: just as many.
-WRONG_BODIES = {'inlinable_string': 19, 'inline_uses': 22}
+WRONG_BODIES = {'inlinable_string': 19, 'inline_uses': 23}
 WRONG_BODIES_PROVED = {'inline_uses': 5}
 
 

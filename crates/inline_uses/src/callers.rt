@@ -1,6 +1,7 @@
 //! Callers of the modules, as a user writes them: each is proved from their contracts alone, with
 //! no answer written by hand.
 ghost use Rattle.std.specs.Prelude.{◌≡◌, ◌↔◌, ◌+◌, ◌-◌, ◌^◌, ℕ, min, length, [], Some, None, IfOk, IfSome, IfNone, OnOk, OnErr, IsSome, IsTrue, slice_get};
+ghost use Rattle.std.specs.Option.{unwrap_or};
 ghost use Rattle.inline_uses.specs.Editor.{text_of};
 ghost use Rattle.inline_uses.specs.Store.{with_value};
 ghost use Rattle.inline_uses.specs.TextMap.{deref_entry, entries_between, value_of, with_value as with_entry, without as without_entry};
@@ -54,6 +55,18 @@ pub fn add_one(map: &mut TextMap<u64>, key: &str) -> bool
         }
         None => false,
     }
+}
+
+/// Adds one to the number of a text, up to the greatest; one that has no number gets 0 first. Fails
+/// only if an allocation does; the map is then unchanged.
+pub fn count_text(map: &mut TextMap<u64>, text: &str) -> Result<(), AllocError>
+    ensures ok { OnOk result (map.new ≡ with_entry map.old text.now
+        (min (unwrap_or (value_of map.old text.now) 0 + 1) (2 ^ 64 - 1))) }
+    ensures err { OnErr result (map.new ≡ map.old) }
+{
+    let number = map.get_or_put(text, 0)?;
+    *number = number.saturating_add(1);
+    Ok(())
 }
 
 /// Puts a number under a key that has none, and returns whether it had none.

@@ -53,10 +53,12 @@ impl<V> TextMap<V> {
     pub fn new(alloc: Global) -> Self
         ensures { result ≡ [] }
     {
+        let entries = Vec::new(alloc);
+        let order = Index::new(alloc);
         TextMap {
             alloc,
-            entries: Vec::new(alloc),
-            order: Index::new(alloc),
+            entries,
+            order,
         }
     }
 

@@ -3,7 +3,7 @@ use super::{prepare, tell};
 use crate::names::name;
 use inlinable_string::StringExt;
 use inline_uses::text_map::{Iter, TextMap};
-use std::alloc::{AllocError, Global};
+use std::alloc::{AllocError, AllocFailed, Global};
 use std::mem::replace;
 use std::process::Abort;
 use std::test::Fail;
@@ -15,8 +15,16 @@ const LEAST: &str = "!";
 
 const GREATEST: &str = "~";
 
-/// The number of keys of a map, what these request, a new key, and what that requests.
-type Row = (usize, usize, &'static str, usize);
+/// How a new key is put.
+#[derive(Clone, Copy)]
+enum Call {
+    Put,
+    GetOrPut,
+}
+
+/// How a new key is put, the number of keys before it, what these request, the key, and what that
+/// requests.
+type Row = (Call, usize, usize, &'static str, usize);
 
 /// The map of the numbers below a limit, each under its name.
 fn numbered(alloc: Global, keys: usize) -> Result<TextMap<usize>, AllocError> {
@@ -29,12 +37,30 @@ fn numbered(alloc: Global, keys: usize) -> Result<TextMap<usize>, AllocError> {
     Ok(map)
 }
 
+/// Puts a new key, and returns whether it had no value.
+fn put(
+    map: &mut TextMap<usize>,
+    call: Call,
+    key: &str,
+    value: usize,
+) -> Result<bool, AllocFailed<usize>> {
+    match call {
+        Call::Put => Ok(map.put(key, value)?.is_none()),
+        Call::GetOrPut => Ok(*map.get_or_put(key, value)? == value),
+    }
+}
+
 /// Whether a new key has its value once that is put. Where an allocation fails, the map must be
 /// unchanged, and the value come back.
-fn is_added(map: &mut TextMap<usize>, key: &str, value: usize) -> Result<bool, AllocError> {
+fn is_added(
+    map: &mut TextMap<usize>,
+    call: Call,
+    key: &str,
+    value: usize,
+) -> Result<bool, AllocError> {
     let len = map.len();
-    match map.put(key, value) {
-        Ok(had) => Ok(had.is_none() && map.get(key).copied() == Some(value)),
+    match put(map, call, key, value) {
+        Ok(is_new) => Ok(is_new && map.get(key).copied() == Some(value)),
         Err(failed) => {
             let is_unchanged = map.len() == len && map.get(key).is_none();
             if failed.value == value && is_unchanged {
@@ -50,14 +76,16 @@ fn is_added(map: &mut TextMap<usize>, key: &str, value: usize) -> Result<bool, A
 fn assert_added(
     rt: &(impl Abort + Print),
     alloc: Global,
-    (keys, own, key, requests): Row,
+    (call, keys, own, key, requests): Row,
 ) -> Result<(), Fail> {
     let mut refusals = Refusals::none();
     let mut map = numbered(alloc, keys).expect(rt, "a request before the call failed");
     prepare(rt, alloc, own);
-    let is_right = match is_added(&mut map, key, keys) {
+    let is_right = match is_added(&mut map, call, key, keys) {
         Ok(is_right) => is_right,
-        Err(AllocError) => refusals.meet() && is_added(&mut map, key, keys).unwrap_or(false),
+        Err(AllocError) => {
+            refusals.meet() && is_added(&mut map, call, key, keys).unwrap_or(false)
+        }
     };
     assert!(rt; is_right && map.len() == keys.saturating_add(1));
     tell(rt, alloc, &refusals, requests, 0)
@@ -66,19 +94,19 @@ fn assert_added(
 /// The entries, and the marks of the first run.
 #[test]
 fn the_first_key(rt: HostRuntime) -> Result<(), Fail> {
-    assert_added(&rt, rt.alloc(), (0, 0, GREATEST, 2))
+    assert_added(&rt, rt.alloc(), (Call::Put, 0, 0, GREATEST, 2))
 }
 
 /// There is room for four entries, and for four marks.
 #[test]
 fn a_later_key(rt: HostRuntime) -> Result<(), Fail> {
-    assert_added(&rt, rt.alloc(), (3, 2, LEAST, 0))
+    assert_added(&rt, rt.alloc(), (Call::Put, 3, 2, LEAST, 0))
 }
 
 /// The key is on the heap, and there is no room for a fifth entry nor a fifth mark.
 #[test]
 fn a_long_fifth_key(rt: HostRuntime) -> Result<(), Fail> {
-    assert_added(&rt, rt.alloc(), (4, 2, LETTERS_31, 3))
+    assert_added(&rt, rt.alloc(), (Call::Put, 4, 2, LETTERS_31, 3))
 }
 
 /// 256 keys request room for entries seven times, from 4 to 256, and as often for marks. The next
@@ -86,13 +114,28 @@ fn a_long_fifth_key(rt: HostRuntime) -> Result<(), Fail> {
 /// ids of these, and for the marks of the second run. The lower half keeps the room of all.
 #[test]
 fn a_key_that_splits_a_run(rt: HostRuntime) -> Result<(), Fail> {
-    assert_added(&rt, rt.alloc(), (256, 14, LEAST, 4))
+    assert_added(&rt, rt.alloc(), (Call::Put, 256, 14, LEAST, 4))
 }
 
 /// The upper half is given room for its 128 ids alone, so one more requests some.
 #[test]
 fn a_key_that_splits_a_run_and_is_in_its_upper_half(rt: HostRuntime) -> Result<(), Fail> {
-    assert_added(&rt, rt.alloc(), (256, 14, GREATEST, 5))
+    assert_added(&rt, rt.alloc(), (Call::Put, 256, 14, GREATEST, 5))
+}
+
+#[test]
+fn the_first_key_by_get_or_put(rt: HostRuntime) -> Result<(), Fail> {
+    assert_added(&rt, rt.alloc(), (Call::GetOrPut, 0, 0, GREATEST, 2))
+}
+
+#[test]
+fn a_long_fifth_key_by_get_or_put(rt: HostRuntime) -> Result<(), Fail> {
+    assert_added(&rt, rt.alloc(), (Call::GetOrPut, 4, 2, LETTERS_31, 3))
+}
+
+#[test]
+fn a_key_that_splits_a_run_by_get_or_put(rt: HostRuntime) -> Result<(), Fail> {
+    assert_added(&rt, rt.alloc(), (Call::GetOrPut, 256, 14, LEAST, 4))
 }
 
 const SHORT: &str = "short";
@@ -133,6 +176,18 @@ fn is_lent(map: &mut TextMap<usize>) -> bool {
     }
     let mut unknown = UNKNOWN.iter();
     unknown.all(|key| map.get_mut(key).is_none()) && map.iter().all(|(_, value)| *value == 5)
+}
+
+/// Whether the keys of the map of two keep their values, and then what is written over these.
+fn is_kept(map: &mut TextMap<usize>) -> bool {
+    for (value, key) in [SHORT, LETTERS_31].iter().enumerate() {
+        match map.get_or_put(key, 5) {
+            Ok(lent) if *lent == value => *lent = 6,
+            _ => return false,
+        }
+    }
+    let mut known = [SHORT, LETTERS_31].iter();
+    known.all(|key| map.get_or_put(key, 5).is_ok_and(|lent| *lent == 6)) && map.len() == 2
 }
 
 /// Whether both keys of the map of two get other values.
@@ -183,6 +238,14 @@ fn put_of_known_keys(rt: HostRuntime) -> Result<(), Fail> {
     let mut map = of_two(rt.alloc()).expect(&rt, "a request before the call failed");
     prepare(&rt, rt.alloc(), OF_TWO);
     assert!(rt; is_replaced(&mut map));
+    tell(&rt, rt.alloc(), &Refusals::none(), 0, 0)
+}
+
+#[test]
+fn get_or_put_of_known_keys(rt: HostRuntime) -> Result<(), Fail> {
+    let mut map = of_two(rt.alloc()).expect(&rt, "a request before the call failed");
+    prepare(&rt, rt.alloc(), OF_TWO);
+    assert!(rt; is_kept(&mut map));
     tell(&rt, rt.alloc(), &Refusals::none(), 0, 0)
 }
 
