@@ -79,6 +79,7 @@ impl TextMap<InlinableString> {
             (λ entries. texts_of map ≡ entries)) }
     {
         let mut map = TextMap::new(alloc);
+        map.entries.reserve(members.len())?;
         for (name, value) in members {
             let Some(text) = value.as_str() else {
                 break;

@@ -5,6 +5,9 @@ use Rattle.inline_uses.specs.Symbols.{bytes_at}
 use Rattle.inline_uses.proofs.MapTexts.{text_put}
 use Rattle.inline_uses.proofs.text_map.json.TextMap+InlinableString.from_members.Goals as goal
 
+pub invariant_of-map : goal.invariant_of-map
+invariant_of-map c = rw c.reserve.ensures.items c.map.invariant
+
 pub loop-name-preserved : goal.loop-name-preserved
 loop-name-preserved c =
     let was = rw c.in-Some.ensures.steps at c.loop-name.invariant in
