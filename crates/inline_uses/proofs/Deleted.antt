@@ -3,7 +3,7 @@ use Rattle.std.proofs.Common.{arith, ◌≡◌, ℕ, suc, ◌-◌, ◌<◌, List
 use Rattle.std.proofs.lemmas.List.{length-map}
 use Rattle.std.proofs.lemmas.Option.{slice_get-map}
 use Rattle.std.specs.Prelude.{slice_get}
-use Rattle.std.specs.List.{remove, swap_remove}
+use Rattle.std.specs.List.{AllByRecursion, remove, swap_remove}
 use Rattle.std.specs.Map.{keys_of}
 use Rattle.inline_uses.specs.Symbols.{IsGap, text_at}
 use Rattle.inline_uses.specs.TextMap.{AreMapped, AreNumbers, AreOthers, Entries, IsFound, IsRenumbered, entries_at, entry_of, value_of, without}
@@ -42,9 +42,9 @@ module _ {V : Type 0} {es : Entries V} {last id : ℕ} {order : Index}
     renumbered after ids kept =
         let count : last ≡ length es - 1 = omega (arith, is.all) in
         let same = λ (gone : List ℕ × V). ap (map (slice_get (swap_remove es id gone))) ids
-        ∙ renamed_seen last id (ids_in order) is.others (slice_get (swap_remove es id gone))
-        (slice_get es) (swapped_moves es id last gone is.all)
-        (swapped_stays es id last gone is.all) is.within in
+        ∙ renamed_seen last id (ids_in order) is.others is.within
+        (slice_get (swap_remove es id gone)) (slice_get es)
+        (swapped_moves es id last gone is.all) (swapped_stays es id last gone is.all) in
         record {
           numbers = rw (ids, ← count)
               (numbers_renamed last id (ids_in order) is.others is.within);
@@ -56,7 +56,8 @@ module _ {V : Type 0} {es : Entries V} {last id : ℕ} {order : Index}
 
     -- the last one went
     pub last_renumbered : id ≡ last → IsRenumbered es id order order
-    last_renumbered same = renumbered order (sym (none_renamed last id (ids_in order) same))
+    last_renumbered same = renumbered order (sym (none_renamed last id (ids_in order)
+        (subst (λ n. AllByRecursion (λ other. ¬ (other ≡ n)) (ids_in order)) same is.others.apart)))
         (λ f g is texts. same_texts f g order texts is)
 
     -- another went, so the last one is there

@@ -1,13 +1,14 @@
 -- Entries by their numbers, and lists of these numbers: what an edit does to both.
-use Rattle.std.proofs.Common.{arith, ◌≡◌, ◌⊎◌, inl, inr, ℕ, zero, suc, ◌-◌, ◌<◌, ◌≤◌, List, [], ◌∷◌, ◌++◌, length, map, take, drop, set, get_or, Option, Some, None, Less, Equal, refl, sym, ap, subst, ◌∙◌}
+use Rattle.std.proofs.Common.{arith, ◌≡◌, ◌⊎◌, inl, inr, ℕ, zero, suc, ◌+◌, ◌-◌, ◌<◌, ◌≤◌, List, [], ◌∷◌, ◌++◌, length, map, take, drop, set, get_or, Option, Some, None, Less, Equal, refl, sym, ap, subst, ◌∙◌}
 use Rattle.std.proofs.lemmas.Bool.{cases_eq, cases_lt}
 use Rattle.std.proofs.lemmas.Cmp.{nat_list_cmp_total, tied_itself}
-use Rattle.std.proofs.lemmas.List.{get_or-set_other, get_or-set_same, get_or-take, length-map, length-set, length-take-le, map-append, map-set, set-get_or, set_split}
+use Rattle.std.proofs.lemmas.List.{get_or-drop, get_or-take, length-drop, length-map, length-set, length-take, length-take-le, map-id, map-append, map-set, set-get_or, set_split}
 use Rattle.std.proofs.lemmas.List.Elements.{All-from_recursion, All-map, recursion_from_All}
+use Rattle.std.proofs.lemmas.Grind.{common_steps}
 use Rattle.std.proofs.lemmas.Map.Keys.{Less-from_sorted}
 use Rattle.std.proofs.lemmas.Simd.{map-map}
 use Rattle.std.proofs.lemmas.List.Edits.{length-insert, length-remove}
-use Rattle.std.proofs.lemmas.Option.{get_or_from_slice_get, slice_get-get_or, slice_get-map, slice_get_within}
+use Rattle.std.proofs.lemmas.Option.{gets, get_or_from_slice_get, slice_get-get_or, slice_get-map, slice_get_within}
 use Rattle.std.specs.Prelude.{slice_get}
 use Rattle.std.proofs.Math.ListN.{get_or-map}
 use Rattle.std.specs.List.{AllByRecursion, insert, remove, swap_remove, take-map}
@@ -16,8 +17,8 @@ use Rattle.std.specs.Map.{keys_of}
 use Rattle.inline_uses.specs.Symbols.{IsGap, key_order, text_at}
 use Rattle.inline_uses.specs.TextMap.{AreNumbers, AreOthers, Entries, Has, entries_at}
 use Rattle.inline_uses.proofs.InRuns.{all_append, all_weaker}
-use Rattle.inline_uses.proofs.RunEdits.{all_at, all_drop, all_insert, all_take}
-use Rattle.inline_uses.proofs.Search.{inserted_seen, there}
+use Rattle.inline_uses.proofs.RunEdits.{all_drop, all_insert, all_take}
+use Rattle.inline_uses.proofs.Search.{inserted_seen}
 use Rattle.inline_uses.proofs.Tables.{at_push, before_append}
 
 -- a list around the element at an index
@@ -33,16 +34,11 @@ module _ {X : Type 0} where
 
   pub other_set : (xs : List X) (at i : ℕ) (y : X) → ¬ (i ≡ at)
       → slice_get (set xs at y) i ≡ slice_get xs i
-  other_set [] at i y not = refl
-  other_set (x ∷ xs) zero zero y not = absurd (not refl)
-  other_set (x ∷ xs) zero (suc i) y not = refl
-  other_set (x ∷ xs) (suc at) zero y not = refl
-  other_set (x ∷ xs) (suc at) (suc i) y not = other_set xs at i y (λ same. not (ap suc same))
+  other_set xs at i y not = grind (arith, common_steps, gets, not)
 
   pub this_set : (xs : List X) (at : ℕ) (y : X) → at < length xs
       → slice_get (set xs at y) at ≡ Some y
-  this_set xs at y within = slice_get-get_or (set xs at y) at y (rw length-set within)
-      ∙ ap Some (get_or-set_same xs at y y within)
+  this_set xs at y within = grind (arith, common_steps, gets)
 
   all_some : (xs ys : List X) → map Some xs ≡ map Some ys → xs ≡ ys
   all_some [] [] same = refl
@@ -55,9 +51,7 @@ module _ {X : Type 0} where
 
   one : (xs : List X) (i : ℕ) → i < length xs
       → map Some (take 1 (drop i xs)) ≡ slice_get xs i ∷ []
-  one [] i less = absurd (omega (arith, less))
-  one (x ∷ xs) zero less = refl
-  one (x ∷ xs) (suc i) less = one xs i (omega (arith, less))
+  one xs i less = grind (arith, common_steps, gets)
 
 -- one that is there is at an index
 pub place_of : (ids : List ℕ) (id : ℕ) → Has ids id → (at : ℕ) × (slice_get ids at ≡ Some id)
@@ -130,15 +124,11 @@ module _ {V : Type 0} where
       ap (λ k. k ∷ map (text_at (keys_of es)) ids) (key_at es id)
       ∙ ap (λ ks. key_or (slice_get es id) ∷ ks) (keys_at es ids)
 
-  some_keys : (es : Entries V) → map key_or (map Some es) ≡ keys_of es
-  some_keys [] = refl
-  some_keys (e ∷ es) = ap (λ ks. e.0 ∷ ks) (some_keys es)
-
   -- their keys are the texts of the numbers
   pub keys_seen : (es : Entries V) (ids : List ℕ) → Within es ids
       → keys_of (entries_at es ids) ≡ map (text_at (keys_of es)) ids
-  keys_seen es ids all = sym (some_keys (entries_at es ids)) ∙ ap (map key_or) (seen es ids all)
-      ∙ sym (keys_at es ids)
+  keys_seen es ids all = sym (map-map key_or Some (entries_at es ids))
+      ∙ ap (map key_or) (seen es ids all) ∙ sym (keys_at es ids)
 
   -- the entry of a number is in its place among them
   pub entry_seen : (es : Entries V) (ids : List ℕ) (at id : ℕ) (e : List ℕ × V) → Within es ids
@@ -194,36 +184,6 @@ abbrev pub Apart : List ℕ → ℕ → ℕ → Type 0
 Apart ids at id = AllByRecursion (λ other. ¬ (other ≡ id)) (take at ids)
     × AllByRecursion (λ other. ¬ (other ≡ id)) (drop (suc at) ids)
 
--- numbers whose texts are in order differ
-module _ (text_of : ℕ → List ℕ) where
-  not_equal : (a b : ℕ) → key_order (text_of a) (text_of b) ≡ Less → ¬ (b ≡ a)
-  not_equal a b less same =
-      not_below (text_of a) (subst (λ n. key_order (text_of a) (text_of n) ≡ Less) same less)
-
-  differ_after : (a : ℕ) (ids : List ℕ)
-      → AllByRecursion (λ t. key_order (text_of a) t ≡ Less) (map text_of ids)
-      → AllByRecursion (λ id. ¬ (id ≡ a)) ids
-  differ_after a [] all = tt
-  differ_after a (id ∷ ids) all = (not_equal a id all.0, differ_after a ids all.1)
-
-  -- one of them is none of the others
-  pub differ : (ids : List ℕ) (at id : ℕ) → slice_get ids at ≡ Some id
-      → IsStrictlySortedBy key_order (map text_of ids) → Apart ids at id
-  unfolding IsStrictlySortedBy
-  differ [] at id is sorted = cc
-  differ (x ∷ ids) zero id is sorted =
-      let here : x ≡ id = cc in (
-        tt,
-        subst (λ x. AllByRecursion (λ other. ¬ (other ≡ x)) ids) here
-            (differ_after x ids sorted.0),
-      )
-  differ (x ∷ ids) (suc at) id is sorted =
-      let rest = differ ids at id is sorted.1 in
-      let seen : Some (text_of id) ≡ slice_get (map text_of ids) at = rw (slice_get-map, is) refl in
-      let below = all_at (λ t. key_order (text_of x) t ≡ Less) (map text_of ids) at (text_of id)
-      sorted.0 seen in
-      (((λ same. not_equal x id below (sym same)), rest.0), rest.1)
-
 -- texts in order are at one index each
 not_earlier : (texts : List (List ℕ)) (i j : ℕ) (text : List ℕ)
     → IsStrictlySortedBy key_order texts → slice_get texts i ≡ Some text
@@ -240,6 +200,31 @@ one_index texts i j text sorted is js = omega (
   not_earlier texts i j text sorted is js,
   not_earlier texts j i text sorted js is,
 )
+
+-- of numbers whose texts are in order none is another
+pub differ : (text_of : ℕ → List ℕ) (ids : List ℕ) (at id : ℕ) → slice_get ids at ≡ Some id
+    → IsStrictlySortedBy key_order (map text_of ids) → Apart ids at id
+differ text_of ids at id is sorted = (
+  recursion_from_All (λ other. ¬ (other ≡ id)) (take at ids) (λ k d less same.
+      let part = rw length-take at less in
+      omega (
+        arith,
+        part,
+        here k d (omega (arith, part)) (sym (get_or-take at ids k d (omega (arith, part))) ∙ same),
+      )),
+  recursion_from_All (λ other. ¬ (other ≡ id)) (drop (suc at) ids) (λ k d less same.
+      let part = rw length-drop at less in
+      omega (
+        arith,
+        part,
+        here (suc at + k) d (omega (arith, part)) (sym (get_or-drop (suc at) ids k d) ∙ same),
+      )),
+)
+  where
+    here : (i d : ℕ) → i < length ids → get_or ids i d ≡ id → i ≡ at
+    here i d within same = one_index (map text_of ids) i at (text_of id) sorted
+        (rw (slice_get-map, slice_get-get_or ids i d within, same) refl)
+        (rw (slice_get-map, is) refl)
 
 pub weaker : {X : Type 0} (P Q : X → Type 0) → ((x : X) → P x → Q x) → (xs : List X)
     → AllByRecursion P xs → AllByRecursion Q xs
@@ -270,7 +255,7 @@ pub numbers_with : (count at : ℕ) (ids : List ℕ) → at ≤ length ids → A
     → AreNumbers (suc count) (insert ids at count)
 numbers_with count at ids within are = record {
   within = all_insert (λ id. id < suc count) at ids count
-      (weaker (λ id. id < count) (λ id. id < suc count) (λ id less. omega (arith, less)) ids
+      (all_weaker (λ id. id < count) (λ id. id < suc count) (λ id less. omega (arith, less)) ids
       are.within) (omega arith);
   all = λ id less. has_with ids at count id (elim (cases_lt id count) [
     | inl old ↦ inr (are.all id old)
@@ -303,27 +288,19 @@ module _ (last id : ℕ) where
   by_cases : (P : ℕ → Type 0) (other : ℕ) → (other ≡ last → P id) → (¬ (other ≡ last) → P other)
       → P (renamed other)
   unfolding chosen renamed
-  by_cases P other same stays = go (cases_eq other last)
-    where
-      go : (c : (other ≡ last) ⊎ (¬ (other ≡ last))) → P (chosen other c)
-      go (inl e) = same e
-      go (inr not) = stays not
+  by_cases P other same stays = elim (cases_eq other last) as (λ c. P (chosen other c)) [
+    | inl e ↦ same e
+    | inr not ↦ stays not
+  ]
 
   kept : (other : ℕ) → ¬ (other ≡ last) → renamed other ≡ other
   kept other not = by_cases (λ n. n ≡ other) other (λ e. absurd (not e)) (λ same. refl)
 
-  -- none changes if the last one stays, or is not among them
-  pub none_renamed : (ids : List ℕ) → id ≡ last → map renamed ids ≡ ids
-  none_renamed [] same = refl
-  none_renamed (x ∷ ids) same =
-      ap (λ n. n ∷ map renamed ids) (by_cases (λ n. n ≡ x) x (λ e. same ∙ sym e) (λ not. refl))
-      ∙ ap (λ ns. x ∷ ns) (none_renamed ids same)
-
-  others_kept : (ids : List ℕ) → AllByRecursion (λ other. ¬ (other ≡ last)) ids
+  -- none changes that is not the last one
+  pub none_renamed : (ids : List ℕ) → AllByRecursion (λ other. ¬ (other ≡ last)) ids
       → map renamed ids ≡ ids
-  others_kept [] apart = refl
-  others_kept (x ∷ ids) apart = ap (λ n. n ∷ map renamed ids) (kept x apart.0)
-      ∙ ap (λ ns. x ∷ ns) (others_kept ids apart.1)
+  none_renamed ids apart = alike renamed (λ n. n) ids
+      (all_weaker (λ n. ¬ (n ≡ last)) (λ n. renamed n ≡ n) kept ids apart) ∙ map-id ids
 
   pub is_renamed : (ids : List ℕ) (at : ℕ) → slice_get ids at ≡ Some last → Apart ids at last
       → set ids at id ≡ map renamed ids
@@ -331,29 +308,31 @@ module _ (last id : ℕ) where
   is_renamed (x ∷ ids) zero is apart =
       let here : x ≡ last = cc in
       ap (λ n. n ∷ ids) (by_cases (λ n. id ≡ n) x (λ e. refl) (λ not. absurd (not here)))
-      ∙ ap (λ ns. renamed x ∷ ns) (sym (others_kept ids apart.1))
+      ∙ ap (λ ns. renamed x ∷ ns) (sym (none_renamed ids apart.1))
   is_renamed (x ∷ ids) (suc at) is apart = ap (λ n. n ∷ set ids at id) (sym (kept x apart.0.0))
       ∙ ap (λ ns. renamed x ∷ ns) (is_renamed ids at is (apart.0.1, apart.1))
 
   -- the others of numbers, of which there was one more than `last`
-  module _ (left : List ℕ) (are : AreOthers (suc last) id left) where
-    pub renamed_seen : {Y : Type 0} (f g : ℕ → Y) → (id < last → f id ≡ g last)
-        → ((other : ℕ) → other < last → ¬ (other ≡ id) → f other ≡ g other) → id < suc last
-        → map f (map renamed left) ≡ map g left
-    renamed_seen f g moved stay within = map-map f renamed left
-        ∙ alike (λ n. f (renamed n)) g left (both (λ n. n < suc last) (λ n. ¬ (n ≡ id))
-        (λ n. f (renamed n) ≡ g n) (λ n less not. by_cases (λ m. f m ≡ g n) n
-        (λ e. moved (not_last id last within (λ same. not (e ∙ sym same))) ∙ ap g (sym e))
-        (λ other. stay n (not_last n last less other) not)) left are.within are.apart)
+  module _ (left : List ℕ) (are : AreOthers (suc last) id left) (within : id < suc last) where
+    each : (P : ℕ → ℕ → Type 0) → (id < last → P last id)
+        → ((other : ℕ) → other < last → ¬ (other ≡ id) → P other other)
+        → AllByRecursion (λ other. P other (renamed other)) left
+    each P moved stays = both (λ n. n < suc last) (λ n. ¬ (n ≡ id)) (λ n. P n (renamed n))
+        (λ n less not. by_cases (P n) n (λ e. subst (λ n. P n id) (sym e)
+        (moved (not_last id last within (λ same. not (e ∙ sym same)))))
+        (λ other. stays n (not_last n last less other) not)) left are.within are.apart
 
-    pub numbers_renamed : id < suc last → AreNumbers last (map renamed left)
-    numbers_renamed within = record {
+    pub renamed_seen : {Y : Type 0} (f g : ℕ → Y) → (id < last → f id ≡ g last)
+        → ((other : ℕ) → other < last → ¬ (other ≡ id) → f other ≡ g other)
+        → map f (map renamed left) ≡ map g left
+    renamed_seen f g moved stays = map-map f renamed left
+        ∙ alike (λ n. f (renamed n)) g left (each (λ n m. f m ≡ g n) moved stays)
+
+    pub numbers_renamed : AreNumbers last (map renamed left)
+    numbers_renamed = record {
       within = recursion_from_All (λ n. n < last) (map renamed left)
           (All-map (λ n. n < last) renamed left (All-from_recursion (λ n. renamed n < last) left
-          (both (λ n. n < suc last) (λ n. ¬ (n ≡ id)) (λ n. renamed n < last)
-          (λ n less not. by_cases (λ m. m < last) n
-          (λ e. not_last id last within (λ same. not (e ∙ sym same)))
-          (λ other. not_last n last less other)) left are.within are.apart)));
+          (each (λ n m. m < last) (λ less. less) (λ n less not. less))));
       all = λ other less. elim (cases_eq other id) [
         | inl same ↦ subst (Has (map renamed left)) (by_cases (λ n. n ≡ other) last
             (λ e. sym same) (λ not. absurd (not refl))) (has_map renamed left last
@@ -373,23 +352,11 @@ module _ {X : Type 0} (xs : List X) (i count : ℕ) (d : X) (all : length xs ≡
   swapped_length = length-take-le (length xs - 1) (set xs i (get_or xs (length xs - 1) d))
       (rw length-set (omega (arith, all))) ∙ omega (arith, all)
 
-  read : (j : ℕ) → j < count
-      → slice_get swapped j ≡ Some (get_or (set xs i (get_or xs count d)) j d)
-  read j less =
-      let end : length xs - 1 ≡ count = omega (arith, all) in
-      slice_get-get_or swapped j d (rw swapped_length less)
-      ∙ ap Some (get_or-take (length xs - 1) (set xs i (get_or xs (length xs - 1) d)) j d
-      (omega (arith, end, less)) ∙ ap (λ k. get_or (set xs i (get_or xs k d)) j d) end)
-
   pub swapped_stays : (j : ℕ) → j < count → ¬ (j ≡ i) → slice_get swapped j ≡ slice_get xs j
-  swapped_stays j less not = read j less
-      ∙ ap Some (get_or-set_other xs i j (get_or xs count d) d not)
-      ∙ sym (slice_get-get_or xs j d (omega (arith, all, less)))
+  swapped_stays j less not = grind (arith, common_steps, gets, not, all)
 
   pub swapped_moves : i < count → slice_get swapped i ≡ slice_get xs count
-  swapped_moves less = read i less
-      ∙ ap Some (get_or-set_same xs i (get_or xs count d) d (omega (arith, all, less)))
-      ∙ sym (slice_get-get_or xs count d (omega (arith, all)))
+  swapped_moves less = grind (arith, common_steps, gets, all)
 
 pub swapped_seen : {A B : Type 0} (f : A → B) (xs : List A) (i : ℕ) (d : A)
     → map f (swap_remove xs i d) ≡ swap_remove (map f xs) i (f d)

@@ -3,7 +3,8 @@ use Rattle.std.proofs.Common.{arith, ◌≡◌, ℕ, zero, suc, ◌+◌, ◌-◌
 use Rattle.std.specs.Prelude.{Err, IfOk, Ok, OnErr, OnOk, Result, slice_get}
 use Rattle.std.proofs.lemmas.Bool.{cases_lt}
 use Rattle.std.proofs.lemmas.List.{append-nil, length-append, length-drop, length-map, length-take-le, map-append, take-append-drop}
-use Rattle.std.proofs.lemmas.Option.{slice_get-map, slice_get_within}
+use Rattle.std.proofs.lemmas.Map.Keys.{Less-from_sorted}
+use Rattle.std.proofs.lemmas.Option.{get_or_from_slice_get, slice_get-map, slice_get_within}
 use Rattle.std.specs.List.{AllByRecursion, insert}
 use Rattle.std.specs.List.Sorted.{IsStrictlySortedBy}
 use Rattle.std.specs.declared.alloc.AllocError.{AllocError}
@@ -45,18 +46,15 @@ module _ (text_of : ℕ → List ℕ) where
   in_order : (ids : List ℕ) (i j x y : ℕ) → IsStrictlySortedBy key_order (map text_of ids) → i < j
       → slice_get ids i ≡ Some x → slice_get ids j ≡ Some y
       → key_order (text_of x) (text_of y) ≡ Less
-  unfolding IsStrictlySortedBy
-  in_order [] i j x y sorted less first second = cc
-  in_order (id ∷ ids) zero zero x y sorted less first second = absurd (omega (arith, less))
-  in_order (id ∷ ids) zero (suc j) x y sorted less first second =
-      let same : id ≡ x = cc in
-      let seen : Some (text_of y) ≡ slice_get (map text_of ids) j
-      = rw (slice_get-map, second) refl in
-      rw (← same) (all_at (λ t. key_order (text_of id) t ≡ Less) (map text_of ids) j (text_of y)
-      sorted.0 seen)
-  in_order (id ∷ ids) (suc i) zero x y sorted less first second = absurd (omega (arith, less))
-  in_order (id ∷ ids) (suc i) (suc j) x y sorted less first second =
-      in_order ids i j x y sorted.1 (omega (arith, less)) first second
+  in_order ids i j x y sorted less first second =
+      let texts = map text_of ids in
+      let one : slice_get texts i ≡ Some (text_of x) = rw (slice_get-map, first) refl in
+      let other : slice_get texts j ≡ Some (text_of y) = rw (slice_get-map, second) refl in
+      rw (
+        get_or_from_slice_get texts i (text_of x) [] one,
+        get_or_from_slice_get texts j (text_of y) [] other,
+      ) at (Less-from_sorted key_order texts i j
+      [] sorted less (slice_get_within texts j (text_of y) other))
 
   -- the first ids of runs after an id are above it
   pub firsts_above : (x : ℕ) (front : List ℕ) (ids : List ℕ) (runs : List Run) (i : ℕ)
