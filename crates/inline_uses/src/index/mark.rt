@@ -60,12 +60,12 @@ fn bits_of_few(bytes: &[u8]) -> u64
 pub(super) fn compare<T: Texts>(texts: &T, mark: &Mark, bits: u64, text: &str) -> Ordering
     ensures { result ≡ mark_order (T.text_of texts.now) bits text.now mark.now }
 {
-    if mark.bits < bits {
-        Ordering::Less
-    } else if bits < mark.bits {
-        Ordering::Greater
-    } else {
+    if mark.bits == bits {
         compare_texts(texts.text(mark.id), text)
+    } else if mark.bits < bits {
+        Ordering::Less
+    } else {
+        Ordering::Greater
     }
 }
 
