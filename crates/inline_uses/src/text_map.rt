@@ -212,7 +212,7 @@ fn search<V>(entries: &Vec<(InlinableString, V)>, order: &Index, key: &str) -> R
 
 /// Inserts a key that has no entry, whose entry is then the last one. Fails only if an allocation
 /// does; the entries are then unchanged, and the value comes back.
-#[inline]
+#[inline(always)]
 fn insert<V>(
     alloc: Global,
     entries: &mut Vec<(InlinableString, V)>,
