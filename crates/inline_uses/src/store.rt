@@ -26,7 +26,7 @@ pub type Entry = (InlinableString, InlinableString);
 /// least an eighth of their number. A contract sees the list of the keys with their values, each as
 /// its bytes.
 ///
-/// For a thousand keys or more a [`TextMap`](crate::text_map::TextMap) is faster.
+/// For a hundred keys or more a [`TextMap`](crate::text_map::TextMap) is faster.
 #[derive(Drop)]
 pub struct Store {
     alloc: Global,
