@@ -113,8 +113,8 @@ module _ {V : Type 0} {items : List (InlinableStringN 30 × V)} {order : Index} 
 
     pub value_left : {x : InlinableStringN 30 × V} → x ≡ get_or items id x
         → Some x.1 ≡ value_of view key
-    value_left {x} read = ap (λ e. Some e.1) (read_entry items id x (key, found.value) found.entry read)
-        ∙ sym found.known
+    value_left {x} read = ap (λ e. Some e.1)
+        (read_entry items id x (key, found.value) found.entry read) ∙ sym found.known
 
     -- the number goes out of the index
     pub others_left : (left : Index) → ids_in left ≡ remove (ids_in order) at

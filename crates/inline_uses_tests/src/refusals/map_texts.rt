@@ -1,5 +1,5 @@
-//! The requests of what makes a map of texts something else: a store, the bytes of a JSON object, and
-//! back.
+//! The requests of what a map of texts becomes, a store or the bytes of a JSON object, and of what
+//! reads one.
 use super::{prepare, tell};
 use inlinable_string::{InlinableString, StringExt};
 use inline_uses::store::Store;
