@@ -3,7 +3,7 @@
 ghost use Rattle.std.specs.Prelude.{◌≡◌, ◌↔◌, ◌+◌, ◌-◌, ◌^◌, ℕ, min, length, [], Some, None, IfOk, IfSome, IfNone, OnOk, OnErr, IsSome, IsTrue, slice_get};
 ghost use Rattle.std.specs.Option.{unwrap_or};
 ghost use Rattle.inline_uses.specs.Editor.{text_of};
-ghost use Rattle.inline_uses.specs.Store.{with_value};
+ghost use Rattle.inline_uses.specs.Store.{value_of as text_under, with_value};
 ghost use Rattle.inline_uses.specs.TextMap.{deref_entry, entries_between, value_of, with_value as with_entry, without as without_entry};
 
 use crate::editor::Line;
@@ -29,6 +29,7 @@ pub fn intern_both(
 
 /// Puts a value under a key that has none, and returns whether it had none.
 pub fn put_if_new(store: &mut Store, key: &str, value: &str) -> Result<bool, AllocError>
+    ensures answer { IfOk result (λ new. IsTrue new ↔ (text_under store.old key.now ≡ None)) }
     ensures new { IfOk result (λ new. IsTrue new
         → store.new ≡ with_value store.old key.now value.now) }
     ensures known { IfOk result (λ new. ¬ (IsTrue new) → store.new ≡ store.old) }
@@ -71,6 +72,7 @@ pub fn count_text(map: &mut TextMap<u64>, text: &str) -> Result<(), AllocError>
 
 /// Puts a number under a key that has none, and returns whether it had none.
 pub fn put_first(map: &mut TextMap<u64>, key: &str, number: u64) -> Result<bool, AllocError>
+    ensures answer { IfOk result (λ new. IsTrue new ↔ (value_of map.old key.now ≡ None)) }
     ensures new { IfOk result (λ new. IsTrue new
         → map.new ≡ with_entry map.old key.now number) }
     ensures known { IfOk result (λ new. ¬ (IsTrue new) → map.new ≡ map.old) }
