@@ -143,6 +143,46 @@ module _ (index : Index) where
     later_start runs b.run a.run (grind (arith, earlier.0, earlier.1)),
   )
 
+-- the number of ids in the runs from that of one place on up to another, and before an end
+abbrev pub IsCounted : Index → Spot → Spot → ℕ → ℕ → Type 0
+IsCounted index from end k count = (from.run ≤ k) × (k ≤ end.run)
+    × (count + length (flat (take from.run (runs_of index)))
+    ≡ end.at + length (flat (take k (runs_of index))))
+
+-- in all of these runs it is the number between the places
+pub counted_all : (index : Index) (from end : Spot) (k count : ℕ)
+    → IsCounted index from end k count → end.run ≤ k
+    → count - from.at ≡ index_of index end - index_of index from
+counted_all index from end k count is all =
+    let last : k ≡ end.run = omega (arith, is.1, all) in
+    let sum = rw last at is.2 in
+    omega (arith, sum)
+
+module _ (index : Index) (from end : Spot) (k count : ℕ) (run : Run)
+    (is : IsCounted index from end k count) (some : k < end.run)
+    (there : slice_get (runs_of index) k ≡ Some run)
+  where
+    held : length (ids_at (runs_of index) k) ≡ length (ids_of run)
+    held = ap length (ids_at_is (runs_of index) k run there)
+
+    pub counted_more : IsCounted index from end (k + 1) (count + length (ids_of run))
+    counted_more =
+        let next : k + 1 ≡ suc k = omega arith in
+        rw next (
+          omega (arith, is.0),
+          omega (arith, some),
+          omega (arith, is.2, next_start (runs_of index) k, held),
+        )
+
+    pub counted_within : IsPlace index end → count + length (ids_of run) ≤ length (ids_in index)
+    counted_within place = omega (
+      arith,
+      is.2,
+      held,
+      later_start (runs_of index) k end.run some,
+      within_all index end place,
+    )
+
 -- what is between two indices of a list begins with what is at the first
 first_between : {X : Type 0} (xs : List X) (i j : ℕ) (x : X) → i < j → slice_get xs i ≡ Some x
     → take (j - i) (drop i xs) ≡ x ∷ take (j - (i + 1)) (drop (i + 1) xs)

@@ -97,7 +97,7 @@ pub fn take(map: &mut TextMap<u64>, key: &str) -> u64
 pub fn count_between(map: &TextMap<u64>, from: &str, to: &str) -> usize
     ensures { result ≡ length (entries_between map.now from.now to.now) }
 {
-    map.range(from, to).count()
+    map.range(from, to).len()
 }
 
 /// Returns the number of all keys, one after the other.

@@ -1,5 +1,5 @@
 //! Going over ids in the order of their texts.
-ghost use Rattle.std.specs.Prelude.{◌≡◌, ◌≤◌, ◌<◌, ◌+◌, ℕ, [], map, length, slice_index_or, true, false, IfSome, IfNone};
+ghost use Rattle.std.specs.Prelude.{◌≡◌, ◌≤◌, ◌<◌, ◌+◌, ◌-◌, ◌^◌, ℕ, [], map, length, slice_index_or, true, false, IfSome, IfNone};
 ghost use Rattle.std.specs.Ordering.{is_gt};
 ghost use Rattle.inline_uses.specs.Symbols.{key_order};
 ghost use Rattle.inline_uses.specs.Index.{HaveFirsts, IsAt, IsIndex, IsPlace, ids_in, ids_of, index_of};
@@ -120,5 +120,22 @@ impl Index {
             run: spot.run,
             at: len.min(spot.at.saturating_add(1)),
         }
+    }
+
+    /// Returns the number of ids from a place on up to another, 0 if that is not after it.
+    pub(crate) fn count_between(&self, from: Spot, end: Spot) -> usize
+        requires from { IsPlace self.now from }
+        requires end { IsPlace self.now end }
+        requires fits { length (ids_in self.now) < 2 ^ 64 }
+        ensures { result ≡ index_of self.now end - index_of self.now from }
+    {
+        if end.run < from.run {
+            return 0;
+        }
+        let mut count = end.at;
+        for run in from.run..end.run {
+            count += self.run(run).len();
+        }
+        count.saturating_sub(from.at)
     }
 }

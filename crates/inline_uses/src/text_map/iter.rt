@@ -82,3 +82,10 @@ impl<'a, V> DoubleEndedIterator for Iter<'a, V> {
         Some((&entry.0, &entry.1))
     }
 }
+
+/// The length is found by the runs of the index between both ends, without going over the entries.
+impl<'a, V> ExactSizeIterator for Iter<'a, V> {
+    fn len(&self) -> usize {
+        self.order.count_between(self.next, self.end)
+    }
+}

@@ -60,7 +60,7 @@ fn add_found(
         digest.add_found_text(text_of(map.get(&key)));
         if number % 16 == 0 {
             names.write((number as u64).wrapping_add(1), &mut end)?;
-            digest.add(map.range(&key, &end).count());
+            digest.add(map.range(&key, &end).len());
         }
     }
     Ok(())
