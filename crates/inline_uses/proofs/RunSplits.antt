@@ -12,7 +12,6 @@ use Rattle.inline_uses.specs.Index.{HaveFirsts, IsChanged, IsIndex, IsOrdered, I
 use Rattle.inline_uses.specs.Symbols.{key_order, IsGap}
 use Rattle.inline_uses.specs.declared.index.Index.{Index}
 use Rattle.inline_uses.specs.declared.index.Spot.{Spot}
-use Rattle.inline_uses.specs.declared.index.TheConstants.{HALF}
 use Rattle.inline_uses.specs.declared.index.run.Run.{Run}
 use Rattle.inline_uses.proofs.Gaps.{AreAbove, AreBelow, gap_between}
 use Rattle.inline_uses.proofs.InRuns.{IsReplaced, flat, have_length, ids_at_is, in_flat, past_append, sorted_rest}
@@ -129,12 +128,13 @@ module _ {text_of : ℕ → List ℕ} {before after : Index} {at : ℕ} {old low
       changed = changed;
     }
 
-    pub split_made : (r : Result Run AllocError) → OnOk r (ids_of lower ≡ take HALF (ids_of old))
-        → IfOk r (λ upper. ids_of upper ≡ drop HALF (ids_of old)) → IfOk r (IsOrdered text_of)
-        → IfOk r (IsSplit text_of before after at)
-    split_made (Ok upper) low high is =
-        record { lower = lower_changed (take HALF) low; ordered = is; rest = high }
-    split_made (Err e) low high is = tt
+    pub split_made : (kept : ℕ) (r : Result Run AllocError)
+        → OnOk r (ids_of lower ≡ take kept (ids_of old))
+        → IfOk r (λ upper. ids_of upper ≡ drop kept (ids_of old)) → IfOk r (IsOrdered text_of)
+        → IfOk r (IsSplit text_of before after at kept)
+    split_made kept (Ok upper) low high is =
+        record { lower = lower_changed (take kept) low; ordered = is; rest = high }
+    split_made kept (Err e) low high is = tt
 
     pub split_failed : (r : Result Run AllocError) → OnErr r (ids_of lower ≡ ids_of old)
         → OnErr r (IsChanged text_of before after at (λ ids. ids))
@@ -148,11 +148,11 @@ pub record IsRoomy (text_of : ℕ → List ℕ) (before roomy after : Index) : T
   pub starts : ids_of after.starts ≡ ids_of before.starts
   pub ordered : IsOrdered text_of after.starts
 
--- an index has the ids of another, and its spot where the old one was, in one of two halves
+-- an index has the ids of another, and its spot where the old one was, in one of two parts
 pub record IsMoved (text_of : ℕ → List ℕ) (before after : Index) (old new : Spot) : Type 0 where
   pub index : IsIndex text_of after
   pub ids : ids_in after ≡ ids_in before
-  pub room : 256 - HALF ≡ HALF → length (ids_at (runs_of after) new.run) ≡ HALF
+  pub room : length (ids_at (runs_of after) new.run) < 256
   pub spot : IsSpot after new
   pub at : index_of after new ≡ index_of before old
 
@@ -182,8 +182,9 @@ module _ {text_of : ℕ → List ℕ} {index roomy parted : Index}
         to.old to.new ready.index.firsts (replaced to).there
         (λ past id here. ap (λ ids. slice_get ids 0) to.changed ∙ here)))
 
-    module _ {spot : Spot} {upper : Run} (full : length (ids_at (runs_of index) spot.run) ≡ 256)
-        (spot_is : IsSpot index spot) (split : IsSplit text_of roomy parted spot.run upper)
+    module _ {spot : Spot} {kept : ℕ} {upper : Run} (some : 0 < kept) (less : kept < 256)
+        (full : length (ids_at (runs_of index) spot.run) ≡ 256) (spot_is : IsSpot index spot)
+        (split : IsSplit text_of roomy parted spot.run kept upper)
       where
         abbrev old : Run
         old = split.lower.old
@@ -197,23 +198,23 @@ module _ {text_of : ℕ → List ℕ} {index roomy parted : Index}
         count : length (ids_of old) ≡ 256
         count = rw (ids_at_is (runs_of index) spot.run old to.there) at full
 
-        lower_count : length (ids_of lower) ≡ HALF
+        lower_count : length (ids_of lower) ≡ kept
         lower_count = ap length split.lower.changed
-            ∙ length-take-le HALF (ids_of old) (omega (arith, count))
+            ∙ length-take-le kept (ids_of old) (omega (arith, count, less))
 
-        upper_count : length (ids_of upper) ≡ 256 - HALF
+        upper_count : length (ids_of upper) ≡ 256 - kept
         upper_count = rw (split.rest, length-drop) (omega (arith, count))
 
         -- the upper part has a first id, whose text goes among those of the others
         pub upper_some : 0 < length (ids_of upper)
-        upper_some = omega (arith, upper_count)
+        upper_some = omega (arith, upper_count, less)
 
         pub upper_gap : {first : ℕ} → slice_get (ids_of upper) 0 ≡ Some first
             → IsGap (map text_of (ids_of parted.starts)) (text_of first) spot.run
         upper_gap {first} next = rw ready.starts
-            (start_gap text_of first HALF (ids_of index.starts) (runs_of index) spot.run old
+            (start_gap text_of first kept (ids_of index.starts) (runs_of index) spot.run old
             ready.index.sorted ready.index.firsts to.there
-            (sym (first_of_rest (ids_of old) HALF) ∙ rw split.rest at next) (omega arith)
+            (sym (first_of_rest (ids_of old) kept) ∙ rw split.rest at next) some
             (rw (have_length (ids_of index.starts) index.later.items ready.index.firsts)
             spot_is.run))
 
@@ -222,12 +223,12 @@ module _ {text_of : ℕ → List ℕ} {index roomy parted : Index}
             (subst (λ rs. HaveFirsts (ids_of index.starts) (drop 1 rs)) (sym to.runs)
             (other_firsts_set (ids_of index.starts) (runs_of index) spot.run old lower
             ready.index.firsts to.there (λ past id here. ap (λ ids. slice_get ids 0)
-            split.lower.changed ∙ first_of_front (ids_of old) HALF (omega arith) ∙ here)))
+            split.lower.changed ∙ first_of_front (ids_of old) kept some ∙ here)))
 
         -- where the ids of runs are after the one at k is split
         abbrev Parts : List Run → ℕ → List Run → Type 0
         Parts runs k rs = (flat rs ≡ flat runs) × (flat (take k rs) ≡ flat (take k runs))
-            × (length (flat (take (suc k) rs)) ≡ length (flat (take k runs)) + HALF)
+            × (length (flat (take (suc k) rs)) ≡ length (flat (take k runs)) + kept)
             × (ids_at rs k ≡ ids_of lower) × (ids_at rs (suc k) ≡ ids_of upper)
             × (length rs ≡ suc (length runs))
 
@@ -237,11 +238,11 @@ module _ {text_of : ℕ → List ℕ} {index roomy parted : Index}
         parts_are (r ∷ runs) zero is =
             let same : r ≡ old = cc in
             let whole : ids_of lower ++ ids_of upper ≡ ids_of r
-            = rw (split.lower.changed, split.rest, same) (take-append-drop HALF (ids_of old)) in (
+            = rw (split.lower.changed, split.rest, same) (take-append-drop kept (ids_of old)) in (
               sym (append_assoc (ids_of lower) (ids_of upper) (flat runs))
                   ∙ ap (λ ids. ids ++ flat runs) whole,
               refl,
-              rw (append-nil, lower_count) refl,
+              rw (append-nil, lower_count) (omega arith),
               refl,
               refl,
               refl,
@@ -256,14 +257,14 @@ module _ {text_of : ℕ → List ℕ} {index roomy parted : Index}
               ap suc rest.5,
             )
 
-        -- with the upper part as a run, the spot is in one of the halves
+        -- with the upper part as a run, the spot is in one of the parts
         module _ (after : Index) (moved : Spot) (first : ℕ)
             (same : after.first ≡ parted.first)
             (more : after.later.items ≡ insert parted.later.items spot.run upper)
             (ids : ids_of after.starts ≡ insert (ids_of parted.starts) spot.run first)
             (ordered : IsOrdered text_of after.starts)
-            (next : slice_get (ids_of upper) 0 ≡ Some first) (stays : spot.at ≤ HALF → moved ≡ spot)
-            (moves : HALF < spot.at → (moved.run ≡ spot.run + 1) × (moved.at + HALF ≡ spot.at))
+            (next : slice_get (ids_of upper) 0 ≡ Some first) (stays : spot.at ≤ kept → moved ≡ spot)
+            (moves : kept < spot.at → (moved.run ≡ spot.run + 1) × (moved.at + kept ≡ spot.at))
           where
             all : runs_of after ≡ insert (set (runs_of index) spot.run lower) (suc spot.run) upper
             all = rw (same, more) (ap (λ rs. insert rs (suc spot.run) upper) to.runs)
@@ -278,32 +279,32 @@ module _ {text_of : ℕ → List ℕ} {index roomy parted : Index}
                 (all_insert P (suc spot.run) (set (runs_of index) spot.run lower) upper
                 (all_set P (runs_of index) spot.run lower is low) high)
 
-            half_moved : (256 - HALF ≡ HALF → length (ids_at (runs_of after) moved.run) ≡ HALF)
+            part_moved : (length (ids_at (runs_of after) moved.run) < 256)
                 × IsSpot after moved × (index_of after moved ≡ index_of index spot)
-            half_moved =
+            part_moved =
                 let within = slice_get_within (runs_of index) spot.run old to.there in
-                elim (cases_lt HALF spot.at) [
-                  | inl less ↦
-                      let by = moves less in
+                elim (cases_lt kept spot.at) [
+                  | inl past ↦
+                      let by = moves past in
                       let run = by.0 ∙ add-one spot.run in
-                      let half : length (ids_at (runs_of after) moved.run) ≡ 256 - HALF
+                      let part : length (ids_at (runs_of after) moved.run) ≡ 256 - kept
                       = rw (run, parts.4) upper_count in (
-                        (λ even. half ∙ even),
+                        omega (arith, part, some),
                         record {
                           run = omega (arith, within, run, parts.5);
-                          within = rw half (omega (arith, by.1, spot_is.within, full));
-                          after = λ past. omega (arith, less, by.1);
+                          within = rw part (omega (arith, by.1, spot_is.within, full));
+                          after = λ later. omega (arith, past, by.1);
                         },
                         rw (run, parts.2) (omega (arith, by.1)),
                       )
                   | inr le ↦
-                      let half : length (ids_at (runs_of after) spot.run) ≡ HALF
+                      let part : length (ids_at (runs_of after) spot.run) ≡ kept
                       = rw parts.3 lower_count in
                       rw (stays le) (
-                        (λ even. half),
+                        omega (arith, part, less),
                         record {
                           run = omega (arith, within, parts.5);
-                          within = rw half le;
+                          within = rw part le;
                           after = spot_is.after;
                         },
                         rw parts.1 refl,
@@ -316,14 +317,14 @@ module _ {text_of : ℕ → List ℕ} {index roomy parted : Index}
                 sorted = subst (λ ids. IsStrictlySortedBy key_order (map text_of ids))
                     (sym parts.0) ready.index.sorted;
                 runs = each (IsOrdered text_of) ready.index.runs split.lower.ordered split.ordered;
-                short = each IsShort ready.index.short (omega (arith, lower_count))
+                short = each IsShort ready.index.short (omega (arith, lower_count, less))
                     (omega (arith, upper_count));
                 starts = ordered;
                 firsts = rw (ids, more) (firsts_insert (ids_of parted.starts) parted.later.items
                     spot.run first upper firsts_stay next);
               };
               ids = parts.0;
-              room = half_moved.0;
-              spot = half_moved.1;
-              at = half_moved.2;
+              room = part_moved.0;
+              spot = part_moved.1;
+              at = part_moved.2;
             }

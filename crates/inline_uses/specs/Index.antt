@@ -11,7 +11,6 @@ use Rattle.std.specs.List.Sorted.{IsStrictlySortedBy}
 use Rattle.std.specs.Ordering.{match_ordering, nat_cmp}
 use Rattle.inline_uses.specs.declared.index.Index.{Index}
 use Rattle.inline_uses.specs.declared.index.Spot.{Spot}
-use Rattle.inline_uses.specs.declared.index.TheConstants.{HALF}
 use Rattle.inline_uses.specs.declared.index.mark.Mark.{Mark}
 use Rattle.inline_uses.specs.declared.index.run.Run.{Run}
 use Rattle.inline_uses.specs.contracts.index.Index.{the_row as index_row}
@@ -132,12 +131,12 @@ pub record IsChanged (text_of : ℕ → List ℕ) (before after : Index) (at : �
   pub ordered : IsOrdered text_of new
   pub changed : ids_of new ≡ ids (ids_of old)
 
--- the upper half of a run is a run of its own
-pub record IsSplit (text_of : ℕ → List ℕ) (before after : Index) (at : ℕ) (upper : Run)
+-- a run keeps its first ids, and the others are a run of their own
+pub record IsSplit (text_of : ℕ → List ℕ) (before after : Index) (at kept : ℕ) (upper : Run)
     : Type 0 where
-  pub lower : IsChanged text_of before after at (take HALF)
+  pub lower : IsChanged text_of before after at (take kept)
   pub ordered : IsOrdered text_of upper
-  pub rest : ids_of upper ≡ drop HALF (ids_of lower.old)
+  pub rest : ids_of upper ≡ drop kept (ids_of lower.old)
 
 -- an index with another run instead of one
 abbrev pub with_run : Index → ℕ → Run → Index

@@ -36,6 +36,9 @@ const FULL: usize = 256;
 /// How many ids of a full run stay in it when it is split.
 const HALF: usize = 128;
 
+/// How many stay in the first run when it is split for an id before all others.
+const FEW: usize = 32;
+
 /// Ids in the order of their texts.
 #[derive(Drop)]
 pub(crate) struct Index {
@@ -127,7 +130,7 @@ impl Index {
         if self.run(spot.run).len() < FULL {
             return self.insert_at(texts, spot, id);
         }
-        let spot = self.split(texts, spot)?;
+        let spot = self.split(texts, spot, spot.kept())?;
         self.insert_at(texts, spot, id)
     }
 
@@ -149,38 +152,41 @@ impl Index {
 
     /// Splits the run of a spot, which is full, and returns where the spot is then. Fails only if
     /// an allocation does; the ids are unchanged in either case.
-    fn split<T: Texts>(&mut self, texts: &T, spot: Spot) -> Result<Spot, AllocError>
+    fn split<T: Texts>(&mut self, texts: &T, spot: Spot, kept: usize) -> Result<Spot, AllocError>
+        requires some { 0 < kept }
+        requires not_all { kept < FULL }
         requires full { length (ids_at (runs_of self.old) spot.run) ≡ 256 }
         requires index { IsIndex (T.text_of texts.now) self.old }
         requires spot { IsSpot self.old spot }
         ensures index { IsIndex (T.text_of texts.now) self.new }
         ensures ids { ids_in self.new ≡ ids_in self.old }
-        ensures room { IfOk result (λ moved. length (ids_at (runs_of self.new) moved.run) ≡ HALF) }
+        ensures room { IfOk result (λ moved. length (ids_at (runs_of self.new) moved.run) < FULL) }
         ensures spot { IfOk result (IsSpot self.new) }
         ensures at { IfOk result (λ moved. index_of self.new moved ≡ index_of self.old spot) }
     {
         self.later.reserve(1)?;
         self.starts.reserve()?;
-        let upper = self.split_run(texts, spot.run)?;
+        let upper = self.split_run(texts, spot.run, kept)?;
         self.starts.put(texts, spot.run, upper.id(0));
         insert_run(&mut self.later, spot.run, upper);
-        Ok(spot.after_split())
+        Ok(spot.after_split(kept))
     }
 
-    /// Moves the upper half of a full run into a run of its own. Fails only if an allocation does;
-    /// the ids are then unchanged.
-    fn split_run<T: Texts>(&mut self, texts: &T, at: usize) -> Result<Run, AllocError>
+    /// Moves the ids of a full run but this many into a run of their own. Fails only if an
+    /// allocation does; the ids are then unchanged.
+    fn split_run<T: Texts>(&mut self, texts: &T, at: usize, kept: usize) -> Result<Run, AllocError>
+        requires not_all { kept < FULL }
         requires within { at ≤ length self.old.later.items }
         requires runs { AllByRecursion (IsOrdered (T.text_of texts.now)) (runs_of self.old) }
         requires full { length (ids_at (runs_of self.old) at) ≡ 256 }
         ensures len { vec_len self.new.later ≡ vec_len self.old.later }
         ensures capacity { vec_capacity self.new.later ≡ vec_capacity self.old.later }
         ensures starts { self.new.starts ≡ self.old.starts }
-        ensures ok { IfOk result (IsSplit (T.text_of texts.now) self.old self.new at) }
+        ensures ok { IfOk result (IsSplit (T.text_of texts.now) self.old self.new at kept) }
         ensures err { OnErr result
             (IsChanged (T.text_of texts.now) self.old self.new at (λ ids. ids)) }
     {
-        self.run_mut(at).split(texts, HALF)
+        self.run_mut(at).split(texts, kept)
     }
 
     /// Returns the ids in the order of their texts, in a row with room for this many. Fails only if
@@ -207,19 +213,33 @@ fn insert_run(runs: &mut Vec<Run>, at: usize, run: Run)
 }
 
 impl Spot {
-    /// Returns where a spot of a run is after the run is split.
-    fn after_split(self) -> Spot
-        requires { self.run + 1 < 2 ^ 64 }
-        ensures lower { self.at ≤ HALF → result ≡ self }
-        ensures upper { HALF < self.at
-            → (result.run ≡ self.run + 1) × (result.at + HALF ≡ self.at) }
+    /// Returns how many ids a full run keeps when it is split for an id that goes here: half of
+    /// them, but few where that goes before all others. Ids in falling order all go there, and the
+    /// shorter the first run is, the fewer ids they move.
+    fn kept(self) -> usize
+        ensures least { 0 < result }
+        ensures first { self.run ≡ 0 → self.at ≡ 0 → result ≡ 32 }
+        ensures other { (self.run ≡ 0 → 0 < self.at) → result + result ≡ FULL }
     {
-        if self.at <= HALF {
+        if self.run == 0 && self.at == 0 {
+            return FEW;
+        }
+        HALF
+    }
+
+    /// Returns where a spot of a run is after the run is split, and keeps this many ids.
+    fn after_split(self, kept: usize) -> Spot
+        requires { self.run + 1 < 2 ^ 64 }
+        ensures lower { self.at ≤ kept → result ≡ self }
+        ensures upper { kept < self.at
+            → (result.run ≡ self.run + 1) × (result.at + kept ≡ self.at) }
+    {
+        if self.at <= kept {
             return self;
         }
         Spot {
             run: self.run + 1,
-            at: self.at - HALF,
+            at: self.at - kept,
         }
     }
 }

@@ -73,7 +73,7 @@ fn a_long_fifth_text(rt: HostRuntime) -> Result<(), Fail> {
 
 /// 256 texts request room for texts seven times, from 4 to 256, and as often for marks. The next
 /// requests more for texts, and splits the run: that requests room for later runs, for the first
-/// ids of these, and for the marks of the second run. The lower half keeps the room of all.
+/// ids of these, and for the marks of the second run. What stays in the first run keeps its room.
 #[test]
 fn a_text_that_splits_a_run(rt: HostRuntime) -> Result<(), Fail> {
     assert_interned(&rt, rt.alloc(), (256, 14, LEAST, 4))

@@ -12,7 +12,7 @@ pub split-requires-clause-within : goal.split-requires-clause-within
 split-requires-clause-within g c =
     let full = rw (ids_at_is (runs_of c.args.self.now) c.args.at c.run_mut.result.now
     c.run_mut.ensures.value) at c.requires.full in
-    omega (arith, full)
+    omega (arith, full, c.requires.not_all)
 
 -- the run at the index is another
 replaced : (g : Over) → (c : After-run_mut g) → (new : Run) → IsReplaced c.args.self.now
@@ -25,7 +25,7 @@ replaced g c new = record {
 pub returns-clause-ok : goal.returns-clause-ok
 returns-clause-ok g c =
     split_made (replaced g (goal.at.returns-clause-ok g c).After-run_mut c.split.new.self)
-    c.split.ensures.run c.split.result c.split.ensures.lower c.split.ensures.upper
+    c.split.ensures.run c.args.kept c.split.result c.split.ensures.lower c.split.ensures.upper
     c.split.ensures.upper_run
 
 pub returns-clause-err : goal.returns-clause-err
