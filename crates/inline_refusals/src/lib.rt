@@ -1,5 +1,5 @@
-//! Tests with each request for memory refused in turn: of calls, of runs with the plain program of
-//! `inline_model` beside them, and of scripts. And tests of scripts whose reads or writes fail.
+//! Tests with each request for memory refused in turn: of calls, of runs, and of scripts. And tests
+//! of scripts whose reads or writes fail.
 #![tactic(auto)]
 
 #[cfg(test)]

@@ -1,12 +1,9 @@
-//! Boxed texts of unlike types by `run_each`, with the plain program beside each, and the trait by
-//! reference.
+//! Boxed texts of unlike types by `run_each`, and the trait by reference.
 ghost use Rattle.std.specs.Prelude.{◌≡◌, length};
 
-use crate::beside::{is_agreed, plain_start};
 use crate::held::Memory::{self, Ample, Held};
 use crate::held::hold;
 use crate::kinds::Kind::{self, Array, Boxable, Own, String as OfString};
-use crate::kinds::{Made, policy_of};
 use crate::player::Wrong;
 use crate::texts::{assert_text, text_of};
 use Storage::{Heap, Inline};
@@ -14,8 +11,6 @@ use inlinable_string::run::Command::{self, Pop, Push, PushStr, Remove, Truncate}
 use inlinable_string::run::Reply::{self, BadPlace, Char, Done, NoChar, NoMemory, NotUtf8};
 use inlinable_string::run::run_each;
 use inlinable_string::{BoxableString, InlinableString, Storage, StringExt};
-use inline_model::plain::room::PlainText;
-use inline_model::verdict::seen_of_dyn;
 use std::alloc::Global;
 use std::process::Abort;
 use test_support::letters::{LETTERS_29 as A29, LETTERS_30 as A30};
@@ -54,18 +49,6 @@ fn boxed(rt: &impl Abort, alloc: Global, kind: Kind, room: Option<usize>, start:
     }
 }
 
-fn made_of(row: &BoxedRow) -> Made {
-    let limit = match row.0 {
-        Kind::Array => 8,
-        _ => 30,
-    };
-    Made {
-        kind: row.0,
-        limit,
-        room: row.1,
-    }
-}
-
 /// Makes the texts, and gives each list to them in turn. Answers the number of the first list that
 /// is wrong, and what is.
 pub fn wrong_list(
@@ -98,11 +81,6 @@ fn wrong_after(
     memory: Memory,
     commands: &[Command],
 ) -> Option<Wrong> {
-    let mut starts: Vec<PlainText> = Vec::new(alloc);
-    for (text, row) in texts.iter().zip(rows) {
-        let start = plain_start(rt, alloc, seen_of_dyn(&**text), policy_of(made_of(row)));
-        starts.push(start).expect(rt, "memory");
-    }
     // No text here has this reply.
     let mut room = [NotUtf8; 16];
     let count = texts
@@ -114,11 +92,11 @@ fn wrong_after(
     run_each(texts, commands, &mut room[..count]);
     drop(hoard);
     let mut first = 0usize;
-    for ((start, text), row) in starts.into_iter().zip(texts.iter()).zip(rows) {
+    for (text, row) in texts.iter().zip(rows) {
         let next = first.saturating_add(commands.len());
         let replies = room.get(first..next).expect(rt, "replies of its own");
         let end = row.3.get(list).expect(rt, "an end for each list");
-        let wrong = wrong_end(rt, alloc, start, &**text, commands, replies, *end);
+        let wrong = wrong_end(&**text, replies, *end);
         if wrong.is_some() {
             return wrong;
         }
@@ -129,11 +107,7 @@ fn wrong_after(
 
 /// What is wrong with a text and its replies after a list.
 fn wrong_end(
-    rt: &impl Abort,
-    alloc: Global,
-    start: PlainText,
     text: &dyn StringExt,
-    commands: &[Command],
     replies: &[Reply],
     (wanted, content, storage): (&[Reply], &str, Storage),
 ) -> Option<Wrong> {
@@ -143,8 +117,6 @@ fn wrong_end(
         Some(Wrong::Text)
     } else if text.storage() != storage {
         Some(Wrong::Storage)
-    } else if !is_agreed(rt, alloc, start, commands, replies, seen_of_dyn(text)) {
-        Some(Wrong::Plain)
     } else {
         None
     }

@@ -1,7 +1,5 @@
 //! Growths: what they make of a text, and when it moves to the heap.
-use crate::player::{
-    EVERYWHERE, ONE_BY_ONE, Row, ample, assert_each, assert_repeated, assert_right, play,
-};
+use crate::player::{EVERYWHERE, ample, assert_each, assert_repeated, assert_right, play};
 use crate::steps::List;
 use crate::steps::Where::{AsMade, OnHeap, Shrunk};
 use crate::texts::{LONG, SMALL_AND_LONG, whole_of};
@@ -116,10 +114,7 @@ fn a_hundred_thousand_bytes_go_in_at_once(rt: HostRuntime) {
     let whole = whole_of(&rt, alloc, "a", 100_030);
     for command in [PushStr(long.as_str()), InsertStr(30, long.as_str())] {
         let steps = [(command, Done, whole.as_str(), OnHeap)];
-        let row = Row {
-            ways: ONE_BY_ONE,
-            ..ample(A30, &steps)
-        };
+        let row = ample(A30, &steps);
         assert_right(&rt, play(&rt, alloc, EVERYWHERE, 0, row));
     }
 }

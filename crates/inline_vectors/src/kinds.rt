@@ -1,11 +1,11 @@
 //! The kinds of text that tables are played on, as data, and texts that get their commands.
 ghost use Rattle.std.specs.Prelude.{◌≡◌, length};
 
+use crate::seen::{Seen, seen_of, seen_of_dyn};
 use crate::steps::reply_by_call;
 use crate::texts::is_text;
 use inlinable_string::run::{Command, Reply, run, run_dyn};
 use inlinable_string::{BoxableString, InlinableString, InlinableStringN, StringExt};
-use inline_model::verdict::{HEAP, Policy, Seen, inlinable, seen_of, seen_of_dyn};
 use std::alloc::Global;
 use std::process::Abort;
 use test_support::{ArrayText, EmptyText, HeapText};
@@ -19,10 +19,6 @@ pub enum Way {
     Run,
     /// Each by a run of its own on a `dyn`.
     Dyn,
-    /// All by one run, with the plain program beside it.
-    RunOfAll,
-    /// All by one run on a `dyn`, with the plain program beside it.
-    DynOfAll,
 }
 
 /// A type of text.
@@ -47,14 +43,6 @@ pub struct Made {
     pub limit: usize,
     /// The capacity that the text is made with; `None` where it is made by `new`.
     pub room: Option<usize>,
-}
-
-/// What determines the storage of a text made so.
-pub fn policy_of(made: Made) -> Policy {
-    match made.kind {
-        Kind::Array | Kind::Inlinable | Kind::Boxable => inlinable(made.limit),
-        Kind::String | Kind::Own => HEAP,
-    }
 }
 
 /// A text to which tables give commands.

@@ -10,8 +10,6 @@ macro_rules! rows {
 }
 
 #[cfg(test)]
-mod beside;
-#[cfg(test)]
 mod borrowed;
 #[cfg(test)]
 mod compared;
@@ -53,6 +51,8 @@ mod printed;
 mod replacements;
 #[cfg(test)]
 mod room;
+#[cfg(test)]
+mod seen;
 #[cfg(test)]
 mod steps;
 #[cfg(test)]

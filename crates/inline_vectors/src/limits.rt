@@ -2,8 +2,8 @@
 //! Characters just fit at each, or need one byte more: with memory, and while none can be had.
 use crate::kinds::Kind::{Boxable, Inlinable};
 use crate::player::{
-    EACH_WAY, EVERYWHERE, Kinds, ONE_BY_ONE, Row, Tally, ample, assert_repeated, assert_right,
-    held, play, play_each, play_each_alone, repeated, within,
+    EVERYWHERE, Kinds, Tally, ample, assert_repeated, assert_right, held, play, play_each,
+    play_each_alone, repeated, within,
 };
 use crate::steps::Where::{AsMade, OnHeap, Shrunk};
 use crate::steps::{List, one_step, where_at};
@@ -85,8 +85,7 @@ enum Edge {
 }
 
 /// Puts a character in at both ends of this many letters, each time into a text of its own. After
-/// an allocation failure the text is one to go on with. Without memory the plain program is not
-/// beside it, since memory is held and freed for each way.
+/// an allocation failure the text is one to go on with.
 fn play_edge(
     rt: &impl Abort,
     alloc: Global,
@@ -120,11 +119,6 @@ fn play_edge(
             Edge::WithoutMemory if back.len() <= kinds.1 => held(letters, &granted, &[]),
             Edge::WithoutMemory => held(letters, &refused, &after),
         };
-        let ways = match edge {
-            Edge::WithMemory => EACH_WAY,
-            Edge::WithoutMemory => ONE_BY_ONE,
-        };
-        let row = Row { ways, ..row };
         right = right.saturating_add(play(rt, alloc, kinds, count, row)?);
     }
     Ok(right)

@@ -6,11 +6,10 @@
 //! value.
 ghost use Rattle.std.specs.Prelude.{◌≡◌, ◌≤◌, length, IsOk};
 
-use crate::beside::{is_agreed, plain_start};
 use crate::held::Memory::{self, Ample, Held};
 use crate::held::hold;
 use crate::kinds::Kind::{self, Array, Boxable, Inlinable, Own, String as OfString};
-use crate::kinds::{DynText, Made, Played, TypedText, Way, policy_of};
+use crate::kinds::{DynText, Made, Played, TypedText, Way};
 use crate::steps::Where::{AsMade, OnHeap};
 use crate::steps::{List, Step, Where, has_inline_room, has_room, storage_of, where_at};
 use crate::texts::whole_of;
@@ -21,10 +20,7 @@ use std::alloc::Global;
 use std::process::Abort;
 use test_support::{ArrayText, EmptyText, HeapText};
 
-pub const EACH_WAY: &[Way] = &[Way::Call, Way::Run, Way::Dyn, Way::RunOfAll, Way::DynOfAll];
-
-/// Without the plain program, which takes long for a long text.
-pub const ONE_BY_ONE: &[Way] = &[Way::Call, Way::Run, Way::Dyn];
+const WAYS: &[Way] = &[Way::Call, Way::Run, Way::Dyn];
 
 /// What is wrong after a step.
 #[derive(Clone, Copy, Debug, PartialEq)]
@@ -34,8 +30,6 @@ pub enum Wrong {
     Storage,
     /// The capacity.
     Room,
-    /// The plain program does not allow these replies, or ends elsewhere.
-    Plain,
 }
 
 /// A step that is wrong, by its number in a list of this number.
@@ -84,7 +78,6 @@ pub struct Row<'a> {
     pub during: &'a [Step<'a>],
     pub after: &'a [Step<'a>],
     pub memory: Memory,
-    pub ways: &'static [Way],
 }
 
 /// Whether a text made so fails where others move to the heap.
@@ -156,16 +149,6 @@ fn play_singly<T: Played>(text: &mut T, made: Made, way: Way, steps: &[Step]) ->
     Ok(steps.len())
 }
 
-/// The first reply that is another one than its step has.
-fn wrong_reply(replies: &[Reply], steps: &[Step]) -> Option<usize> {
-    for (i, (reply, step)) in replies.iter().zip(steps).enumerate() {
-        if *reply != step.1 {
-            return Some(i);
-        }
-    }
-    None
-}
-
 /// Makes the steps in this way, with this memory.
 fn play_steps<T: Played>(
     rt: &impl Abort,
@@ -176,62 +159,10 @@ fn play_steps<T: Played>(
     memory: Memory,
     steps: &[Step],
 ) -> RowTally {
-    if matches!(way, Way::RunOfAll | Way::DynOfAll) {
-        return play_at_once(rt, alloc, text, made, way, memory, steps);
-    }
     let hoard = hold(rt, alloc, memory);
     let tally = play_singly(text, made, way, steps);
     drop(hoard);
     tally
-}
-
-/// Makes the steps by one run, with the plain program beside it.
-fn play_at_once<T: Played>(
-    rt: &impl Abort,
-    alloc: Global,
-    text: &mut T,
-    made: Made,
-    way: Way,
-    memory: Memory,
-    steps: &[Step],
-) -> RowTally {
-    let mut commands = Vec::new(alloc);
-    let mut replies = Vec::new(alloc);
-    for step in steps {
-        commands.push(step.0).expect(rt, "memory");
-        replies.push(BadPlace).expect(rt, "memory");
-    }
-    assert!(rt; replies.len() == commands.len());
-    let start = plain_start(rt, alloc, text.seen(), policy_of(made));
-    let hoard = hold(rt, alloc, memory);
-    text.give(way, &commands, &mut replies);
-    drop(hoard);
-    let is_plain = is_agreed(rt, alloc, start, &commands, &replies, text.seen());
-    tally_of(text, made, steps, &replies, is_plain)
-}
-
-/// How many steps of a run were right, or the first that was wrong, by its replies and the end.
-fn tally_of<T: Played>(
-    text: &T,
-    made: Made,
-    steps: &[Step],
-    replies: &[Reply],
-    is_plain: bool,
-) -> RowTally {
-    if let Some(step) = wrong_reply(replies, steps) {
-        return Err((step, Wrong::Reply));
-    }
-    let last = steps.len().saturating_sub(1);
-    if let Some(&(_, _, content, place)) = steps.last() {
-        if let Some(wrong) = wrong_state(text, made, content, place) {
-            return Err((last, wrong));
-        }
-    }
-    if is_plain {
-        Ok(steps.len())
-    } else {
-        Err((last, Wrong::Plain))
-    }
 }
 
 /// Plays a row in this way on an empty text made so. A start that is wrong, or a text without the
@@ -362,9 +293,9 @@ pub fn play(rt: &impl Abort, alloc: Global, kinds: Kinds, list: usize, row: Row)
 /// Plays a row on a text made so, in each of its ways.
 fn play_in_each_way(rt: &impl Abort, alloc: Global, made: Made, list: usize, row: Row) -> Tally {
     let mut count = 0usize;
-    for &way in row.ways {
+    for &way in WAYS {
         let tally = match way {
-            Way::Dyn | Way::DynOfAll => play_made_dyn(rt, alloc, made, way, row),
+            Way::Dyn => play_made_dyn(rt, alloc, made, way, row),
             _ => play_made(rt, alloc, made, way, row),
         };
         match tally {
@@ -391,7 +322,6 @@ pub fn ample<'a>(start: &'a str, steps: &'a [Step<'a>]) -> Row<'a> {
         during: &[],
         after: &[],
         memory: Ample,
-        ways: EACH_WAY,
     }
 }
 
@@ -403,7 +333,6 @@ pub fn held<'a>(start: &'a str, during: &'a [Step<'a>], after: &'a [Step<'a>]) -
         during,
         after,
         memory: Held,
-        ways: EACH_WAY,
     }
 }
 

@@ -1,10 +1,10 @@
 //! Steps: a command, and the reply, the text and the storage that it must give, in words that hold
 //! for each kind of text. Tables of them are constants of the tests.
 use crate::kinds::{Kind, Made};
+use crate::seen::Seen;
 use inlinable_string::inline_string::ReplaceError;
 use inlinable_string::run::{Command, Reply};
 use inlinable_string::{Storage, StringExt};
-use inline_model::verdict::Seen;
 use std::alloc::AllocError;
 
 /// A command, the reply to it, the text after it, and where that is stored then.

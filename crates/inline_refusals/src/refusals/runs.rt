@@ -1,93 +1,169 @@
 //! Runs over all commands.
+use super::row::Wrong::{self, Answer, SecondRefusal};
 use super::{Requests, made, tell};
-use inlinable_string::Storage::{Heap, Inline};
+use inlinable_string::Storage::{self, Heap};
 use inlinable_string::run::Command::{
     self, Clear, Insert, InsertStr, Pop, Push, PushStr, Remove, ReplaceBytes, Reserve,
     ReserveExact, ShrinkToFit, Truncate,
 };
-use inlinable_string::run::Reply::{self, BadPlace, NoMemory};
+use inlinable_string::run::Reply::{
+    self, BadPlace, Char, Done, NoChar, NoMemory, NotUtf8, WrongLength,
+};
 use inlinable_string::run::{run, run_dyn, run_each};
 use inlinable_string::{BoxableString, InlinableString, InlinableStringN, StringExt, StringMake};
-use inline_model::plain::plain_from;
-use inline_model::verdict::{Seen, Verdict, seen_of, seen_of_dyn, verdict_of};
 use std::alloc::{AllocError, Global};
 use std::process::Abort;
 use std::test::Fail;
 use test_support::Refusals;
+use test_support::letters::LETTERS_27 as A27;
 
-/// Commands of each kind on a new text. Room past what a `usize` counts fails always, and no other
-/// command does where no request is refused.
-const COMMANDS: &[Command<'static>] = &[
-    PushStr("aaaaaaaaaaaaaaaaaaaaaaaaaaa"),
-    Insert(27, '€'),
-    Insert(28, 'x'),
-    Push('b'),
-    Truncate(28),
-    ShrinkToFit,
-    Remove(30),
-    ReserveExact(18446744073709551615),
-    Reserve(100),
-    PushStr("0123456789"),
-    InsertStr(1, "é"),
-    InsertStr(2, "é"),
-    Remove(0),
-    Pop,
-    ReplaceBytes(b"too short"),
-    Truncate(2),
-    ReplaceBytes(&[0xC3, 0x61]),
-    ReplaceBytes(&[0xC3, 0xA9]),
-    Clear,
-    Pop,
+/// Commands of each kind on a new text, with their replies where no allocation fails. Room past
+/// what a `usize` counts fails always.
+const STEPS: &[(Command<'static>, Reply)] = &[
+    (Push('é'), Done),
+    (ReplaceBytes(b"long"), WrongLength),
+    (ReplaceBytes(&[0xC3, 0x61]), NotUtf8),
+    (ReplaceBytes(&[0xC3, 0xA8]), Done),
+    (Clear, Done),
+    (Pop, NoChar),
+    (PushStr(A27), Done),
+    (Insert(27, '€'), Done),
+    (Insert(28, 'x'), BadPlace),
+    (Push('b'), Done),
+    (Truncate(28), BadPlace),
+    (ShrinkToFit, Done),
+    (Remove(30), Char('b')),
+    (ReserveExact(18446744073709551615), NoMemory),
+    (Reserve(100), Done),
+    (PushStr("0123456789"), Done),
+    (InsertStr(1, "é"), Done),
+    (InsertStr(2, "é"), BadPlace),
+    (Remove(0), Char('a')),
+    (Pop, Char('9')),
+    (Truncate(32), Done),
 ];
 
-/// How many commands failed for memory.
-pub fn count_no_memory(replies: &[Reply]) -> usize {
-    let mut count = 0usize;
-    for reply in replies {
-        if *reply == NoMemory {
-            count = count.saturating_add(1);
+/// How many steps there are.
+const COUNT: usize = 21;
+
+/// The replies that differ from those of the steps, by the number of their step, and the text at
+/// the end, which is on the heap. No two rows of a table differ in the same replies.
+pub type End = (&'static [(usize, Reply)], &'static str);
+
+/// The text at the end where no edit fails.
+pub const EDITED: &str = "éaaaaaaaaaaaaaaaaaaaaaaaaaa€0";
+
+const NONE_FAILS: End = (&[], EDITED);
+
+/// The first push, where the text is empty: no bytes but none have its length.
+const FIRST_FAILS: End = (&[(0, NoMemory), (2, WrongLength), (3, WrongLength)], EDITED);
+
+/// The push of the letters, after which `b` is the first character.
+const LETTERS_FAIL: End = (
+    &[
+        (6, NoMemory),
+        (7, BadPlace),
+        (12, BadPlace),
+        (18, Char('b')),
+        (20, BadPlace),
+    ],
+    "é012345678",
+);
+
+/// The insertion after the letters, so that `b` is their end, at 28.
+const INSERTION_FAILS: End = (
+    &[(7, NoMemory), (10, Done), (12, BadPlace)],
+    "éaaaaaaaaaaaaaaaaaaaaaaaaaab012",
+);
+
+/// The push of `b` to 30 bytes.
+const B_FAILS: End = (&[(9, NoMemory), (12, BadPlace)], EDITED);
+
+const RESERVATION_FAILS: End = (&[(14, NoMemory)], EDITED);
+
+/// Of a text that is inline up to 30 bytes.
+pub const WITHIN_30: &[End] = &[NONE_FAILS, B_FAILS, RESERVATION_FAILS];
+
+/// Of a text that is inline up to 8 bytes. On the heap `b` has room, since the insertion doubled
+/// the capacity.
+const WITHIN_8: &[End] = &[NONE_FAILS, LETTERS_FAIL, INSERTION_FAILS, RESERVATION_FAILS];
+
+const ON_THE_HEAP: &[End] = &[
+    NONE_FAILS,
+    FIRST_FAILS,
+    LETTERS_FAIL,
+    INSERTION_FAILS,
+    RESERVATION_FAILS,
+];
+
+fn commands() -> [Command<'static>; COUNT] {
+    let mut commands = [Pop; COUNT];
+    for (command, step) in commands.iter_mut().zip(STEPS) {
+        *command = step.0;
+    }
+    commands
+}
+
+/// The reply to the step of this number, where it is `usual` if none differs.
+fn reply_at(step: usize, usual: Reply, differing: &[(usize, Reply)]) -> Reply {
+    for &(number, reply) in differing {
+        if number == step {
+            return reply;
         }
     }
-    count
+    usual
 }
 
-/// Whether a text moves back inline, its limit, and the requests of its run, of which that of a
-/// `ShrinkToFit` on the heap is unseen.
-type Stated = (bool, usize, Requests);
+/// The replies to the steps where these differ.
+pub fn replies_with(differing: &[(usize, Reply)]) -> [Reply; COUNT] {
+    let mut replies = [BadPlace; COUNT];
+    for (i, (reply, step)) in replies.iter_mut().zip(STEPS).enumerate() {
+        *reply = reply_at(i, step.1, differing);
+    }
+    replies
+}
 
-/// What the plain program says of the commands with these replies on a new text.
-fn verdict_from_new(
-    alloc: Global,
-    (demotes, limit, _): Stated,
+/// What is wrong with the replies of a run, the text at its end, or its storage: they are those of
+/// a row, and that is one where none fails unless a request was refused.
+pub fn wrong_run(
+    refusals: &mut Refusals,
+    ends: &[End],
     replies: &[Reply],
-    end: Seen<'_>,
-) -> Result<Verdict, AllocError> {
-    let storage = if demotes { Inline } else { Heap };
-    let plain = plain_from(alloc, "", storage, limit, demotes, limit)?;
-    verdict_of(alloc, plain, COMMANDS, replies, end)
+    (text, storage): (&str, Storage),
+) -> Option<Wrong> {
+    for &(differing, content) in ends {
+        if replies == replies_with(differing).as_slice() {
+            return if !differing.is_empty() && !refusals.meet() {
+                Some(SecondRefusal)
+            } else if text != content {
+                Some(Wrong::Text)
+            } else if storage != Heap {
+                Some(Wrong::Storage)
+            } else {
+                None
+            };
+        }
+    }
+    Some(Answer)
 }
 
-/// Asserts that at most one request was refused, and that the plain program agrees, whose own
-/// requests don't count.
-fn assert_agrees(
+/// What each kind of text has: the ends of its runs, and the requests of one, of which that of a
+/// `ShrinkToFit` on the heap is unseen.
+type Stated = (&'static [End], Requests);
+
+/// Asserts that nothing is wrong with a run.
+fn assert_right(
     rt: &(impl Abort + Print),
     alloc: Global,
-    stated: Stated,
+    (ends, requests): Stated,
     mut refusals: Refusals,
     replies: &[Reply],
-    end: Seen<'_>,
+    end: (&str, Storage),
 ) -> Result<(), Fail> {
-    let failures = count_no_memory(replies);
-    assert!(rt;
-        failures == 1 || failures == 2 && refusals.meet(),
-        "{replies:?}"
-    );
-    tell(rt, alloc, &refusals, stated.2)?;
-    let verdict = made(rt, &mut refusals, || {
-        verdict_from_new(alloc, stated, replies, end)
-    });
-    assert_eq!(rt; verdict, Verdict::Agrees, "{replies:?}");
-    Ok(())
+    assert!(rt; STEPS.len() == COUNT);
+    let wrong = wrong_run(&mut refusals, ends, replies, end);
+    assert!(rt; wrong.is_none(), "{wrong:?}: {replies:?}");
+    tell(rt, alloc, &refusals, requests)
 }
 
 /// Gives all commands to a new text.
@@ -97,35 +173,35 @@ fn assert_run<S: StringMake + Drop>(
     stated: Stated,
 ) -> Result<(), Fail> {
     let (mut text, refusals) = (S::new(alloc), Refusals::none());
-    let mut replies = [BadPlace; 20];
-    run(&mut text, COMMANDS, &mut replies);
-    assert_agrees(rt, alloc, stated, refusals, &replies, seen_of(&text))
+    let mut replies = [BadPlace; COUNT];
+    run(&mut text, &commands(), &mut replies);
+    let end = (text.as_str(), text.storage());
+    assert_right(rt, alloc, stated, refusals, &replies, end)
 }
 
 #[test]
 fn a_run_on_an_inline_or_heap_text(rt: HostRuntime) -> Result<(), Fail> {
-    assert_run::<InlinableString>(&rt, rt.alloc(), (true, 30, (2, 0)))
+    assert_run::<InlinableString>(&rt, rt.alloc(), (WITHIN_30, (2, 0)))
 }
 
 #[test]
 fn a_run_on_a_text_with_a_small_limit(rt: HostRuntime) -> Result<(), Fail> {
-    assert_run::<InlinableStringN<8>>(&rt, rt.alloc(), (true, 8, (4, 1)))
+    assert_run::<InlinableStringN<8>>(&rt, rt.alloc(), (WITHIN_8, (4, 1)))
+}
+
+/// The text of a `dyn`, and its storage.
+fn end_of(text: &dyn StringExt) -> (&str, Storage) {
+    (text.as_str(), text.storage())
 }
 
 #[test]
 fn a_run_on_a_string_behind_a_dyn(rt: HostRuntime) -> Result<(), Fail> {
     let alloc = rt.alloc();
     let (mut text, refusals) = (<String as StringMake>::new(alloc), Refusals::none());
-    let mut replies = [BadPlace; 20];
-    run_dyn(&mut text, COMMANDS, &mut replies);
-    assert_agrees(
-        &rt,
-        alloc,
-        (false, 0, (4, 1)),
-        refusals,
-        &replies,
-        seen_of_dyn(&text),
-    )
+    let mut replies = [BadPlace; COUNT];
+    run_dyn(&mut text, &commands(), &mut replies);
+    let stated: Stated = (ON_THE_HEAP, (5, 1));
+    assert_right(&rt, alloc, stated, refusals, &replies, end_of(&text))
 }
 
 /// A list of one new text, in a box.
@@ -139,10 +215,10 @@ fn boxed(alloc: Global) -> Result<Vec<Box<dyn StringExt + Drop>>, AllocError> {
 fn a_run_on_a_boxed_text(rt: HostRuntime) -> Result<(), Fail> {
     let (alloc, mut refusals) = (rt.alloc(), Refusals::none());
     let mut texts = made(&rt, &mut refusals, || boxed(alloc));
-    let mut replies = [BadPlace; 20];
+    let mut replies = [BadPlace; COUNT];
     assert!(rt; texts.len() == 1);
-    run_each(&mut texts, COMMANDS, &mut replies);
+    run_each(&mut texts, &commands(), &mut replies);
     let text = texts.first().expect(&rt, "the one text");
-    let end = seen_of_dyn(&**text);
-    assert_agrees(&rt, alloc, (true, 30, (4, 0)), refusals, &replies, end)
+    let stated: Stated = (WITHIN_30, (4, 0));
+    assert_right(&rt, alloc, stated, refusals, &replies, end_of(&**text))
 }
