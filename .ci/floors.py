@@ -19,13 +19,13 @@ WRONG_BODIES_PROVED = {'inline_uses': 5}
 
 
 def each(names, words):
-    """Every name with every word behind it."""
+    """Every name with every word after it."""
     return [f'{name} {word}' for name in names.split() for word in words.split()]
 
 
-# Lines that `side_by_side` answers, whose digests stand in `replay/digests`: how many there are of each
-# kind. And how many there must be at least of each type with a word, of each word with an answer or a move
-# of the text, of where texts lie at the end, and of scripts with a status and the last word of their output.
+# Questions whose answers have their digests in `replay/digests`: how many there are of each kind. And how many
+# there must be at least of each type with a word, of each word with an answer or a move of the text, of each
+# storage at the end, and of scripts with a status and the last word of their output.
 BESIDE = {'calls': 40_000, 'script': 40_000}
 OURS, SCRIPTS = 'InlinableString InlinableStringN<8>', 'inline inline0 inline8 heap'
 GROWTHS = 'push push_str insert insert_str'
@@ -35,13 +35,13 @@ BESIDE_OF_EACH = dict.fromkeys((
           'partial_cmp'),
     *each(f'{OURS} String', 'collect with_capacity from_utf8 from_utf8_unchecked from_utf8_lossy from_utf16 '
           'from_utf16_lossy extend reserve reserve_exact shrink_to_fit capacity heap'),
-    *each(OURS, 'from_str from_string add extend_char_refs into_string'), 'InlineString copy',
-    *each(f'InlineString {OURS}', 'default inline from_chars from_strs extend_chars extend_strs retain '
+    *each(OURS, 'from_str from_string add extend_char_refs into_string inline'), 'InlineString copy',
+    *each(f'InlineString {OURS}', 'default from_chars from_strs extend_chars extend_strs retain '
           'replace_range split_off make_ascii_uppercase make_ascii_lowercase'),
     *each('insert insert_str truncate remove replace_range split_off', 'bad_place'),
     *each('eq eq_str', 'true false'), *each('cmp partial_cmp', 'less equal greater'), *each(GROWTHS, 'full'),
     *each('write_str write_char', 'write_fault'), *each('from eq', 'too_long'), 'pop none',
-    *each('reserve reserve_exact with_capacity', 'no_memory'), *each('from_utf8', 'done not_utf8'),
+    *each('reserve reserve_exact with_capacity', 'no_memory'), *each('from_utf8', 'done not_UTF-8'),
     *each('from_utf8_lossy', 'borrowed owned'), *each('from_utf16', 'done unpaired'), 'shrink_to_fit demotes',
     *each(f'{GROWTHS} write_str write_char add extend extend_chars extend_char_refs extend_strs reserve '
           'reserve_exact', 'promotes'),
@@ -51,7 +51,7 @@ BESIDE_OF_EACH = dict.fromkeys((
 NAMED_CASES = 70
 
 # Hostile inputs: how many, and how many of them must be accepted and so run, and lead to each fault and to
-# each reply. (Want of memory before a run can't be brought about by an input.)
+# each reply. (No input brings about an allocation failure before a run.)
 HOSTILE_INPUTS = 6_000
 HOSTILE = {'accepted': 1_200, **dict.fromkeys((
     'bad argument', 'read fault', 'input too long', 'input is not utf-8', 'bad command', 'write fault',
@@ -67,12 +67,12 @@ WRONG_CLAUSES, CALLERS = {'inlinable_string': 5}, 109
 PROOFS, CITED = 1_300, 400
 
 # Blocks of `unsafe`, each with its condition in ARCHITECTURE or in a test: just as many.
-UNSAFE = {'library': 13, 'others': 4}
+UNSAFE = {'library': 13, 'others': 3}
 
 # For `gate quick`: functions of the library that are proved, and by crate, tests that must pass without being
 # proved, and how many at most may say that they need the proved build.
 QUICK_PROVED = 14
-TRIED = {'inline_vectors': (44, 26), 'inline_uses_tests': (69, 10)}
+TRIED = {'inline_tests': (10, 3), 'inline_uses_tests': (69, 10)}
 
 # Workloads of the bench, and on how many of them each type of text is run.
 BENCH_WORKLOADS = 82

@@ -1,11 +1,11 @@
-"""gate beside [PROGRAM ..]: lines of calls and of scripts, answered as by the original crate and Rust's std.
+"""gate beside [PROGRAM ..]: questions of calls and of scripts, answered as by the original crate and Rust's std.
 
-Without PROGRAM they are the two builds of `side_by_side` that `rt ci` leaves. `replay/digests` has a line for
-each thousand of lines: their kind, the number of the first, their digest, and that of what the judge of
-`replay/judge` answered. There must be as many answers of each sort as `.ci/floors.py` says.
+Without PROGRAM they are the two builds of `inline_vectors` that `rt ci` leaves. `replay/digests` has a line for
+STEP lines each: their kind, the number of the first, their digest, and that of what the judge of
+`replay/judge` answered. `.ci/floors.py` says how many answers of each sort there must be.
 
     .ci/gate beside JUDGE --store >replay/digests   makes the digests
-    .ci/gate beside --lines 7                       prints the lines of the digest that stands there seventh
+    .ci/gate beside --lines 7                       prints the lines of the seventh digest
 """
 import re
 from collections import Counter
@@ -21,19 +21,22 @@ from gate_parts.programs import Case, all_runs, chosen, run
 from gate_parts.tree import Failure, in_tree, text_of, too_few
 
 OPTIONS = 'programs --store --lines'
-STEP = 1000
+STEP = 5000
 DRAWN = {'calls': calls_line, 'script': script_line}
 DIGESTS = in_tree('replay', 'digests')
 WORDS = in_tree('crates', 'script_language', 'src', 'line.rt')
+# A step without what is in quotes: its word, the words of its answer, and where the text is stored then.
+STEP_FORM = re.compile(r'(\w+)[^=;]* = ([^_,]*?)(?: ?_[^,]*)?, _ ?(\w*)')
+QUOTED = re.compile(r'''b?"(?:[^"\\]|\\.)*"|'(?:[^'\\]|\\.)*\'''')
 
 
 def starts(held):
-    """The kind and the number of the first line of each thousand."""
+    """The kind and the number of the first line of each digest."""
     return [(kind, first) for kind, count in held.items() for first in range(0, count, STEP)]
 
 
 def stored(path=DIGESTS, held=BESIDE):
-    """By the start of each thousand, its two digests: the file has just those of all that is held."""
+    """By its start, each two digests: the file has just those of all that is held."""
     rows = [line.split() for line in text_of(path).splitlines()]
     wanted = [[kind, str(first)] for kind, first in starts(held)]
     if not wanted or [row[:2] for row in rows] != wanted or any(len(row) != 4 for row in rows):
@@ -42,36 +45,36 @@ def stored(path=DIGESTS, held=BESIDE):
 
 
 def lines_from(kind, first):
-    """A thousand lines, as a program reads them."""
+    """STEP lines, as a program reads them."""
     return ''.join(DRAWN[kind](SEED, number) + '\n' for number in range(first, first + STEP)).encode()
 
 
 def answered(programs, start):
-    """The digest of a thousand lines, that of each program's answers, and what there is of each sort."""
+    """The digest of STEP lines, that of each program's answers, and what there is of each sort."""
     lines = lines_from(*start)
-    ran = [run(program, Case('lines', [], lines)) for program in programs]
+    ran = [run(program, Case('lines', ['-'], lines)) for program in programs]
     # the answers of the first program: where those of another differ, its digest does
     return sha256(lines).hexdigest()[:16], [
         f'status {status}' if status else sha256(output).hexdigest() for output, status in ran
-    ], counted(lines, ran[0][0])
+    ], counted(ran[0][0])
 
 
-def counted(lines, output):
-    """How many there are of each sort that `.ci/floors.py` names."""
+def counted(output):
+    """How many answers there are of each sort that `.ci/floors.py` names."""
     names = Counter()
-    for line, answer in zip(lines.decode().splitlines(), output.decode(errors='replace').splitlines()):
-        kind, name, *given = line.split(' ')
-        answers, before = answer.split(' '), 'i'
-        if kind == 'script':
-            names.update([f'{name} {answers[1]}', f'{name} {bytes.fromhex(answers[2]).decode().split()[-1]}'])
+    for line in output.decode(errors='replace').split('\n')[:-1]:
+        head, _, steps = QUOTED.sub('_', line).partition(': ')
+        name, *words = head.split(' ')
+        if name == 'script':
+            names.update([f'{words[0]} {words[-2][:-1]}', f'{words[0]} {line[:-3].split(" ")[-1]}'])
             continue
-        names[f'{name} {answers[-3]}'] += 1
-        for call, told in zip(given, answers[1:]):
-            word, outcome = re.split('[:@]', call)[0], re.split('[:=]', told)[1]
-            names.update([f'{name} {word}', f'{word} {outcome}'])
-            if before != told[0]:
-                names[f'{word} {"promotes" if before == "i" else "demotes"}'] += 1
-            before = told[0]
+        before = {'InlineString': '', 'String': 'heap'}.get(name, 'inline')
+        for word, answer, storage in STEP_FORM.findall(steps):
+            names.update([f'{name} {word}', f'{word} {answer.replace(" ", "_")}'])
+            if before != storage:
+                names[f'{word} {"promotes" if storage == "heap" else "demotes"}'] += 1
+            before = storage
+        names[f'{name} {before}'] += 1
     return names
 
 
@@ -87,7 +90,7 @@ def failed_digests(builds, digests):
         for name in (name for name, answer in zip(builds, answers) if answer != wanted[1]):
             failed[name] += 1
             print(f'{name}: {start}: not the answers of the judge\n    .ci/gate beside --lines {at} >LINES; '
-                  f'JUDGE <LINES >WANTED; {builds[name]} <LINES | diff WANTED -')
+                  f'JUDGE - <LINES >WANTED; {builds[name]} - <LINES | diff WANTED -')
     return failed, tally
 
 
@@ -102,7 +105,7 @@ def main(given):
     if given.lines:
         print(lines_from(*starts(BESIDE)[given.lines - 1]).decode(), end='')
         return True
-    builds = chosen(given.programs, 'side_by_side')
+    builds = chosen(given.programs, 'inline_vectors')
     if given.store:
         work = partial(answered, list(builds.values()))
         for start, (lines, answers, _) in zip(starts(BESIDE), all_runs(work, starts(BESIDE))):

@@ -1,4 +1,4 @@
-"""Lines of calls on one text, one after the other, and lines of scripts, as `replay/README.md` has them."""
+"""Questions of the grammar of rows (`crates/inline_vectors/README.md`): calls on one text, and scripts."""
 from contextlib import suppress
 
 from gate_parts.draw import ESCAPED, MARKS, Draw, is_alike
@@ -40,14 +40,15 @@ LACKING = {
     STRING: f'default {OWN_MAKERS} {EDITS} add copy extend_chars extend_char_refs extend_strs into_string'}
 # Of a kind with fewer words than FEWEST there is none on a type. A text is cut at LONGEST.
 FEWEST, LONGEST = 3, 40
-# How many calls there are at most, behind the one that a text begins with.
+# How many calls there are at most, after the one that a text begins with.
 TURNS = (3, 6, 6, 6, 20)
 SIZES = (0, 1, 2, 7, 8, 9, 26, 27, 28, 28, 29, 29, 30, 30, 31, 32)
-# A range is a number: its start is the quotient by this, and its end the rest.
-RANGE = 2 ** 16
-# How a text that is compared comes about, with how many bytes more it had; or on the heap. How many scripts
-# of a hundred have one byte wrong.
-WAYS, ON_HEAP, SPOILT = {0: 0, 1: 4, 3: 4}, 2, 10
+# How a text that is compared is made, with how many bytes more it had; or on the heap. How many scripts of a
+# hundred have one byte wrong.
+WAYS, ON_HEAP, SPOILT = {'': 0, ' other after "𝄞"': 4, ' other before "more"': 4}, ' other room 31', 10
+# The words that are given a character, and what is written by its number.
+CHARACTERS = ('push', 'insert', 'write_char')
+BY_NUMBER = {code: f'\\u{{{code:x}}}' for code in (*range(32), *range(127, 160), *map(ord, '"\'\\'))}
 
 
 class Played:
@@ -68,10 +69,18 @@ class Played:
             self.text.push_str(string)
 
 
-def token(word, *given):
-    """The call as it stands in a line."""
-    return word + ''.join(f'@{each}' if isinstance(each, int) else
-                          ':' + (each.encode() if isinstance(each, str) else each).hex() for each in given)
+def value(given):
+    """A text, bytes, a list or a number, as a row has it."""
+    if isinstance(given, bytes):
+        return 'b"' + ''.join(f'\\x{byte:02x}' for byte in given) + '"'
+    if isinstance(given, list):
+        return '[' + ', '.join(map(value, given)) + ']'
+    return f'"{given.translate(BY_NUMBER)}"' if isinstance(given, str) else str(given)
+
+
+def call(word, *given):
+    line = ' '.join([word, *map(value, given)])
+    return line.replace('"', "'") if word in CHARACTERS else line
 
 
 def alike(string):
@@ -95,50 +104,45 @@ def scripted(played, line):
     word, *parts = command_of(line)
     parts = [alike(part) if isinstance(part, str) else part for part in parts]
     played.obey([word, *parts])
-    return token(word, *parts)
+    return call(word, *parts)
 
 
 def slide(draw, played, _):
     """At the ends of an inline text; of a text on the heap, the way back."""
-    line_of_ends = at_the_ends if played.text.storage == 'inline' else way_back
-    return scripted(played, line_of_ends(draw, played.text))
+    ends = at_the_ends if played.text.storage == 'inline' else way_back
+    return scripted(played, ends(draw, played.text))
 
 
 def some_strings(draw, text):
-    """Texts with a comma between two: empty ones too, and more than an array has bytes at times."""
+    """Empty ones too, and more than an array has bytes at times."""
     if draw.chance(20):
-        return ',' * draw.choice((1, 7, 8, 28, 29, 30, 31, max(0, 30 - text.size), 40))
-    return ','.join(alike(any_text(draw))[:4] for _ in range(draw.randint(0, 6)))
-
-
-def given_to(draw, played, word):
-    """What is added or made, as it is written and as it becomes the text's."""
-    if word.endswith('strs'):
-        strings = some_strings(draw, played.text)
-        return strings, strings.replace(',', '')
-    if word == 'write_char':
-        return (alike(draw.char()),) * 2
-    drawn = any_text(draw) if draw.chance(30) else draw.string(a_growth(draw, played.text))
-    return (alike(drawn),) * 2
+        return [''] * (1 + draw.choice((1, 7, 8, 28, 29, 30, 31, max(0, 30 - text.size), 40)))
+    return [alike(any_text(draw))[:4] for _ in range(draw.randint(0, 6))]
 
 
 def joined(draw, played, word):
-    written, string = given_to(draw, played, word)
-    if word in f'write_str write_char {JOINS}'.split():
-        played.obey(['push_str', string])
+    """What is added or made."""
+    if word.endswith('strs'):
+        given = some_strings(draw, played.text)
+    elif word == 'write_char':
+        given = alike(draw.char())
     else:
-        played.becomes(string)
-    return token(word, written)
+        given = alike(any_text(draw) if draw.chance(30) else draw.string(a_growth(draw, played.text)))
+    if word in f'write_str write_char {JOINS}'.split():
+        played.obey(['push_str', ''.join(given)])
+    else:
+        played.becomes(''.join(given))
+    return call(word, given)
 
 
 def emptied(_, played, word):
     played.becomes('')
-    return token(word)
+    return word
 
 
-def kept(draw, _, word):
-    """Which of the characters, in four ways."""
-    return token(word, draw.randrange(4))
+def kept(draw, played, word):
+    """About three of four characters."""
+    return call(word, ''.join(char for char in dict.fromkeys(played.text.chars) if draw.chance(75)))
 
 
 def split(draw, played, word):
@@ -149,15 +153,15 @@ def split(draw, played, word):
 def ranged(draw, played, word):
     """From a place to another, of which one is bad at times."""
     _, place, added = command_of(line_of(draw, played.text, 'insert_str'))
-    start, end = sorted((place % RANGE, draw.choice(list(played.text.places()))))
-    return token(word, RANGE * start + end, alike(added))
+    start, end = sorted((place % 2 ** 16, draw.choice(list(played.text.places()))))
+    return call(f'{word} {start}..{end}', alike(added))
 
 
 def with_capacity(draw, played, word):
     capacity = draw.choice((0, 1, 7, 8, 9, 29, 30, 31, 32, 100, 2 ** 48, 2 ** 63 - 1, 2 ** 63, GREATEST))
     if capacity < 2 ** 48:
         played.becomes('', *['heap'] * (capacity > (played.text.limit or 0)))
-    return token(word, capacity)
+    return call(word, capacity)
 
 
 def read(draw, played, word):
@@ -177,24 +181,25 @@ def read(draw, played, word):
     is_text = data == string.encode(encoding)
     if word != 'from_utf8_lossy' and (is_text or word == 'from_utf16_lossy'):
         played.becomes(string, 'heap')
-    return token(word, data)
+    units = [int.from_bytes(data[at:at + 2], 'big') for at in range(0, len(data), 2)]
+    return call(word, units if 'utf16' in word else data)
 
 
 def compared(draw, played, word):
-    """With the same text, with a front of it, with one that is longer, and with others, in each way."""
+    """With the same text, a prefix of it, one that is longer, and others, in each way."""
     chars = played.text.chars
     front, end = chars[:draw.randint(0, len(chars))], list(any_text(draw))
     string = alike(''.join(draw.choice((chars, chars, front, chars + end, front + end, end))))
     if word == 'eq_str':
-        return token(word, string)
-    ways = [way for way, more in WAYS.items() if width(string) + more <= played.most or way == 0]
-    return token(word, draw.choice(ways if played.name == ARRAY else [*ways, ON_HEAP]), string)
+        return call(word, string)
+    ways = [way for way, more in WAYS.items() if width(string) + more <= played.most or not way]
+    return call(word, string) + draw.choice(ways if played.name == ARRAY else [*ways, ON_HEAP])
 
 
 def printed(draw, played, word):
     """At a width or a precision about as large as the text has characters."""
     size = len(played.text.chars)
-    return token(word, max(0, draw.choice((size - 1, size, size + 1, size + 3, draw.randint(0, 40)))))
+    return call(word, max(0, draw.choice((size - 1, size, size + 1, size + 3, draw.randint(0, 40)))))
 
 
 # The words that are not SCRIPTED; any other is a call alone.
@@ -209,7 +214,7 @@ DRAWN = {word: sort for sort, words in SORTS.items() for word in words.split()}
 def a_call(draw, played, word):
     if word in SCRIPTED:
         return scripted(played, line_of(draw, played.text, word))
-    return DRAWN[word](draw, played, word) if word in DRAWN else token(word)
+    return DRAWN[word](draw, played, word) if word in DRAWN else word
 
 
 def calls_line(seed, number):
@@ -219,13 +224,13 @@ def calls_line(seed, number):
     words = {name: [word for word in KINDS[kind][1].split() if word not in LACKING[name].split()]
              for name in TYPES}
     name = draw.choice([name for name in TYPES if len(words[name]) >= FEWEST])
-    played, tokens = Played(name), []
+    played, calls = Played(name), []
     if draw.chance(80):
         reader = draw.choice(READERS.split())
-        tokens.append(a_call(draw, played, 'from' if name == ARRAY or draw.chance(60) else reader))
+        calls.append(a_call(draw, played, 'from' if name == ARRAY or draw.chance(60) else reader))
     for _ in range(draw.randint(1, draw.choice(TURNS))):
-        tokens.append(a_call(draw, played, draw.choice(words[name] if draw.chance(70) else BETWEEN)))
-    return ' '.join(('calls', name, *tokens))
+        calls.append(a_call(draw, played, draw.choice(words[name] if draw.chance(70) else BETWEEN)))
+    return f'{name} "": ' + '; '.join(calls)
 
 
 def script_line(seed, number):
@@ -241,4 +246,6 @@ def script_line(seed, number):
         with suppress(Undecided):
             answer(Case('', [word], wrong))
             data = wrong
-    return f'script {word} {data.hex()}'
+    with suppress(UnicodeDecodeError):
+        data = data.decode()
+    return f'script {word} {value(data)}'

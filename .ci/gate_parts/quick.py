@@ -1,6 +1,6 @@
 """gate quick: a newcomer's check, some three minutes on two processors. The gate is `.ci/run`.
 
-One part of the library is proved, lists of commands; the main tests run unproved, by `rt try`; and the
+One part of the library is proved, lists of commands; the tests of two crates run unproved, by `rt try`; and the
 program prints what is stored of its own script.
 """
 import os

@@ -6,6 +6,7 @@ stored file is whole, or something in it is wrong or gone.
 import contextlib
 import io
 import os
+import re
 import tempfile
 from unittest import mock
 
@@ -150,9 +151,8 @@ def played(_, case):
 
 
 def answered(_, case):
-    """Answers lines in the form of `side_by_side`."""
-    lines = [line.split(' ') for line in case.input.decode().splitlines()]
-    return ''.join(f'{words[1]}{" h:none" * (len(words) - 2)} heap 0 \n' for words in lines).encode(), 0
+    """Answers each call of questions with the same."""
+    return re.sub('(?=; |\n)', ' = none, "" heap', beside.QUOTED.sub('""', case.input.decode())).encode(), 0
 
 
 def on_digests(folder):
@@ -161,11 +161,11 @@ def on_digests(folder):
 
     def failed(text, runner=answered):
         write_text(path, text)
-        with mock.patch.object(beside, 'run', runner):
-            failed, _ = beside.failed_digests({'one': ''}, beside.stored(path, {'calls': beside.STEP}))
+        with mock.patch.multiple(beside, run=runner, STEP=1000):
+            failed, _ = beside.failed_digests({'one': ''}, beside.stored(path, {'calls': 1000}))
             return failed['one']
 
-    with mock.patch.object(beside, 'run', answered):
+    with mock.patch.multiple(beside, run=answered, STEP=1000):
         lines, (answers,), tally = beside.answered([''], ('calls', 0))
     right = f'calls 0 {lines} {answers}\n'
     yield 'lines that are answered as is stored', failed(right) == 0

@@ -1,97 +1,113 @@
-//! Answers the lines of `side_by_side` as this library has to: as std's `String` and the crate
-//! `inlinable_string` 0.1.15 do, but for the departures that `departures.rs` lists. At its end it
-//! tells, to standard error, how often it met each. replay/README.md says how it is built and run.
+//! Given `-`, answers the questions of standard input, rows and scripts, as this library has to: as std's
+//! `String` and the crate `inlinable_string` 0.1.15 do, except for the departures that `departures.rs` lists.
+//! Given files of rows, prints each row that expects something else. At its end it reports, to standard error,
+//! how often it met each departure. replay/README.md says how it is built and run.
 use std::error::Error;
 use std::fmt::Write;
+use std::ops::Deref;
+use std::process::ExitCode;
 
-mod array;
 mod call;
 mod departures;
-mod edits;
 mod printed;
+mod read;
+mod rows;
 mod script;
 
-/// The same calls on the crate at each capacity, since each has a trait of its own.
+/// The same calls on the crate at each capacity, since each has types and a trait of its own.
 mod at_30 {
     use original_30 as original;
-    include!("inlinable.rs");
+    include!("text.rs");
 }
 mod at_8 {
     use original_8 as original;
-    include!("inlinable.rs");
+    include!("text.rs");
 }
 mod at_0 {
     use original_0 as original;
-    include!("inlinable.rs");
+    include!("text.rs");
 }
 
-use call::{Call, of_bytes};
-use departures::Departures;
+use call::Call;
+use read::Token::{self, Number, Text, Word};
+use read::tokens;
 
 /// A text, on which the calls are played.
-pub trait Played {
+pub trait Played: Deref<Target = str> {
     /// What a call answers, which may change the text; none where it is none of its calls.
     fn play(&mut self, call: &Call) -> Option<String>;
 
-    fn is_inline(&self) -> bool;
-
-    fn text(&self) -> &str;
+    /// The storage, nothing of an array, and the capacity.
+    fn storage(&self) -> (&'static str, usize);
 }
 
-impl at_30::Text for String {
-    fn lies_inline(&self) -> bool {
-        false
-    }
-}
+impl at_30::Text for String {}
 
 impl Played for String {
     fn play(&mut self, call: &Call) -> Option<String> {
-        at_30::played(self, call)
+        departures::played(self, call, at_30::inlinable)
     }
 
-    fn is_inline(&self) -> bool {
-        false
-    }
-
-    fn text(&self) -> &str {
-        self
+    fn storage(&self) -> (&'static str, usize) {
+        ("heap", self.capacity())
     }
 }
 
-fn main() -> Result<(), Box<dyn Error>> {
-    // that the original panics is told by the answers
+fn main() -> Result<ExitCode, Box<dyn Error>> {
+    // whether the original panics is in the answers
     std::panic::set_hook(Box::new(|_| {}));
-    let (mut out, departures) = (String::new(), Departures::default());
+    let paths: Vec<String> = std::env::args().skip(1).collect();
+    let is_right = if paths == ["-"] { answer_lines()? } else { rows::check(&paths)? };
+    departures::report();
+    Ok(if is_right { ExitCode::SUCCESS } else { ExitCode::FAILURE })
+}
+
+/// Answers the lines of standard input.
+fn answer_lines() -> Result<bool, Box<dyn Error>> {
+    let mut out = String::new();
     for (before, line) in std::io::read_to_string(std::io::stdin())?.lines().enumerate() {
-        let answer = match line.split(' ').collect::<Vec<&str>>()[..] {
-            ["calls", name, ref words @ ..] => calls(name, words, &departures),
-            ["script", word, digits] => script::answer(word, digits, &departures),
-            _ => None,
+        let answer = match &tokens(line).unwrap_or_default()[..] {
+            [Word("script"), script @ ..] => script::answer(script),
+            row => rows::answer(row),
         };
         writeln!(out, "{}", answer.ok_or_else(|| format!("line {}: {line}", before + 1))?)?;
     }
     print!("{out}");
-    departures.report().for_each(|line| eprintln!("{line}"));
-    Ok(())
+    Ok(true)
 }
 
-/// What each call of a line answers, and where the text lies after it.
-fn calls(name: &str, words: &[&str], departures: &Departures) -> Option<String> {
-    let mut text: Box<dyn Played> = match name {
-        "InlineString" => Box::new(original_30::InlineString::new()),
-        "InlinableString" => Box::new(original_30::InlinableString::default()),
-        "InlinableStringN<8>" => Box::new(original_8::InlinableString::default()),
-        "String" => Box::new(String::new()),
-        _ => return None,
-    };
-    let mut line = name.to_string();
-    for word in words {
-        let answer = text.play(&Call::of(word, departures)?)?;
-        let storage = if text.is_inline() { 'i' } else { 'h' };
-        write!(line, " {storage}:{answer}").ok()?;
+/// A text of a type as it is made first, with this room unless it says its own; or why there is none.
+fn begun(name: &str, start: &[Token], room: Option<usize>) -> Result<Box<dyn Played>, String> {
+    let [Text(string), manner @ ..] = start else { return Err(rows::NO_ROW.into()) };
+    let (mut room, mut front, mut back) = (room, "", "");
+    for pair in manner.chunks(2) {
+        match pair {
+            [Word("room"), Number(bytes)] => room = Some(*bytes),
+            [Word("after"), Text(text)] => front = text,
+            [Word("before"), Text(text)] => back = text,
+            _ => return Err(rows::NO_ROW.into()),
+        }
     }
-    let storage = if text.is_inline() { "inline" } else { "heap" };
-    let string = text.text();
-    write!(line, " {storage} {} {}", string.len(), of_bytes(string.as_bytes())).ok()?;
-    Some(line)
+    let mut text: Box<dyn Played> = match name {
+        "InlineString" | "InlineStringN<30>" => Box::new(original_30::InlineString::new()),
+        "InlineStringN<8>" => Box::new(original_8::InlineString::new()),
+        "InlineStringN<0>" => Box::new(original_0::InlineString::new()),
+        "InlinableString" | "InlinableStringN<30>" => Box::new(original_30::InlinableString::default()),
+        "InlinableStringN<8>" => Box::new(original_8::InlinableString::default()),
+        "InlinableStringN<0>" => Box::new(original_0::InlinableString::default()),
+        "String" => Box::new(String::new()),
+        _ => return Err(format!("the type {name}")),
+    };
+    let mut calls: Vec<_> = room.iter().map(|room| Call::of("with_capacity", &[Number(*room)])).collect();
+    calls.push(Call::of("push_str", &[Text(front.to_string() + string)]));
+    calls.extend(front.chars().map(|_| Call::of("remove", &[Number(0)])));
+    calls.push(Call::of("push_str", &[Text(back.into())]));
+    calls.push(Call::of("truncate", &[Number(string.len())]));
+    let is_made = calls.iter().all(|call| text.play(call).is_some_and(|answer| answer != "full"));
+    if is_made { Ok(text) } else { Err(format!("such a text of {name}")) }
+}
+
+/// A text, and where it is stored unless that is an array.
+fn seen(text: &dyn Played) -> String {
+    format!("{} {}", call::text(text), text.storage().0).trim_end().into()
 }

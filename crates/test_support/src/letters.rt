@@ -1,12 +1,6 @@
-//! So many letters 'a'. `InlinableString` has room for 30 bytes inline.
-
-pub const LETTERS_26: &str = "aaaaaaaaaaaaaaaaaaaaaaaaaa";
+//! Texts of the letter 'a', by their length. `InlinableString` has room for 30 bytes inline.
 
 pub const LETTERS_27: &str = "aaaaaaaaaaaaaaaaaaaaaaaaaaa";
-
-pub const LETTERS_28: &str = "aaaaaaaaaaaaaaaaaaaaaaaaaaaa";
-
-pub const LETTERS_29: &str = "aaaaaaaaaaaaaaaaaaaaaaaaaaaaa";
 
 pub const LETTERS_30: &str = "aaaaaaaaaaaaaaaaaaaaaaaaaaaaaa";
 

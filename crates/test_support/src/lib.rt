@@ -2,14 +2,12 @@
 //! under the trait `StringExt`.
 #![tactic(auto)]
 
-mod array_text;
 mod empty_text;
 mod heap_text;
 mod hoard;
 pub mod letters;
 mod refusals;
 
-pub use array_text::ArrayText;
 pub use empty_text::EmptyText;
 pub use heap_text::HeapText;
 pub use hoard::{Hoard, NEEDS_THE_PROVED_BUILD};

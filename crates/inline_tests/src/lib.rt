@@ -1,0 +1,16 @@
+//! Tests of what no row of `inline_vectors` can say: iterators, values that hold texts, texts used
+//! as a `str`, copies, and boxed texts of unlike types.
+#![tactic(auto)]
+
+#[cfg(test)]
+mod borrowed;
+#[cfg(test)]
+mod copied;
+#[cfg(test)]
+mod each;
+#[cfg(test)]
+mod joined;
+#[cfg(test)]
+mod memory;
+#[cfg(test)]
+mod printed;
