@@ -1,9 +1,9 @@
 """gate counts: prints how long the tree is, and finds what is too long or is cited and not there.
 
-A line of a crate has at most 100 columns, unless it imports; a file at most 500 lines; a lemma with its type or
-an answer to a goal at most 30, comments aside. Each path or name that a document has in backticks is in the
-tree. No document or comment of a source has a word of ODD, of a dialect that the tree was once written in. No code
-names a trait of FORBIDDEN.
+A line of a crate, of its rows too, has at most 100 columns, unless it imports; a file at most 500 lines; a lemma
+with its type or an answer to a goal at most 30, comments aside. Each path or name that a document has in backticks
+is in the tree. No document or comment of a source has a word of ODD, of a dialect that the tree was once written
+in. No code names a trait of FORBIDDEN.
 """
 import os
 import re
@@ -17,9 +17,9 @@ COLUMNS, FILE_LINES, PROOF_LINES = 100, 500, 30
 # Folders that no commit has.
 MADE = ('.git', 'out', '__pycache__')
 EDIT_FOLDERS = ('must-fail', 'must-fail-together', 'wrong-definitions', 'wrong-clauses', 'wrong-bodies')
-# Files that `rt` checks, and files that a reader reads: stored answers and inputs are none.
-CHECKED, SOURCES = ('.rt', '.antt'), ('.rt', '.antt', '.py', '.rs', '.cpp')
-READ = (*SOURCES, '.edits', '.md')
+# Files whose lines are in a crate, and files that a reader reads: stored answers and inputs are none.
+NARROW, SOURCES = ('.rt', '.antt', '.rows'), ('.rt', '.antt', '.py', '.rs', '.cpp')
+READ = (*SOURCES, '.edits', '.md', '.rows')
 TEST_MODULE = re.compile(r'^#\[cfg\(test\)\]\n *mod (\w+);', re.MULTILINE)
 UNSAFE_BLOCK = re.compile(r'^(?! *//).*\bunsafe \{', re.MULTILINE)
 # Traits of std that are to go, which its rules let no crate implement, nor ask of a type. Comments may name them.
@@ -30,12 +30,12 @@ DECLARED = re.compile(r' *(?:(?:pub|abbrev|record) )*([^\s:({]+)')
 # What stands between backticks, outside of a fence of code.
 FENCE = re.compile(r'^```.*?^```', re.MULTILINE | re.DOTALL)
 SPAN = re.compile(r'`([^`\n]+)`')
-PATH = re.compile(r'[\w.+-]*/[\w./+-]*|[\w+-]+\.(?:rt|antt|py|rs|cpp|md|edits|cases|svg|txt)')
+PATH = re.compile(r'[\w.+-]*/[\w./+-]*|[\w+-]+\.(?:rt|antt|py|rs|cpp|md|edits|rows|cases|svg|txt)')
 NAME = re.compile(r'[a-z]\w*_\w*|\w+(?:::\w+)+')
 # Write: allocation failure, fails, is stored, after, before, except, instead of, states, is unchanged.
 ODD = re.compile(r'\b(?:want of memory|memory (?:is|was) refused|not refused|lies|behind|in front|so many|but for|'
                  r'be it|in the place of|(?:is|are) told by|tells|is said|as (?:it was|they were)|asked for)\b')
-PROSE = {'.md': '(.*)', '.rt': '^ *//[/!]?(.*)', '.antt': '^ *--(.*)'}
+PROSE = {'.md': '(.*)', '.rt': '^ *//[/!]?(.*)', '.antt': '^ *--(.*)', '.rows': '^#(.*)'}
 # What begins so is std's or the kit's, or is made by a run.
 FOREIGN = re.compile(
     r'(std|str|String|char|usize|mem|fmt|arrayvec|smallvec)::|rattle|out/|crates/NAME|/|.*/out$')
@@ -67,6 +67,8 @@ def kind_of(path, tests):
     top, crate, folder = (*path.split('/')[:-1], '', '', '')[:3]
     if path.endswith('.md'):
         return 'documents'
+    if path.endswith('.rows'):
+        return 'rows'
     if top in ('.ci', 'replay', 'bench'):
         return top
     if folder in EDIT_FOLDERS:
@@ -130,7 +132,7 @@ def too_long(texts):
     wrong += [f'{path}: the file has more than {FILE_LINES} lines' for path, text in texts.items()
               if path.endswith(READ) and text.count('\n') > FILE_LINES]
     wrong += [f'{path}:{number}: the line has more than {COLUMNS} columns'
-              for path, text in texts.items() if path.endswith(CHECKED)
+              for path, text in texts.items() if path.endswith(NARROW)
               for number, line in enumerate(text.splitlines(), 1)
               if len(line) > COLUMNS and not IMPORT.match(line)]
     return len(proofs), wrong

@@ -1,14 +1,15 @@
 """gate selftest: shows that the parts of the gate fail where they must, in a small repository of their own.
 
 There a stand-in for `rt` says what a check would. Each part passes on what is in order, and has to fail, and
-to say why, where one thing is broken: a row of BROKEN. `selftest_cases.py` has what needs no run of a part.
+to say why, where one thing is broken: a row of BROKEN. `selftest_cases.py` has what needs no run of a part, and
+`selftest_rows.py` what both builds of `inline_vectors`, which `rt ci` leaves, must find.
 """
 import os
 import re
 import shutil
 import tempfile
 
-from gate_parts import selftest_cases
+from gate_parts import selftest_cases, selftest_rows
 from gate_parts.tree import in_tree, run_in, text_of, write_text
 
 FLOORS = '''
@@ -17,7 +18,7 @@ CALLERS = 1
 REFUSALS, WRONG_BODIES, WRONG_BODIES_PROVED = {'toy': (2, 3)}, {'toy': 2}, {'toy': 1}
 BENCH_WORKLOADS, BENCH_TEXTS = 1, {'One': 1, 'Two': 1}
 GROWTH = {'jobs toy': 30_000, 'word_index': 4_000}
-PROOFS, CITED, UNSAFE = 2, 2, {}
+PROOFS, CITED, UNSAFE, ROWS = 2, 2, {}, 3
 '''
 SOURCE = '''pub const LIMIT: usize = 1;
 
@@ -78,6 +79,14 @@ turns=$3
 echo "$turns"
 while [ "$turns" -gt 0 ]; do turns=$((turns - 1)); done
 '''
+# It finds a row wrong that has that word.
+PLAYING = '''#!/bin/sh
+cat "$@" >/dev/null || exit 2
+for file; do
+    echo "$file: $(grep -c '^[^ #]' "$file") rows, $(grep -c wrong "$file") wrong"
+done
+! grep -q wrong "$@"
+'''
 # It says what the variables of its environment tell it to: where WORD stands in a source or a
 # definition, the functions of REFUSED are refused, with a line ERROR before that.
 STAND_IN = r'''#!/usr/bin/env python3
@@ -124,6 +133,9 @@ CLAUSES, LIB = 'crates/toy/wrong-clauses/lib.edits', 'crates/toy/src/lib.rt'
 BODIES, OTHER_BODIES = 'crates/toy/wrong-bodies/lib.edits', 'crates/toy/wrong-bodies/other.edits'
 PROVED_BODIES = 'crates/toy/wrong-bodies-proved/lib.edits'
 PROOF = 'crates/toy/proofs/Toy.antt'
+ARGS, STDOUT = 'crates/inline_vectors/args', 'crates/inline_vectors/stdout'
+ONE, TWO = 'crates/inline_vectors/data/one.rows', 'crates/inline_vectors/data/two.rows'
+LLVM, RATTLE = (f'crates/inline_vectors/out/inline_vectors{ending}' for ending in ('', '.by-rattle'))
 JOBS, WORDS = 'crates/jobs/out/jobs', 'crates/word_index/out/word_index'
 REPOSITORY = {
     '.ci/floors.py': text_of(in_tree('.ci', 'floors.py')) + FLOORS, 'HANDLES': 'Handles allowed: none.\n',
@@ -136,6 +148,8 @@ REPOSITORY = {
     ALONE: 'file: src/lib.rt\nold:     one()\nnew:     2\n', DEFINITIONS: DEFINITION, CLAUSES: CLAUSE,
     BODIES: BODY, PROVED_BODIES: PROVED_BODY, OTHER_BODIES: OTHER_BODY.replace('two_for', 'three_for').replace('old:', IN_LIB),
     'bench/sums.py': text_of(in_tree('bench', 'sums.py')), 'bench/workloads.py': WORKLOADS,
+    ARGS: 'one.rows\ntwo.rows\n', STDOUT: 'one.rows: 2 rows, 0 wrong\ntwo.rows: 1 rows, 0 wrong\n',
+    ONE: '# Two rows.\nfirst:\n  call\nsecond: call\n', TWO: 'third: call\n', LLVM: PLAYING, RATTLE: PLAYING,
     'bench/sums': '11 from 6\n', JOBS: GROWING, WORDS: GROWING, PROOF: 'one = 1\n',
     'README.md': '```rust\nfn main() {}\n```\nIt prints `fn pasted::main: proved`. `toy/src/lib.rt` has `rows::row`.\n'
                  'C files, of which the program calls `read`.\n'}
@@ -147,6 +161,7 @@ IN_ORDER = {
     'refusals': ('', {'FIRST': 'one 2 0,one 2 0,last 2 0', 'SECOND': 'one 1 0,last 1 0,none 1 0',
                       'WRONG': 'none 2 0,none 2 0', 'WORD': 'WRONG', 'FELL': 'more'}),
     'bench': ('bin/program', {}),
+    'rows': ('', {}),
     'counts': ('', {})}
 ILL = './specs/E1Word.antt:1:1: error: `word`: expected type `ℕ`'
 # A part, what it must say, and what is broken: another environment, or in a file a text, and what is in its
@@ -210,6 +225,19 @@ BROKEN = (
     *(('bench', 'must end with 0 and print the same', JOBS, *answer) for answer in (
         ('echo "$turns"\n', ''), ('"$turns"\n', '$$\n'), ('; done\n', '; done\nexit 3\n'))),
     ('bench', 'is not there', WORDS, '', None),
+    ('rows', 'args must be these 2 lines', ARGS, 'two.rows\n', ''),
+    ('rows', 'stdout must be these 2 lines', STDOUT, ': 2', ': 1'),
+    ('rows', 'two.rows has no row', TWO, 'third', '# third'),
+    ('rows', 'two.rows:1: the row is that of one.rows:2', TWO, 'third', 'first'),
+    ('rows', 'there are 2 rows', ONE, 'second', ' second'),
+    ('rows', 'there are 3 rows', '.ci/floors.py', '{}, 3\n', '{}, 2\n'),
+    ('rows', 'two.rows: 1 rows, 1 wrong', TWO, 'call', 'wrong'),
+    *(('rows', *fault) for program in (LLVM, RATTLE) for fault in (
+        ('status 0: NOT WELL', program, ' wrong"', ' bad"'), ('status 1: NOT WELL', program, '! ', ''),
+        ('is not there', program, '', None))),
+    (f'rows {ONE} {TWO}', None, ARGS, 'two.rows\n', ''),
+    (f'rows {ONE} {TWO}', 'status 1: NOT WELL', TWO, 'call', 'wrong'),
+    ('rows none.rows', 'status 2: NOT WELL', {}),
     ('counts', 'there is no toy/src/other.rt', 'README.md', 'lib.rt', 'other.rt'),
     ('counts', 'is no word of std', 'README.md', 'has `rows', 'lies in `rows'),
     ('counts', 'there is no rows::law', 'README.md', 'rows::row', 'rows::law'),
@@ -221,6 +249,8 @@ BROKEN = (
         'use std::collections::btree_map::{BTreeMap, Comparable};')),
     ('counts', None, LIB, 'pub fn other', '/// No `Comparable`.\npub fn other'),
     ('counts', 'more than 100 columns', LIB, '    1\n', '    1 + ' + '1' * 93 + '\n'),
+    ('counts', 'more than 100 columns', TWO, 'call', 'call' * 24),
+    ('counts', 'is no word of std', ONE, 'Two', 'so many'),
     ('counts', 'more than 500 lines', LIB, '    1\n', '    1\n' * 500),
     ('counts', 'one has 31 lines', PROOF, '1\n', '1\n' + '    1\n' * 30))
 PARTS = '#!/bin/sh\necho part "$@"\n[ "$1" != "$FAILING" ]\n'
@@ -291,7 +321,7 @@ def main(_):
         rows = [*((part, None) for part in IN_ORDER), *BROKEN]
         shown = [(' '.join(map(str, row)), repository.is_noticed(*row)) for row in rows]
         shown += [*on_options(repository), *on_run(repository)]
-    shown += selftest_cases.shown()
+    shown += [*selftest_cases.shown(), *selftest_rows.shown()]
     unnoticed = [f'NOT NOTICED: {what}' for what, is_noticed in shown if not is_noticed]
     print(*unnoticed, f'{len(shown)} things shown, {len(unnoticed)} not', sep='\n')
     return not unnoticed

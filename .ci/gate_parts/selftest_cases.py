@@ -19,7 +19,7 @@ from gate_parts.tree import Failure, text_of, too_few, write_text
 
 # As much as the floors say at least, in all: whoever lowers one further lowers its number here too.
 LEAST = {'EDITS': 150, 'MUST_FAIL': 15, 'WRONG_DEFINITIONS': 200, 'WRONG_CLAUSES': 5, 'CALLERS': 80,
-         'REFUSALS': 100, 'WRONG_BODIES': 15, 'BENCH_WORKLOADS': 70, 'BENCH_TEXTS': 150, 'GROWTH': 150_000}
+         'ROWS': 500, 'REFUSALS': 100, 'WRONG_BODIES': 15, 'BENCH_WORKLOADS': 70, 'BENCH_TEXTS': 150, 'GROWTH': 150_000}
 EDIT = '''# why
 edit two_for_one
 refused: one returns
