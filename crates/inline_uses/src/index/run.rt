@@ -226,6 +226,9 @@ impl Run {
         let Some(first) = self.marks.first() else {
             return self.front;
         };
+        if self.front == 0 {
+            return 0;
+        }
         let known = texts.text(first.id).as_bytes();
         if front_of(known, self.front) == front_of(text, self.front) {
             return self.front;
