@@ -14,18 +14,37 @@ mod read;
 mod rows;
 mod script;
 
-/// The same calls on the crate at each capacity, since each has types and a trait of its own.
-mod at_30 {
-    use original_30 as original;
-    include!("text.rs");
+/// The same calls on the crate at each capacity, since each has types and a trait of its own; and the empty text of
+/// one of these types.
+macro_rules! at {
+    ($($capacity:literal $module:ident $original:ident)*) => {
+        $(mod $module {
+            use $original as original;
+            include!("text.rs");
+        })*
+
+        fn empty(name: &str) -> Option<Box<dyn Played>> {
+            $(if name == concat!("InlineStringN<", $capacity, ">") {
+                return Some(Box::new($original::InlineString::new()));
+            }
+            if name == concat!("InlinableStringN<", $capacity, ">") {
+                return Some(Box::new($original::InlinableString::default()));
+            })*
+            None
+        }
+    };
 }
-mod at_8 {
-    use original_8 as original;
-    include!("text.rs");
-}
-mod at_0 {
-    use original_0 as original;
-    include!("text.rs");
+
+at! {
+    0 at_0 original_0
+    1 at_1 original_1
+    3 at_3 original_3
+    4 at_4 original_4
+    8 at_8 original_8
+    10 at_10 original_10
+    30 at_30 original_30
+    39 at_39 original_39
+    48 at_48 original_48
 }
 
 use call::Call;
@@ -88,16 +107,13 @@ fn begun(name: &str, start: &[Token], room: Option<usize>) -> Result<Box<dyn Pla
             _ => return Err(rows::NO_ROW.into()),
         }
     }
-    let mut text: Box<dyn Played> = match name {
-        "InlineString" | "InlineStringN<30>" => Box::new(original_30::InlineString::new()),
-        "InlineStringN<8>" => Box::new(original_8::InlineString::new()),
-        "InlineStringN<0>" => Box::new(original_0::InlineString::new()),
-        "InlinableString" | "InlinableStringN<30>" => Box::new(original_30::InlinableString::default()),
-        "InlinableStringN<8>" => Box::new(original_8::InlinableString::default()),
-        "InlinableStringN<0>" => Box::new(original_0::InlinableString::default()),
-        "String" => Box::new(String::new()),
-        _ => return Err(format!("the type {name}")),
+    let made: Option<Box<dyn Played>> = match name {
+        "String" => Some(Box::new(String::new())),
+        "InlineString" => empty("InlineStringN<30>"),
+        "InlinableString" => empty("InlinableStringN<30>"),
+        _ => empty(name),
     };
+    let mut text = made.ok_or_else(|| format!("the type {name}"))?;
     let mut calls: Vec<_> = room.iter().map(|room| Call::of("with_capacity", &[Number(*room)])).collect();
     calls.push(Call::of("push_str", &[Text(front.to_string() + string)]));
     calls.extend(front.chars().map(|_| Call::of("remove", &[Number(0)])));
