@@ -10,7 +10,7 @@ from multiprocessing import get_context
 from gate_parts.tree import PROCESSORS, Failure, crate_folder
 
 # A program that does not end in so many seconds is killed.
-SECONDS = 20
+SECONDS = 100
 # How the standard streams are, where they are not files in memory.
 STREAMS = ('stdin-dir', 'stdin-zero', 'stdin-pipe', 'stdout-full', 'stdout-closed')
 
