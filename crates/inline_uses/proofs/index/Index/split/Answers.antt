@@ -27,14 +27,12 @@ returns-in_err-upper-clause-ids g c =
 
 pub id-requires : goal.id-requires
 id-requires g c = upper_some (ready g (goal.at.id-requires g c).After-split_run) c.requires.some
-    c.requires.not_all c.requires.full
-    c.requires.spot c.in_ok-upper.ensures.ok
+    c.requires.not_all c.requires.full c.requires.spot c.in_ok-upper.ensures.ok
 
 pub put-requires-clause-gap : goal.put-requires-clause-gap
 put-requires-clause-gap g c =
     upper_gap (ready g (goal.at.put-requires-clause-gap g c).After-split_run) c.requires.some
-    c.requires.not_all c.requires.full
-    c.requires.spot c.in_ok-upper.ensures.ok c.id.ensures
+    c.requires.not_all c.requires.full c.requires.spot c.in_ok-upper.ensures.ok c.id.ensures
 
 -- the runs are those before, with two for the one that was split, and so is the spot
 runs_are : (g : Over) → (c : After-after_split g) → IsMoved (g.T.Texts.text_of c.args.texts.now)
@@ -42,10 +40,9 @@ runs_are : (g : Over) → (c : After-after_split g) → IsMoved (g.T.Texts.text_
     (record c.split_run.new.self { later = c.insert_run.new.runs; starts = c.put.new.self })
     c.args.spot c.after_split.result
 runs_are g c = spot_moved (ready g (goal.at.After-after_split g c).After-split_run) c.requires.some
-    c.requires.not_all c.requires.full
-    c.requires.spot c.in_ok-upper.ensures.ok _ _ c.id.result refl c.insert_run.ensures
-    c.put.ensures.ids c.put.ensures.run c.id.ensures c.after_split.ensures.lower
-    c.after_split.ensures.upper
+    c.requires.not_all c.requires.full c.requires.spot c.in_ok-upper.ensures.ok _ _ c.id.result refl
+    c.insert_run.ensures c.put.ensures.ids c.put.ensures.run c.id.ensures
+    c.after_split.ensures.lower c.after_split.ensures.upper
 
 pub returns-clause-index : goal.returns-clause-index
 returns-clause-index g c = (runs_are g c).index
