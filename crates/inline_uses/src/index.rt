@@ -79,7 +79,27 @@ impl Index {
         ensures gap { IfErr result (λ spot. IsGap (map (T.text_of texts.now) (ids_in self.now))
             text.now (index_of self.now spot)) }
     {
-        match self.locate(texts, text) {
+        if !self.later.is_empty() {
+            return self.find_among_runs(texts, text);
+        }
+        match self.first.search(texts, text) {
+            Ok(at) => Ok(self.first.id(at)),
+            Err(at) => Err(Spot { run: 0, at }),
+        }
+    }
+
+    /// Finds a text in an index of several runs.
+    #[inline(never)]
+    fn find_among_runs<T: Texts>(&self, texts: &T, text: &str) -> Result<usize, Spot>
+        requires { IsIndex (T.text_of texts.now) self.now }
+        ensures found { IfOk result (λ id. (at : ℕ)
+            × (slice_get (map (T.text_of texts.now) (ids_in self.now)) at ≡ Some text.now)
+            × (slice_get (ids_in self.now) at ≡ Some id)) }
+        ensures spot { IfErr result (IsSpot self.now) }
+        ensures gap { IfErr result (λ spot. IsGap (map (T.text_of texts.now) (ids_in self.now))
+            text.now (index_of self.now spot)) }
+    {
+        match self.locate_among_runs(texts, text) {
             Ok(spot) => Ok(self.id(spot)),
             Err(spot) => Err(spot),
         }

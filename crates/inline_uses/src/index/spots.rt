@@ -27,7 +27,7 @@ impl Index {
     /// Locates a text in an index of several runs.
     #[inline(never)]
     #[tactic(auto, using(crate::proofs::Spots::first_spot))]
-    fn locate_among_runs<T: Texts>(&self, texts: &T, text: &str) -> Result<Spot, Spot>
+    pub(super) fn locate_among_runs<T: Texts>(&self, texts: &T, text: &str) -> Result<Spot, Spot>
         requires { IsIndex (T.text_of texts.now) self.now }
         ensures at { IfOk result (IsAt self.now) }
         ensures found { IfOk result (λ spot.
