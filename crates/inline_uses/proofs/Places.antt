@@ -89,6 +89,12 @@ module _ (index : Index) where
             same = omega (arith, past, place.within, own, next_start runs from.run);
           })
 
+  pub has_some : (k : ℕ) → HaveFirsts (ids_of index.starts) index.later.items
+      → k ≤ length index.later.items → 0 < k → 0 < length (ids_at runs k)
+  has_some zero have within later = absurd (omega (arith, later))
+  has_some (suc k) have within later =
+      has_first (ids_of index.starts) index.later.items k have within
+
   -- only the first run may have no ids
   none_earlier : (k : ℕ) → HaveFirsts (ids_of index.starts) index.later.items
       → k ≤ length index.later.items → length (ids_at runs k) ≡ 0

@@ -64,6 +64,23 @@ module _ (keys : List (List ℕ)) (key : List ℕ) (start end at : ℕ)
     is_there equal = slice_get-get_or keys at [] (omega (arith, to, part.1))
         ∙ ap Some (exact_bytes _ _ equal)
 
+-- a key above the last one goes after all
+pub past_all : {A : Type 0} (f : A → List ℕ) (xs : List A) (key : List ℕ) (at : ℕ) (x : A)
+    → IsStrictlySortedBy key_order (map f xs) → slice_get xs at ≡ Some x → at + 1 ≡ length xs
+    → key_order (f x) key ≡ Less → IsGap (map f xs) key (length xs)
+past_all f xs key at x sorted is last below =
+    let keys = map f xs in
+    let count : length keys ≡ at + 1 = length-map xs f ∙ sym last in
+    let here : get_or keys at [] ≡ f x
+    = get_or_from_slice_get keys at (f x) [] (slice_get-map f xs at ∙ ap (option_map f) is) in
+    let past = goes_after keys key 0 (at + 1) at sorted (
+      omega arith,
+      omega (arith, count),
+      (λ i less. absurd (omega arith)),
+      λ i le less. absurd (omega (arith, count, le, less)),
+    ) (omega arith) (omega arith) (rw here below) in
+    rw (← last) (omega (arith, count), past.2, past.3)
+
 -- a comparison to the key in the middle narrows where a key goes, or finds it
 pub compared : {A : Type 0} (f : A → List ℕ) (xs : List A) {key : List ℕ} {start end : ℕ} {x : A}
     {o : Ordering} → IsStrictlySortedBy key_order (map f xs) → GoesWithin (map f xs) key start end

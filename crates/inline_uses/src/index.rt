@@ -3,7 +3,7 @@
 //! A search bisects the first ids of the runs, and then one run. A new id moves the ids after it in
 //! its run alone, and a run that is full is split. The first run is searched alone until there is
 //! another, so a small index is one run.
-ghost use Rattle.std.specs.Prelude.{◌≡◌, ◌+◌, ◌^◌, ◌≤◌, ◌<◌, ℕ, length, List, [], map, slice_get, Some, IfOk, IfErr, OnOk, OnErr};
+ghost use Rattle.std.specs.Prelude.{◌≡◌, ◌+◌, ◌^◌, ◌≤◌, ◌<◌, ℕ, length, List, [], map, min, slice_get, Some, IfOk, IfErr, OnOk, OnErr};
 ghost use Rattle.std.specs.Borrow.{sem};
 ghost use Rattle.std.specs.List.{AllByRecursion, insert};
 ghost use Rattle.std.specs.Vec.{vec_len, vec_capacity};
@@ -130,6 +130,18 @@ impl Index {
         &mut self.later[at - 1]
     }
 
+    /// Reserves memory for this many ids in the first run, or for a full one. Fails only if an
+    /// allocation does; the ids are unchanged in either case.
+    pub(crate) fn reserve(&mut self, count: usize) -> Result<(), AllocError>
+        ensures ids { ids_in self.new ≡ ids_in self.old }
+        ensures index { (text_of : ℕ → List ℕ) → IsIndex text_of self.old
+            → IsIndex text_of self.new }
+        ensures room { OnOk result (vec_len self.new.first.marks + min count FULL
+            ≤ vec_capacity self.new.first.marks) }
+    {
+        self.first.reserve(count.min(FULL))
+    }
+
     /// Inserts the id of a text where it goes. Fails only if an allocation does; the ids are then
     /// unchanged.
     pub(crate) fn insert<T: Texts>(
@@ -185,7 +197,7 @@ impl Index {
         ensures at { IfOk result (λ moved. index_of self.new moved ≡ index_of self.old spot) }
     {
         self.later.reserve(1)?;
-        self.starts.reserve()?;
+        self.starts.reserve(1)?;
         let upper = self.split_run(texts, spot.run, kept)?;
         self.starts.put(texts, spot.run, upper.id(0));
         insert_run(&mut self.later, spot.run, upper);

@@ -1,5 +1,5 @@
 //! A map from texts, for many keys.
-ghost use Rattle.std.specs.Prelude.{◌≡◌, ◌<◌, ◌^◌, ℕ, [], ◌∷◌, ◌++◌, length, map, option_copied, IfOk, IfErr, OnOk, OnErr, IsOk, IsSome, IsTrue, ◌↔◌};
+ghost use Rattle.std.specs.Prelude.{◌≡◌, ◌<◌, ◌^◌, ℕ, [], ◌∷◌, ◌++◌, length, map, option_copied, IfOk, IfSome, IfErr, OnOk, OnErr, IsOk, IsSome, IsTrue, ◌↔◌};
 ghost use Rattle.std.specs.Map.{keys_of};
 ghost use Rattle.std.specs.Option.{option_copied_mut};
 ghost use Rattle.inline_uses.specs.Index.{IsIndex, ids_in};
@@ -10,7 +10,7 @@ use crate::index::{Index, Spot, Texts};
 use inlinable_string::laws::bytes_of_parts;
 use inlinable_string::{InlinableString, StringExt};
 pub use iter::Iter;
-use std::alloc::{AllocFailed, Global};
+use std::alloc::{AllocError, AllocFailed, Global};
 use std::marker::Model;
 use std::mem::replace;
 
@@ -131,6 +131,15 @@ impl<V: Drop> TextMap<V> {
     ghost use Rattle.std.specs.Option.{unwrap_or};
     ghost use Rattle.inline_uses.specs.Lending.{LendsValueIfOk};
 
+    /// Reserves memory for this many keys. Fails only if an allocation does; the map is unchanged in
+    /// either case.
+    fn reserve(&mut self, count: usize) -> Result<(), AllocError>
+        ensures { self.new ≡ self.old }
+    {
+        self.entries.reserve(count)?;
+        self.order.reserve(count)
+    }
+
     /// Puts a value under a key, and returns the one that it had. Fails only if an allocation does,
     /// and never if the key has a value; the map is then unchanged, and the new value comes back.
     pub fn put(&mut self, key: &str, value: V) -> Result<Option<V>, AllocFailed<V>>
@@ -152,6 +161,24 @@ impl<V: Drop> TextMap<V> {
                 Ok(None)
             }
         }
+    }
+
+    /// Puts a value under a key, soon if the key goes after all others. Fails only if an allocation
+    /// does; the map is then unchanged.
+    fn put_from_end(&mut self, key: &str, value: V) -> Result<(), AllocFailed<V>>
+        ensures ok { OnOk result (self.new ≡ with_value self.old key.now value) }
+        ensures err { OnErr result (self.new ≡ self.old) }
+    {
+        let Some(spot) = end_for(&self.entries, &self.order, key) else {
+            drop(self.put(key, value)?);
+            return Ok(());
+        };
+        let Self {
+            alloc,
+            entries,
+            order,
+        } = self;
+        insert(*alloc, entries, order, key, value, spot)
     }
 
     /// Returns the value under a key to be changed. A key that has none gets this one first. Fails
@@ -208,6 +235,14 @@ fn search<V>(entries: &Vec<(InlinableString, V)>, order: &Index, key: &str) -> R
         (IsMissing (map entry_of entries.now.items) order.now key.now) }
 {
     order.find(entries, key)
+}
+
+/// Returns where the number of a key goes, if that is after all others.
+fn end_for<V>(entries: &Vec<(InlinableString, V)>, order: &Index, key: &str) -> Option<Spot>
+    requires mapped { AreMapped (map entry_of entries.now.items) order.now }
+    ensures { IfSome result (IsMissing (map entry_of entries.now.items) order.now key.now) }
+{
+    order.end_for(entries, key)
 }
 
 /// Inserts a key that has no entry, whose entry is then the last one. Fails only if an allocation

@@ -1,10 +1,12 @@
 //! Going over ids in the order of their texts.
 ghost use Rattle.std.specs.Prelude.{◌≡◌, ◌≤◌, ◌<◌, ◌+◌, ◌-◌, ◌^◌, ℕ, [], map, length, slice_index_or, true, false, IfSome, IfNone};
 ghost use Rattle.std.specs.Ordering.{is_gt};
-ghost use Rattle.inline_uses.specs.Symbols.{key_order};
-ghost use Rattle.inline_uses.specs.Index.{HaveFirsts, IsAt, IsIndex, IsPlace, ids_in, ids_of, index_of};
+ghost use Rattle.inline_uses.specs.Symbols.{IsGap, key_order};
+ghost use Rattle.inline_uses.specs.Index.{HaveFirsts, IsAt, IsIndex, IsPlace, IsSpot, ids_at, ids_in, ids_of, index_of, runs_of};
 
+use super::mark::compare_texts;
 use super::{Index, Spot, Texts};
+use std::cmp::Ordering;
 
 impl Index {
     /// Returns the place before all ids.
@@ -19,11 +21,28 @@ impl Index {
     pub(crate) fn end(&self) -> Spot
         ensures place { IsPlace self.now result }
         ensures at { index_of self.now result ≡ length (ids_in self.now) }
+        ensures last { result.at ≡ length (ids_at (runs_of self.now) result.run) }
     {
         let run = self.later.len();
         Spot {
             run,
             at: self.run(run).len(),
+        }
+    }
+
+    /// Returns the spot after all ids, if a text goes there. This takes a single comparison. Where
+    /// there are no ids there is none.
+    pub(crate) fn end_for<T: Texts>(&self, texts: &T, text: &str) -> Option<Spot>
+        requires { IsIndex (T.text_of texts.now) self.now }
+        ensures spot { IfSome result (IsSpot self.now) }
+        ensures gap { IfSome result (λ spot. IsGap (map (T.text_of texts.now) (ids_in self.now))
+            text.now (index_of self.now spot)) }
+    {
+        let end = self.end();
+        let last = self.before(end)?;
+        match compare_texts(texts.text(self.id(last)), text) {
+            Ordering::Less => Some(end),
+            _ => None,
         }
     }
 

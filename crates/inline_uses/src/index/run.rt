@@ -59,14 +59,15 @@ impl Run {
         self.marks[at].id
     }
 
-    /// Reserves memory for one more id.
-    pub(super) fn reserve(&mut self) -> Result<(), AllocError>
+    /// Reserves memory for this many more ids.
+    pub(super) fn reserve(&mut self, additional: usize) -> Result<(), AllocError>
         ensures ids { ids_of self.new ≡ ids_of self.old }
         ensures run { (text_of : ℕ → List ℕ)
             → IsOrdered text_of self.old → IsOrdered text_of self.new }
-        ensures room { OnOk result (vec_len self.new.marks < vec_capacity self.new.marks) }
+        ensures room { OnOk result
+            (vec_len self.new.marks + additional ≤ vec_capacity self.new.marks) }
     {
-        self.marks.reserve(1)
+        self.marks.reserve(additional)
     }
 
     /// Returns the index of a text's id, or the one at which it goes. Does not allocate.
@@ -158,7 +159,7 @@ impl Run {
         ensures ok { OnOk result (ids_of self.new ≡ insert (ids_of self.old) at id) }
         ensures err { OnErr result (ids_of self.new ≡ ids_of self.old) }
     {
-        self.reserve()?;
+        self.reserve(1)?;
         self.put(texts, at, id);
         Ok(())
     }

@@ -79,12 +79,12 @@ impl TextMap<InlinableString> {
             (λ entries. texts_of map ≡ entries)) }
     {
         let mut map = TextMap::new(alloc);
-        map.entries.reserve(members.len())?;
+        map.reserve(members.len())?;
         for (name, value) in members {
             let Some(text) = value.as_str() else {
                 break;
             };
-            drop(map.put(name.as_str(), InlinableString::from(alloc, text)?)?);
+            map.put_from_end(name.as_str(), InlinableString::from(alloc, text)?)?;
         }
         Ok(map)
     }

@@ -14,3 +14,8 @@ returns-clause-place c = record {
 pub returns-clause-at : goal.returns-clause-at
 returns-clause-at c = rw c.len.ensures
     (last_end c.args.self.now c.len-run.result c.run.result.now (search rules) c.run.ensures)
+
+pub returns-clause-last : goal.returns-clause-last
+returns-clause-last c =
+    rw (ids_at_is (runs_of c.args.self.now) c.len-run.result c.run.result.now c.run.ensures)
+    c.len.ensures

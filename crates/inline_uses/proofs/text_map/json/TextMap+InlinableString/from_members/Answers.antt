@@ -5,13 +5,10 @@ use Rattle.inline_uses.specs.Symbols.{bytes_at}
 use Rattle.inline_uses.proofs.MapTexts.{text_put}
 use Rattle.inline_uses.proofs.text_map.json.TextMap+InlinableString.from_members.Goals as goal
 
-pub invariant_of-map : goal.invariant_of-map
-invariant_of-map c = rw c.reserve.ensures.items c.map.invariant
-
 pub loop-name-preserved : goal.loop-name-preserved
 loop-name-preserved c =
     let was = rw c.in-Some.ensures.steps at c.loop-name.invariant in
     let read : as_str (view c.in-Some.value.now) ≡ Some c.in-Some-as_str.text.now = search rules in
     let same : bytes_at c.in_ok-from.field-0 ≡ c.in-Some-as_str.text.now = search rules in
-    rw (c.in_ok-put.ensures.ok, text_put, c.as_str-in-loop-name.ensures.value, same)
+    rw (c.in_ok-put_from_end.ensures.ok, text_put, c.as_str-in-loop-name.ensures.value, same)
     (was ∙ rw read refl)
