@@ -1,16 +1,6 @@
 -- A map of which an entry goes: the last one takes its place in the list, and its number.
-use Rattle.std.proofs.Common.{arith, ◌≡◌, ℕ, suc, ◌-◌, ◌<◌, List, length, map, set, get_or, Some, refl, sym, ap, subst, ◌∙◌}
-use Rattle.std.proofs.lemmas.List.{length-map}
-use Rattle.std.proofs.lemmas.Option.{slice_get-map}
-use Rattle.std.specs.Prelude.{slice_get}
-use Rattle.std.specs.List.{AllByRecursion, remove, swap_remove}
-use Rattle.std.specs.Map.{keys_of}
-use Rattle.inline_uses.specs.Symbols.{IsGap, text_at}
-use Rattle.inline_uses.specs.TextMap.{AreMapped, AreNumbers, AreOthers, Entries, IsFound, IsRenumbered, entries_at, entry_of, value_of, without}
-use Rattle.inline_uses.specs.Index.{IsIndex, ids_in}
-use Rattle.inline_uses.specs.declared.index.Index.{Index}
-use Rattle.inlinable_string.specs.declared.inlinable_string.InlinableStringN.{InlinableStringN}
-use Rattle.inline_uses.proofs.Mapped.{found_entry, read_entry}
+use Rattle.inline_uses.proofs.Names.{AllByRecursion, AreMapped, AreNumbers, AreOthers, Entries, Index, InlinableStringN, IsFound, IsGap, IsIndex, IsRenumbered, List, Some, ap, arith, entries_at, entry_of, get_or, ids_in, keys_of, length, length-map, map, refl, remove, set, slice_get, slice_get-map, subst, suc, swap_remove, sym, text_at, value_of, without, ℕ, ◌-◌, ◌<◌, ◌∙◌, ◌≡◌}
+use Rattle.inline_uses.proofs.Mapped.{found_entry, value_read}
 use Rattle.inline_uses.proofs.RunEdits.{all_at}
 use Rattle.inline_uses.proofs.SameTexts.{same_texts}
 use Rattle.inline_uses.proofs.Search.{removed_seen}
@@ -43,11 +33,10 @@ module _ {V : Type 0} {es : Entries V} {last id : ℕ} {order : Index}
         let count : last ≡ length es - 1 = omega (arith, is.all) in
         let same = λ (gone : List ℕ × V). ap (map (slice_get (swap_remove es id gone))) ids
         ∙ renamed_seen last id (ids_in order) is.others is.within
-        (slice_get (swap_remove es id gone)) (slice_get es)
-        (swapped_moves es id last gone is.all) (swapped_stays es id last gone is.all) in
+        (slice_get (swap_remove es id gone)) (slice_get es) (swapped_moves es id last gone is.all)
+        (swapped_stays es id last gone is.all) in
         record {
-          numbers = rw (ids, ← count)
-              (numbers_renamed last id (ids_in order) is.others is.within);
+          numbers = rw (ids, ← count) (numbers_renamed last id (ids_in order) is.others is.within);
           same = same;
           index = λ gone. kept text_of (text_at (keys_of (swap_remove es id gone))) is.index
               (keys_at (swap_remove es id gone) (ids_in after) ∙ ap (map key_or) (same gone)
@@ -87,10 +76,8 @@ module _ {V : Type 0} {es : Entries V} {last id : ℕ} {order : Index}
 pub number_within : {V : Type 0} (items : List (InlinableStringN 30 × V)) (order : Index)
     (at id : ℕ) → slice_get (ids_in order) at ≡ Some id → AreMapped (map entry_of items) order
     → id < length items
-number_within items order at id is mapped =
-    let within = all_at (λ id. id < length (map entry_of items)) (ids_in order) at id
-    mapped.0.within (sym is) in
-    rw length-map at within
+number_within items order at id is mapped = rw length-map at
+    (all_at (λ id. id < length (map entry_of items)) (ids_in order) at id mapped.0.within (sym is))
 
 -- a key is at an index among those of a map, and its entry has a number
 pub record IsAtIndex {V : Type 0} (items : List (InlinableStringN 30 × V)) (order : Index)
@@ -113,8 +100,7 @@ module _ {V : Type 0} {items : List (InlinableStringN 30 × V)} {order : Index} 
 
     pub value_left : {x : InlinableStringN 30 × V} → x ≡ get_or items id x
         → Some x.1 ≡ value_of view key
-    value_left {x} read = ap (λ e. Some e.1)
-        (read_entry items id x (key, found.value) found.entry read) ∙ sym found.known
+    value_left read = value_read items found read
 
     -- the number goes out of the index
     pub others_left : (left : Index) → ids_in left ≡ remove (ids_in order) at

@@ -1,19 +1,7 @@
 -- The ids of runs together, and where a text goes among them.
-use Rattle.std.proofs.Common.{arith, ◌≡◌, ℕ, zero, suc, ◌+◌, ◌-◌, ◌<◌, ◌≤◌, List, [], ◌∷◌, ◌++◌, map, length, take, drop, get_or, set, Some, Less, Greater, refl, sym, ap, subst, ◌∙◌, append_assoc}
-use Rattle.std.specs.Prelude.{slice_get}
-use Rattle.std.proofs.lemmas.Cmp.{nat_list_cmp_total}
-use Rattle.std.proofs.lemmas.List.{drop-map, length-append, length-map, length-take-le, map-append, take-append-drop, take-map}
-use Rattle.std.proofs.lemmas.Option.{slice_get-get_or, slice_get-map, slice_get_within}
-use Rattle.std.proofs.Math.Seq.{take-append_seam}
-use Rattle.std.proofs.lemmas.List.Elements.{All-append, All-from_recursion, All-weaker, recursion_from_All}
-use Rattle.std.specs.List.{AllByRecursion, flat_map}
-use Rattle.std.specs.List.Sorted.{IsStrictlySortedBy}
-use Rattle.inline_uses.specs.Index.{HaveFirsts, IsIndex, IsOrdered, ids_at, ids_of, runs_of}
-use Rattle.inline_uses.specs.declared.index.Index.{Index}
-use Rattle.inline_uses.specs.Symbols.{key_order, IsGap}
-use Rattle.inline_uses.specs.declared.index.run.Run.{Run}
+use Rattle.inline_uses.proofs.Names.{All-append, All-from_recursion, All-weaker, AllByRecursion, Greater, HaveFirsts, Index, IsGap, IsStrictlySortedBy, Less, List, Run, Some, [], ap, append_assoc, arith, common_steps, drop, drop-map, flat_map, flat_map-append, get_or, get_or_from_slice_get, gets, ids_at, ids_of, key_order, length, length-append, length-map, length-take-le, map, map-append, nat_list_cmp_total, recursion_from_All, refl, runs_of, set, set-get_or, set_split, slice_get, slice_get-get_or, slice_get-map, slice_get_within, subst, suc, sym, take, take-append-drop, take-map, take-nil, zero, ℕ, ◌++◌, ◌+◌, ◌-◌, ◌<◌, ◌∙◌, ◌∷◌, ◌≡◌, ◌≤◌}
 use Rattle.inline_uses.proofs.Gaps.{AreAbove, AreBelow, gap_between, parts_of_gap, turned_back}
-use Rattle.inline_uses.proofs.RunEdits.{all_at, all_take, gap_in_rest}
+use Rattle.inline_uses.proofs.RunEdits.{all_at, all_front, gap_in_rest, sorted_parts}
 use Rattle.inline_uses.proofs.Tables.{before_append}
 
 -- the ids of runs
@@ -22,33 +10,40 @@ flat = flat_map ids_of
 
 pub past_append : {X : Type 0} (xs ys : List X) (i : ℕ)
     → slice_get (xs ++ ys) (length xs + i) ≡ slice_get ys i
-past_append [] ys i = let same : 0 + i ≡ i = omega arith in ap (slice_get ys) same
-past_append (x ∷ xs) ys i =
-    let next : suc (length xs) + i ≡ suc (length xs + i) = omega arith in
-    ap (slice_get (x ∷ (xs ++ ys))) next ∙ past_append xs ys i
+past_append xs ys i = grind (arith, common_steps, gets)
 
-pub have_length : (ids : List ℕ) (runs : List Run) → HaveFirsts ids runs
-    → length ids ≡ length runs
+-- a list around the element at an index
+module _ {X : Type 0} where
+  pub set_around : (xs : List X) (at : ℕ) (x y : X) → slice_get xs at ≡ Some x
+      → set xs at y ≡ take at xs ++ y ∷ drop (suc at) xs
+  set_around xs at x y is = set_split xs at y (slice_get_within xs at x is)
+
+  pub around : (xs : List X) (at : ℕ) (x : X) → slice_get xs at ≡ Some x
+      → xs ≡ take at xs ++ x ∷ drop (suc at) xs
+  around xs at x is = sym (set-get_or xs at x)
+      ∙ ap (set xs at) (get_or_from_slice_get xs at x x is) ∙ set_around xs at x x is
+
+pub have_length : (ids : List ℕ) (runs : List Run) → HaveFirsts ids runs → length ids ≡ length runs
 have_length [] [] have = refl
 have_length [] (run ∷ runs) have = absurd have
 have_length (id ∷ ids) [] have = absurd have
 have_length (id ∷ ids) (run ∷ runs) have = ap suc (have_length ids runs have.1)
 
+-- the ids are those before a run, its own, and those after it
+pub flat_at : (runs : List Run) (k : ℕ) (run : Run) → slice_get runs k ≡ Some run
+    → flat runs ≡ flat (take k runs) ++ (ids_of run ++ flat (drop (suc k) runs))
+flat_at runs k run is = ap flat (around runs k run is)
+    ∙ flat_map-append ids_of (take k runs) (run ∷ drop (suc k) runs)
+
 -- an id of a run is among all
 pub in_flat : (runs : List Run) (k : ℕ) (run : Run) (at id : ℕ) → slice_get runs k ≡ Some run
     → slice_get (ids_of run) at ≡ Some id
     → slice_get (flat runs) (length (flat (take k runs)) + at) ≡ Some id
-in_flat [] k run at id is here = cc
-in_flat (r ∷ runs) zero run at id is here =
-    let same : r ≡ run = cc in
-    rw same (before_append (ids_of run) (flat runs) (0 + at) id
-    (let same : 0 + at ≡ at = omega arith in ap (slice_get (ids_of run)) same ∙ here))
-in_flat (r ∷ runs) (suc k) run at id is here =
-    let rest = in_flat runs k run at id is here in
-    let place : length (ids_of r ++ flat (take k runs)) + at
-    ≡ length (ids_of r) + (length (flat (take k runs)) + at) = rw length-append (omega arith) in
-    ap (slice_get (ids_of r ++ flat runs)) place
-    ∙ past_append (ids_of r) (flat runs) (length (flat (take k runs)) + at) ∙ rest
+in_flat runs k run at id is here =
+    let before = flat (take k runs) in
+    let after = flat (drop (suc k) runs) in
+    ap (λ ids. slice_get ids (length before + at)) (flat_at runs k run is)
+    ∙ past_append before (ids_of run ++ after) at ∙ before_append (ids_of run) after at id here
 
 -- a first id is that of a run
 pub run_of_first : (ids : List ℕ) (runs : List Run) (k id : ℕ) → HaveFirsts ids runs
@@ -59,24 +54,10 @@ run_of_first (i ∷ ids) [] k id have is = absurd have
 run_of_first (i ∷ ids) (run ∷ runs) zero id have is = (run, refl, have.0 ∙ is)
 run_of_first (i ∷ ids) (run ∷ runs) (suc k) id have is = run_of_first ids runs k id have.1 is
 
--- the ids are those before a run, its own, and those after it
-pub flat_at : (runs : List Run) (k : ℕ) (run : Run) → slice_get runs k ≡ Some run
-    → flat runs ≡ flat (take k runs) ++ (ids_of run ++ flat (drop (suc k) runs))
-flat_at [] k run is = cc
-flat_at (r ∷ runs) zero run is = let same : r ≡ run = cc in ap (λ r. ids_of r ++ flat runs) same
-flat_at (r ∷ runs) (suc k) run is =
-    ap (λ ids. ids_of r ++ ids) (flat_at runs k run is)
-    ∙ sym (append_assoc (ids_of r) (flat (take k runs)) (ids_of run ++ flat (drop (suc k) runs)))
-
 pub all_weaker : {X : Type 0} (P Q : X → Type 0) → ((x : X) → P x → Q x) → (xs : List X)
     → AllByRecursion P xs → AllByRecursion Q xs
 all_weaker P Q weaker xs all =
     recursion_from_All Q xs (All-weaker P Q weaker xs (All-from_recursion P xs all))
-
-all_front : {X : Type 0} (P : X → Type 0) (xs ys : List X) → AllByRecursion P (xs ++ ys)
-    → AllByRecursion P xs
-all_front P xs ys all =
-    subst (AllByRecursion P) (take-append_seam xs ys) (all_take P (length xs) (xs ++ ys) all)
 
 pub all_append : {X : Type 0} (P : X → Type 0) (xs ys : List X) → AllByRecursion P xs
     → AllByRecursion P ys → AllByRecursion P (xs ++ ys)
@@ -96,9 +77,8 @@ module _ (text_of : ℕ → List ℕ) (text : List ℕ) where
   AreSorted ids = IsStrictlySortedBy key_order (map text_of ids)
 
   pub sorted_rest : (ids rest : List ℕ) → AreSorted (ids ++ rest) → AreSorted rest
-  unfolding IsStrictlySortedBy
-  sorted_rest [] rest sorted = sorted
-  sorted_rest (id ∷ ids) rest sorted = sorted_rest ids rest sorted.1
+  sorted_rest ids rest sorted =
+      (sorted_parts (map text_of ids) (map text_of rest) (rw (← map-append) sorted)).1
 
   -- the ids before one whose text is below are below
   before_below : (ids rest : List ℕ) (h : ℕ) → AreSorted (ids ++ rest) → slice_get rest 0 ≡ Some h
@@ -141,8 +121,7 @@ module _ (text_of : ℕ → List ℕ) (text : List ℕ) where
   runs_above (id ∷ ids) (run ∷ runs) sorted have above =
       subst (AreAbove text) (sym (map-append text_of (ids_of run) (flat runs)))
       (all_append (λ t. key_order text t ≡ Less) (map text_of (ids_of run))
-      (map text_of (flat runs))
-      (from_above (ids_of run) (flat runs) id sorted have.0 above.0)
+      (map text_of (flat runs)) (from_above (ids_of run) (flat runs) id sorted have.0 above.0)
       (runs_above ids runs (sorted_rest (ids_of run) (flat runs) sorted) have.1 above.1))
 
   -- the runs after the one in which a text goes are above it, and those before it below
@@ -256,6 +235,38 @@ ids_at_is [] k run is = cc
 ids_at_is (r ∷ runs) zero run is = let same : r ≡ run = cc in ap ids_of same
 ids_at_is (r ∷ runs) (suc k) run is = ids_at_is runs k run is
 
+-- a run ends where the next one starts
+pub next_start : (runs : List Run) (k : ℕ)
+    → length (flat (take (suc k) runs)) ≡ length (flat (take k runs)) + length (ids_at runs k)
+next_start [] k = rw take-nil refl
+next_start (r ∷ runs) zero = simp length-append (omega arith)
+next_start (r ∷ runs) (suc k) = simp length-append (omega (arith, next_start runs k))
+
+-- and before any later one
+pub later_start : (runs : List Run) (j k : ℕ) → j < k
+    → length (flat (take j runs)) + length (ids_at runs j) ≤ length (flat (take k runs))
+later_start runs j zero less = absurd (omega (arith, less))
+later_start [] j (suc k) less = rw (take-nil j) (omega arith)
+later_start (r ∷ runs) zero (suc k) less = simp length-append (omega arith)
+later_start (r ∷ runs) (suc j) (suc k) less =
+    simp length-append (omega (arith, later_start runs j k (omega arith)))
+
+-- a first id is where its run starts, which has it
+pub first_at : (ids : List ℕ) (runs : List Run) (i id : ℕ) → HaveFirsts ids (drop 1 runs)
+    → slice_get ids i ≡ Some id
+    → (slice_get (flat runs) (length (flat (take (suc i) runs))) ≡ Some id)
+    × (0 < length (ids_at runs (suc i)))
+first_at [] [] i id have is = cc
+first_at (x ∷ ids) [] i id have is = absurd have
+first_at ids (r ∷ runs) i id have is =
+    let run = run_of_first ids runs i id have is in
+    let start = length (flat (take (suc i) (r ∷ runs))) in
+    let place : start + 0 ≡ start = omega arith in (
+      subst (λ n. slice_get (flat (r ∷ runs)) n ≡ Some id) place
+          (in_flat (r ∷ runs) (suc i) run.0 0 id run.1 run.2),
+      rw (ids_at_is runs i run.0 run.1) (slice_get_within (ids_of run.0) 0 id run.2),
+    )
+
 -- a run that a text goes in is there
 pub run_within : (text_of : ℕ → List ℕ) (text ids : List ℕ) (runs : List Run) (k : ℕ)
     → HaveFirsts ids runs → IsGap (map text_of ids) text k → k ≤ length runs
@@ -281,19 +292,3 @@ later_set first new later zero past = absurd (omega (arith, past))
 later_set first new later (suc k) past =
     let before : suc k - 1 ≡ k = omega arith in
     ap (λ i. first ∷ set later i new) before
-
--- an index of no text
-pub no_index : (text_of : ℕ → List ℕ) (index : Index) → ids_of index.first ≡ []
-    → index.later.items ≡ [] → ids_of index.starts ≡ [] → IsOrdered text_of index.first
-    → IsOrdered text_of index.starts → IsIndex text_of index
-unfolding IsStrictlySortedBy
-no_index text_of index none no_later no_starts first starts = record {
-  sorted = rw (no_later, none) tt;
-  runs = (first, subst (AllByRecursion (IsOrdered text_of)) (sym no_later) tt);
-  short = (
-    rw none (omega arith),
-    subst (AllByRecursion (λ run. length (ids_of run) ≤ 256)) (sym no_later) tt,
-  );
-  starts = starts;
-  firsts = rw (no_later, no_starts) tt;
-}

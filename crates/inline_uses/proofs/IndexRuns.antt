@@ -1,40 +1,18 @@
 -- What a search in a run of an index finds.
-use Rattle.std.proofs.Common.{arith, ◌≡◌, ℕ, ◌+◌, ◌-◌, ◌/◌, ◌<◌, ◌≤◌, List, [], ◌∷◌, map, length, take, drop, get_or, Ordering, Less, Equal, Greater, sym, ap, subst, ◌∙◌}
-use Rattle.std.proofs.lemmas.List.{append-nil, get_or-map, length-map}
-use Rattle.std.proofs.lemmas.List.Elements.{All-from_recursion, All-get_or}
-use Rattle.std.proofs.lemmas.Map.Lookups.{exact_bytes}
-use Rattle.std.proofs.lemmas.Option.{slice_get-get_or}
-use Rattle.std.specs.Prelude.{Some, slice_get}
-use Rattle.std.specs.Int.{from_be_bytes, w64}
-use Rattle.std.specs.List.{AllByRecursion}
-use Rattle.std.specs.List.Sorted.{IsStrictlySortedBy}
-use Rattle.std.specs.Ordering.{match_ordering, nat_cmp}
-use Rattle.inline_uses.specs.Symbols.{key_order, IsGap}
-use Rattle.inline_uses.specs.Index.{IsMark, IsOrdered, compare_fronts, first_front, mark_order}
-use Rattle.inline_uses.specs.declared.index.mark.Mark.{Mark}
-use Rattle.inline_uses.specs.declared.index.run.Run.{Run}
-use Rattle.inline_uses.proofs.Gaps.{AreBelow, AreAbove, gap_between, turned_back}
+use Rattle.inline_uses.proofs.Names.{All-from_recursion, All-get_or, AllByRecursion, Equal, Greater, IsGap, IsMark, IsOrdered, IsStrictlySortedBy, Less, List, Mark, Ordering, Run, Some, [], ap, append-nil, arith, compare_fronts, drop, exact_bytes, first_front, from_be_bytes, get_or, get_or-map, key_order, length, length-map, map, mark_order, match_ordering, nat_cmp, slice_get, slice_get-get_or, subst, sym, take, w64, ℕ, ◌+◌, ◌-◌, ◌/◌, ◌<◌, ◌∙◌, ◌∷◌, ◌≡◌, ◌≢◌, ◌≤◌}
+use Rattle.inline_uses.proofs.Gaps.{gap_between, turned_back}
 use Rattle.inline_uses.proofs.IndexMarks.{AreBytes, front_decides, mark_decides}
 use Rattle.inline_uses.proofs.Search.{GoesWithin, goes_after, goes_before}
 
--- if their front is below that of a text, so are the texts of a run, and above it
-fronts_below : (text_of : ℕ → List ℕ) (len : ℕ) (front text : List ℕ) (marks : List Mark)
-    → AllByRecursion (IsMark text_of len front) marks → key_order front (take len text) ≡ Less
-    → AreBelow text (map text_of (map (λ m. m.id) marks))
-fronts_below text_of len front text [] are less = tt
-fronts_below text_of len front text (m ∷ marks) are less = (
-  front_decides len (text_of m.id) text Less (rw are.0.begins less) (λ e. cc),
-  fronts_below text_of len front text marks are.1 less,
-)
-
-fronts_above : (text_of : ℕ → List ℕ) (len : ℕ) (front text : List ℕ) (marks : List Mark)
-    → AllByRecursion (IsMark text_of len front) marks → key_order front (take len text) ≡ Greater
-    → AreAbove text (map text_of (map (λ m. m.id) marks))
-fronts_above text_of len front text [] are more = tt
-fronts_above text_of len front text (m ∷ marks) are more = (
-  turned_back (text_of m.id) text
-      (front_decides len (text_of m.id) text Greater (rw are.0.begins more) (λ e. cc)),
-  fronts_above text_of len front text marks are.1 more,
+-- as their front compares to that of a text, so do the texts of a run, where the fronts differ
+fronts_decide : (text_of : ℕ → List ℕ) (len : ℕ) (front text : List ℕ) (o : Ordering)
+    → o ≢ Equal → (marks : List Mark) → AllByRecursion (IsMark text_of len front) marks
+    → key_order front (take len text) ≡ o
+    → AllByRecursion (λ t. key_order t text ≡ o) (map text_of (map (λ m. m.id) marks))
+fronts_decide text_of len front text o differ [] are is = tt
+fronts_decide text_of len front text o differ (m ∷ marks) are is = (
+  front_decides len (text_of m.id) text o (rw are.0.begins is) differ,
+  fronts_decide text_of len front text o differ marks are.1 is,
 )
 
 -- the texts of marks
@@ -54,15 +32,22 @@ module _ (text_of : ℕ → List ℕ) (len : ℕ) (text : List ℕ) where
   below_all [] are less = cc
   below_all (m ∷ marks) are less =
       let texts = texts_of text_of (m ∷ marks) in
-      subst (λ ts. IsGap ts text (length texts)) (append-nil texts) (gap_between text texts []
-      (fronts_below text_of len _ text (m ∷ marks) are less) tt)
+      let below = fronts_decide text_of len _ text Less (λ e. cc) (m ∷ marks) are less in
+      subst (λ ts. IsGap ts text (length texts)) (append-nil texts)
+      (gap_between text texts [] below tt)
 
   pub above_all : (marks : List Mark) → AreMarks text_of len marks
       → compare_fronts len (texts_of text_of marks) text ≡ Greater
       → IsGap (texts_of text_of marks) text 0
   above_all [] are more = cc
-  above_all (m ∷ marks) are more = gap_between text [] (texts_of text_of (m ∷ marks)) tt
-      (fronts_above text_of len _ text (m ∷ marks) are more)
+  above_all (m ∷ marks) are more =
+      let texts = texts_of text_of (m ∷ marks) in
+      let above = fronts_decide text_of len _ text Greater (λ e. cc) (m ∷ marks) are more in (
+        omega arith,
+        (λ i less. absurd (omega (arith, less))),
+        λ i le less. turned_back _ text (All-get_or (λ t. key_order t text ≡ Greater) texts i []
+            less (All-from_recursion (λ t. key_order t text ≡ Greater) texts above)),
+      )
 
   -- a text that compares as equal has their front
   has_front : (marks : List Mark) → 0 < length marks
@@ -117,9 +102,8 @@ module _ (text_of : ℕ → List ℕ) (text : List ℕ) {run : Run} {start end :
 
     -- the mark compares as its text, to one with the front
     by_mark : AreBytes text
-        → compare_fronts run.front (texts_of text_of run.marks.items) text ≡ Equal
-        → {o : Ordering} → Compares o
-        → key_order (get_or (texts_of text_of run.marks.items) at []) text ≡ o
+        → compare_fronts run.front (texts_of text_of run.marks.items) text ≡ Equal → {o : Ordering}
+        → Compares o → key_order (get_or (texts_of text_of run.marks.items) at []) text ≡ o
     by_mark bytes equal {o} compared =
         let marks = run.marks.items in
         let front = first_front run.front (texts_of text_of marks) in

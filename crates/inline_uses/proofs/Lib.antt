@@ -12,6 +12,7 @@ pub mod Listed
 pub mod MapTexts
 pub mod Mapped
 pub mod Members
+pub mod Names
 pub mod Numbered
 pub mod Places
 pub mod Pushed

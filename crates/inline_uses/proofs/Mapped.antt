@@ -1,20 +1,8 @@
 -- A map from texts, seen as the list of its entries in the order of the keys, and each edit of it.
-use Rattle.std.proofs.Common.{◌≡◌, ℕ, suc, List, ◌∷◌, ◌++◌, length, map, take, drop, set, get_or, Some, None, option_map, sym, ap, subst, ◌∙◌}
-use Rattle.std.proofs.lemmas.List.{length-map, length-set, map-append, map-set}
-use Rattle.std.proofs.lemmas.Option.{get_or_from_slice_get, slice_get-get_or, slice_get-map, slice_get_within}
-use Rattle.std.specs.Prelude.{slice_get}
-use Rattle.std.proofs.Math.Path.{fun_ext}
-use Rattle.std.proofs.Math.Seq.{map-set_same}
-use Rattle.std.specs.List.{AllByRecursion, insert, drop-map, take-map}
-use Rattle.std.specs.List.Sorted.{IsStrictlySortedBy}
-use Rattle.std.specs.Map.{keys_of}
-use Rattle.inline_uses.specs.Symbols.{IsGap, bytes_at, key_order, text_at}
-use Rattle.inline_uses.specs.TextMap.{AreInOrder, AreMapped, AreNumbers, Entries, IsFound, entries_at, entry_of, value_of, with_value, without}
-use Rattle.inline_uses.specs.Index.{IsIndex, ids_in}
-use Rattle.inline_uses.specs.declared.index.Index.{Index}
-use Rattle.inlinable_string.specs.declared.inlinable_string.InlinableStringN.{InlinableStringN}
+use Rattle.inline_uses.proofs.Names.{AllByRecursion, AreInOrder, AreMapped, AreNumbers, Entries, Index, InlinableStringN, IsFound, IsGap, IsIndex, IsStrictlySortedBy, List, None, Some, [], ap, bytes_at, entries_at, entry_of, fun_ext, get_or, get_or_from_slice_get, ids_in, insert, key_order, keys_of, length, length-map, length-set, map, map-set, map-set_same, option_map, set, slice_get, slice_get-get_or, slice_get-map, slice_get_within, subst, suc, sym, text_at, value_of, with_value, without, zero, ℕ, ◌∙◌, ◌∷◌, ◌≡◌}
 use Rattle.inline_uses.proofs.Search.{none, there}
-use Rattle.inline_uses.proofs.Numbered.{alike, around, count, differ, entry_seen, keys_seen, other_set, same_entries, seen, set_around, this_set, weaker}
+use Rattle.inline_uses.proofs.Numbered.{Apart, alike, count, differ, entry_seen, keys_seen, other_set, same_entries, seen, this_set}
+use Rattle.inline_uses.proofs.InRuns.{all_weaker}
 
 -- an element that is read is seen as the entry that is there
 pub read_entry : {V : Type 0} (items : List (InlinableStringN 30 × V)) (id : ℕ)
@@ -44,8 +32,7 @@ module _ {V : Type 0} (es : Entries V) (index : Index) (are : AreMapped es index
       → slice_get (map (text_at (keys_of es)) (ids_in index)) at ≡ Some key
       → slice_get (ids_in index) at ≡ Some id → IsFound es index key at id
   found_entry key at id text number =
-      let entry = there key view at in_order
-      (rw (keys_seen es (ids_in index) are.0.within) text) in
+      let entry = there key view at in_order (rw (keys_seen es (ids_in index) are.0.within) text) in
       record {
         value = entry.0;
         entry = entry_seen es (ids_in index) at id (key, entry.0) are.0.within number entry.1;
@@ -56,8 +43,7 @@ module _ {V : Type 0} (es : Entries V) (index : Index) (are : AreMapped es index
       }
 
   -- a key that has none, and where it goes
-  pub missing : (key : List ℕ) (at : ℕ)
-      → IsGap (map (text_at (keys_of es)) (ids_in index)) key at
+  pub missing : (key : List ℕ) (at : ℕ) → IsGap (map (text_at (keys_of es)) (ids_in index)) key at
       → (value_of view key ≡ None) × (without view key ≡ view)
       × ((v : V) → with_value view key v ≡ insert view at (key, v))
   missing key at gap = none key view at (rw (keys_seen es (ids_in index) are.0.within) gap)
@@ -102,40 +88,31 @@ module _ {V : Type 0} (items : List (InlinableStringN 30 × V)) {order : Index} 
       others_stay : (ids : List ℕ) → AllByRecursion (λ other. ¬ (other ≡ id)) ids
           → map (slice_get (set known id (key, v))) ids ≡ map (slice_get known) ids
       others_stay ids apart = alike (slice_get (set known id (key, v))) (slice_get known) ids
-          (weaker (λ other. ¬ (other ≡ id))
+          (all_weaker (λ other. ¬ (other ≡ id))
           (λ other. slice_get (set known id (key, v)) other ≡ slice_get known other)
           (λ other not. other_set known id other (key, v) not) ids apart)
 
-      valued_seen : map (slice_get (set known id (key, v))) (ids_in order)
-          ≡ set (map (slice_get known) (ids_in order)) at (Some (key, v))
-      valued_seen =
-          let ids = ids_in order in
-          let new = slice_get (set known id (key, v)) in
-          let apart = differ (text_at (keys_of known)) ids at id found.number are.1.sorted in
+      valued_seen : (ids : List ℕ) (at : ℕ) → slice_get ids at ≡ Some id → Apart ids at id
+          → map (slice_get (set known id (key, v))) ids
+          ≡ set (map (slice_get known) ids) at (Some (key, v))
+      valued_seen [] at is apart = cc
+      valued_seen (x ∷ ids) zero is apart =
+          let here : x ≡ id = cc in
           let within = slice_get_within known id (key, found.value) found.entry in
-          let there : slice_get (map (slice_get known) ids) at ≡ Some (slice_get known id)
-          = slice_get-map (slice_get known) ids at
-          ∙ ap (option_map (slice_get known)) found.number in
-          ap (map new) (around ids at id found.number)
-          ∙ map-append new (take at ids) (id ∷ drop (suc at) ids)
-          ∙ ap (λ e. map new (take at ids) ++ e ∷ map new (drop (suc at) ids))
-          (this_set known id (key, v) within)
-          ∙ ap (λ xs. xs ++ Some (key, v) ∷ map new (drop (suc at) ids))
-          (others_stay (take at ids) apart.0 ∙ sym (take-map (slice_get known) at ids))
-          ∙ ap (λ xs. take at (map (slice_get known) ids) ++ Some (key, v) ∷ xs)
-          (others_stay (drop (suc at) ids) apart.1
-          ∙ sym (drop-map (slice_get known) (suc at) ids))
-          ∙ sym (set_around (map (slice_get known) ids) at (slice_get known id) (Some (key, v))
-          there)
+          rw (here, this_set known id (key, v) within)
+          (ap (λ xs. Some (key, v) ∷ xs) (others_stay ids apart.1))
+      valued_seen (x ∷ ids) (suc at) is apart = rw (other_set known id x (key, v) apart.0.0)
+          (ap (λ xs. slice_get known x ∷ xs) (valued_seen ids at is (apart.0.1, apart.1)))
 
       pub entries_valued : entries_at valued (ids_in order)
           ≡ with_value (entries_at known (ids_in order)) key v
       entries_valued = same_entries valued (ids_in order)
           (set (entries_at known (ids_in order)) at (key, v)) mapped_valued.0.within
-          (ap (λ es. map (slice_get es) (ids_in order)) valued_is ∙ valued_seen
+          (ap (λ es. map (slice_get es) (ids_in order)) valued_is
+          ∙ valued_seen (ids_in order) at found.number
+          (differ (text_at (keys_of known)) (ids_in order) at id found.number are.1.sorted)
           ∙ ap (λ xs. set xs at (Some (key, v))) (sym (seen known (ids_in order) are.0.within))
-          ∙ sym (map-set Some (entries_at known (ids_in order)) at (key, v)))
-          ∙ sym (found.put v)
+          ∙ sym (map-set Some (entries_at known (ids_in order)) at (key, v))) ∙ sym (found.put v)
 
     -- whatever it is once it was lent
     pub lent : (are : AreMapped known order)

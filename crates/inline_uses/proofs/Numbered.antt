@@ -1,37 +1,14 @@
 -- Entries by their numbers, and lists of these numbers: what an edit does to both.
-use Rattle.std.proofs.Common.{arith, ◌≡◌, ◌⊎◌, inl, inr, ℕ, zero, suc, ◌+◌, ◌-◌, ◌<◌, ◌≤◌, List, [], ◌∷◌, ◌++◌, length, map, take, drop, set, get_or, Option, Some, None, Less, Equal, refl, sym, ap, subst, ◌∙◌}
-use Rattle.std.proofs.lemmas.Bool.{cases_eq, cases_lt}
-use Rattle.std.proofs.lemmas.Cmp.{nat_list_cmp_total, tied_itself}
-use Rattle.std.proofs.lemmas.List.{get_or-drop, get_or-take, length-drop, length-map, length-set, length-take, length-take-le, map-id, map-append, map-set, set-get_or, set_split}
-use Rattle.std.proofs.lemmas.List.Elements.{All-from_recursion, All-map, recursion_from_All}
-use Rattle.std.proofs.lemmas.Grind.{common_steps}
-use Rattle.std.proofs.lemmas.Map.Keys.{Less-from_sorted}
-use Rattle.std.proofs.lemmas.Simd.{map-map}
-use Rattle.std.proofs.lemmas.List.Edits.{length-insert, length-remove}
-use Rattle.std.proofs.lemmas.Option.{gets, get_or_from_slice_get, slice_get-get_or, slice_get-map, slice_get_within}
-use Rattle.std.specs.Prelude.{slice_get}
+use Rattle.inline_uses.proofs.Names.{All-from_recursion, All-map, AllByRecursion, AreNumbers, AreOthers, Entries, Equal, Has, IsGap, IsStrictlySortedBy, Less-from_sorted, List, None, Option, Some, [], ap, arith, cases_eq, cases_lt, common_steps, drop, entries_at, get_or, get_or-drop, get_or-take, get_or_from_slice_get, gets, inl, inr, insert, key_order, keys_of, length, length-drop, length-insert, length-map, length-remove, length-set, length-take, length-take-le, map, map-append, map-id, map-map, map-set, nat_list_cmp_total, recursion_from_All, refl, remove, set, slice_get, slice_get-get_or, slice_get-map, slice_get_within, subst, suc, swap_remove, sym, take, text_at, tied_itself, zero, ℕ, ◌++◌, ◌+◌, ◌-◌, ◌<◌, ◌∙◌, ◌∷◌, ◌≡◌, ◌≤◌, ◌⊎◌}
 use Rattle.std.proofs.Math.ListN.{get_or-map}
-use Rattle.std.specs.List.{AllByRecursion, insert, remove, swap_remove, take-map}
-use Rattle.std.specs.List.Sorted.{IsStrictlySortedBy}
-use Rattle.std.specs.Map.{keys_of}
-use Rattle.inline_uses.specs.Symbols.{IsGap, key_order, text_at}
-use Rattle.inline_uses.specs.TextMap.{AreNumbers, AreOthers, Entries, Has, entries_at}
+use Rattle.std.specs.List.{take-map}
 use Rattle.inline_uses.proofs.InRuns.{all_append, all_weaker}
 use Rattle.inline_uses.proofs.RunEdits.{all_drop, all_insert, all_take}
 use Rattle.inline_uses.proofs.Search.{inserted_seen}
 use Rattle.inline_uses.proofs.Tables.{at_push, before_append}
 
--- a list around the element at an index
+-- a list with another element
 module _ {X : Type 0} where
-  pub set_around : (xs : List X) (at : ℕ) (x y : X) → slice_get xs at ≡ Some x
-      → set xs at y ≡ take at xs ++ y ∷ drop (suc at) xs
-  set_around xs at x y is = set_split xs at y (slice_get_within xs at x is)
-
-  pub around : (xs : List X) (at : ℕ) (x : X) → slice_get xs at ≡ Some x
-      → xs ≡ take at xs ++ x ∷ drop (suc at) xs
-  around xs at x is = sym (set-get_or xs at x)
-      ∙ ap (set xs at) (get_or_from_slice_get xs at x x is) ∙ set_around xs at x x is
-
   pub other_set : (xs : List X) (at i : ℕ) (y : X) → ¬ (i ≡ at)
       → slice_get (set xs at y) i ≡ slice_get xs i
   other_set xs at i y not = grind (arith, common_steps, gets, not)
@@ -49,8 +26,7 @@ module _ {X : Type 0} where
       let rest : map Some xs ≡ map Some ys = cc in
       ap (λ x. x ∷ xs) head ∙ ap (λ xs. y ∷ xs) (all_some xs ys rest)
 
-  one : (xs : List X) (i : ℕ) → i < length xs
-      → map Some (take 1 (drop i xs)) ≡ slice_get xs i ∷ []
+  one : (xs : List X) (i : ℕ) → i < length xs → map Some (take 1 (drop i xs)) ≡ slice_get xs i ∷ []
   one xs i less = grind (arith, common_steps, gets)
 
 -- one that is there is at an index
@@ -163,10 +139,6 @@ module _ {V : Type 0} where
       stay = alike (slice_get (es ++ e ∷ [])) (slice_get es) ids (all_weaker (λ i. i < length es)
           (λ i. slice_get (es ++ e ∷ []) i ≡ slice_get es i) here ids all)
 
--- no text is below itself
-not_below : (text : List ℕ) → key_order text text ≡ Less → ⊥
-not_below text less = let equal = tied_itself nat_list_cmp_total text in cc
-
 -- a text that goes among others is none of them
 pub not_among : (texts : List (List ℕ)) (text : List ℕ) (at i : ℕ) → IsGap texts text at
     → slice_get texts i ≡ Some text → ⊥
@@ -185,12 +157,15 @@ Apart ids at id = AllByRecursion (λ other. ¬ (other ≡ id)) (take at ids)
     × AllByRecursion (λ other. ¬ (other ≡ id)) (drop (suc at) ids)
 
 -- texts in order are at one index each
-not_earlier : (texts : List (List ℕ)) (i j : ℕ) (text : List ℕ)
-    → IsStrictlySortedBy key_order texts → slice_get texts i ≡ Some text
-    → slice_get texts j ≡ Some text → ¬ (i < j)
-not_earlier texts i j text sorted is js less = not_below text
-    (rw (get_or_from_slice_get texts i text [] is, get_or_from_slice_get texts j text [] js) at
-    (Less-from_sorted key_order texts i j [] sorted less (slice_get_within texts j text js)))
+not_earlier : (texts : List (List ℕ)) (i j : ℕ) (text : List ℕ) → IsStrictlySortedBy key_order texts
+    → slice_get texts i ≡ Some text → slice_get texts j ≡ Some text → ¬ (i < j)
+not_earlier texts i j text sorted is js less =
+    let one = get_or_from_slice_get texts i text [] is in
+    let other = get_or_from_slice_get texts j text [] js in
+    let below = Less-from_sorted key_order texts i j [] sorted less
+    (slice_get_within texts j text js) in
+    let equal = tied_itself nat_list_cmp_total text in
+    cc
 
 pub one_index : (texts : List (List ℕ)) (i j : ℕ) (text : List ℕ)
     → IsStrictlySortedBy key_order texts → slice_get texts i ≡ Some text
@@ -226,11 +201,6 @@ differ text_of ids at id is sorted = (
         (rw (slice_get-map, slice_get-get_or ids i d within, same) refl)
         (rw (slice_get-map, is) refl)
 
-pub weaker : {X : Type 0} (P Q : X → Type 0) → ((x : X) → P x → Q x) → (xs : List X)
-    → AllByRecursion P xs → AllByRecursion Q xs
-weaker P Q step [] all = tt
-weaker P Q step (x ∷ xs) all = (step x all.0, weaker P Q step xs all.1)
-
 pub both : {X : Type 0} (P Q R : X → Type 0) → ((x : X) → P x → Q x → R x) → (xs : List X)
     → AllByRecursion P xs → AllByRecursion Q xs → AllByRecursion R xs
 both P Q R step [] all also = tt
@@ -244,11 +214,7 @@ not_last n count less not = elim (cases_lt n count) [
 
 -- no entry, and no number
 pub no_numbers : AreNumbers 0 []
-no_numbers = record {
-  within = tt;
-  all = λ id less. absurd (omega (arith, less));
-  once = refl;
-}
+no_numbers = record { within = tt; all = λ id less. absurd (omega (arith, less)); once = refl }
 
 -- a number more
 pub numbers_with : (count at : ℕ) (ids : List ℕ) → at ≤ length ids → AreNumbers count ids

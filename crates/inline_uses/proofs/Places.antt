@@ -1,38 +1,9 @@
 -- Places among the ids of an index, and the entries between two of them.
-use Rattle.std.proofs.Common.{arith, ◌≡◌, ℕ, zero, suc, ◌+◌, ◌-◌, ◌<◌, ◌≤◌, ◌⊎◌, inl, inr, List, [], ◌∷◌, ◌++◌, map, length, take, drop, get_or, Some, true, false, not, ◌&&◌, refl, sym, ap, ◌∙◌}
-use Rattle.std.specs.Prelude.{slice_get}
-use Rattle.std.proofs.Math.Seq.{drop-cons, take-nil, take-suc}
-use Rattle.std.proofs.lemmas.List.{get_or-drop, length-append, length-drop, take_all}
-use Rattle.std.proofs.lemmas.Option.{get_or_from_slice_get, slice_get-get_or, slice_get_within}
-use Rattle.std.specs.Map.{keys_of}
-use Rattle.std.specs.Ordering.{is_gt}
-use Rattle.inline_uses.specs.Index.{HaveFirsts, IsAt, IsPlace, ids_at, ids_in, ids_of, index_of, runs_of}
-use Rattle.inline_uses.specs.Symbols.{key_order, text_at}
-use Rattle.inline_uses.specs.TextMap.{AreMapped, AreNumbers, Entries, entries_at, entries_between, entries_in, entry_of}
-use Rattle.inline_uses.specs.declared.index.Index.{Index}
-use Rattle.inline_uses.specs.declared.index.Spot.{Spot}
-use Rattle.inline_uses.specs.declared.index.run.Run.{Run}
-use Rattle.inlinable_string.specs.declared.inlinable_string.InlinableStringN.{InlinableStringN}
-use Rattle.inline_uses.proofs.InRuns.{flat, ids_at_is}
+use Rattle.inline_uses.proofs.Names.{AreMapped, AreNumbers, Entries, HaveFirsts, Index, InlinableStringN, IsAt, IsPlace, List, Run, Some, Spot, [], ap, arith, drop, drop-cons, entries_at, entries_between, entries_in, entry_of, false, get_or, get_or-drop, get_or_from_slice_get, ids_at, ids_in, ids_of, index_of, inl, inr, is_gt, key_order, keys_of, length, length-drop, map, not, refl, runs_of, slice_get, slice_get-get_or, slice_get_within, suc, sym, take, take-suc, take_all, text_at, true, zero, ℕ, ◌&&◌, ◌++◌, ◌+◌, ◌-◌, ◌<◌, ◌∙◌, ◌∷◌, ◌≡◌, ◌≤◌, ◌⊎◌}
+use Rattle.inline_uses.proofs.InRuns.{flat, ids_at_is, later_start, next_start}
 use Rattle.inline_uses.proofs.Mapped.{read_entry}
 use Rattle.inline_uses.proofs.Numbered.{count, entry_seen, keys_seen}
 use Rattle.inline_uses.proofs.Search.{run}
-
--- a run ends where the next one starts
-next_start : (runs : List Run) (k : ℕ)
-    → length (flat (take (suc k) runs)) ≡ length (flat (take k runs)) + length (ids_at runs k)
-next_start [] k = rw take-nil refl
-next_start (r ∷ runs) zero = simp length-append (omega arith)
-next_start (r ∷ runs) (suc k) = simp length-append (omega (arith, next_start runs k))
-
--- and before any later one
-later_start : (runs : List Run) (j k : ℕ) → j < k
-    → length (flat (take j runs)) + length (ids_at runs j) ≤ length (flat (take k runs))
-later_start runs j zero less = absurd (omega (arith, less))
-later_start [] j (suc k) less = rw (take-nil j) (omega arith)
-later_start (r ∷ runs) zero (suc k) less = simp length-append (omega arith)
-later_start (r ∷ runs) (suc j) (suc k) less =
-    simp length-append (omega (arith, later_start runs j k (omega arith)))
 
 -- a later run has an id
 has_first : (ids : List ℕ) (runs : List Run) (k : ℕ) → HaveFirsts ids runs → k < length runs
@@ -97,8 +68,7 @@ module _ (index : Index) where
 
   -- only the first run may have no ids
   none_earlier : (k : ℕ) → HaveFirsts (ids_of index.starts) index.later.items
-      → k ≤ length index.later.items → length (ids_at runs k) ≡ 0
-      → length (flat (take k runs)) ≡ 0
+      → k ≤ length index.later.items → length (ids_at runs k) ≡ 0 → length (flat (take k runs)) ≡ 0
   none_earlier zero have within none = refl
   none_earlier (suc k) have within none =
       let some = has_first (ids_of index.starts) index.later.items k have within in
@@ -156,9 +126,8 @@ IsCounted index from end k count = (from.run ≤ k) × (k ≤ end.run)
     ≡ end.at + length (flat (take k (runs_of index))))
 
 -- in all of these runs it is the number between the places
-pub counted_all : (index : Index) (from end : Spot) (k count : ℕ)
-    → IsCounted index from end k count → end.run ≤ k
-    → count - from.at ≡ index_of index end - index_of index from
+pub counted_all : (index : Index) (from end : Spot) (k count : ℕ) → IsCounted index from end k count
+    → end.run ≤ k → count - from.at ≡ index_of index end - index_of index from
 counted_all index from end k count is all =
     let last : k ≡ end.run = omega (arith, is.1, all) in
     let sum = rw last at is.2 in
@@ -226,8 +195,7 @@ module _ {V : Type 0} (es : Entries V) (index : Index) (are : AreMapped es index
       pub below : (i : ℕ) → i < index_of index place → is_gt (key_order key
           (get_or (map (text_at (keys_of es)) (ids_in index)) i [])) ≡ true
       pub above : (i : ℕ) → index_of index place ≤ i → i < length (ids_in index)
-          → is_gt (key_order key
-          (get_or (map (text_at (keys_of es)) (ids_in index)) i [])) ≡ false
+          → is_gt (key_order key (get_or (map (text_at (keys_of es)) (ids_in index)) i [])) ≡ false
 
     -- from the place of one key to that of another those between these are
     pub between : (low high : List ℕ) (from to : Spot) → IsFrom low from → IsFrom high to
@@ -238,11 +206,9 @@ module _ {V : Type 0} (es : Entries V) (index : Index) (are : AreMapped es index
         let first = index_of index from in
         let last = index_of index to in
         sym (run (λ k. not (is_gt (key_order low k)) && is_gt (key_order high k)) view first
-        (last - first)
-        (λ k l b. rw (keys, start.below k l) refl)
+        (last - first) (λ k l b. rw (keys, start.below k l) refl)
         (λ k l m b. let within : k < length (ids_in index) = omega (arith, size) in
-        rw (keys, start.above k l within, end.below k (omega arith)) refl)
-        (λ k l b. rw (
+        rw (keys, start.above k l within, end.below k (omega arith)) refl) (λ k l b. rw (
           keys,
           start.above k (omega arith) (omega (arith, size)),
           end.above k (omega arith) (omega (arith, size)),
@@ -278,8 +244,7 @@ module _ {V : Type 0} (items : List (InlinableStringN 30 × V)) (x : InlinableSt
 
     -- it comes last, after those up to its place
     pub last_entry : (from to : Spot) → index_of index spot + 1 ≡ index_of index to
-        → index_of index from ≤ index_of index spot
-        → entries_in (map entry_of items) index from to
+        → index_of index from ≤ index_of index spot → entries_in (map entry_of items) index from to
         ≡ entries_in (map entry_of items) index from spot ++ entry_of x ∷ []
     last_entry from to same within = rw (← same)
         (last_between all (index_of index from) (index_of index spot) (entry_of x) within there)

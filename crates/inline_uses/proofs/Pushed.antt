@@ -1,20 +1,5 @@
 -- A map with a new key, whose entry is the last one, and whose number goes where the key does.
-use Rattle.std.proofs.Common.{arith, ◌≡◌, ℕ, suc, ◌-◌, ◌<◌, List, [], ◌∷◌, ◌++◌, length, map, take, set, get_or, option_map, Some, Ordering, Less, Equal, Greater, refl, sym, ap, subst, ◌∙◌}
-use Rattle.std.proofs.lemmas.List.{length-append, length-map, map-append, take-set}
-use Rattle.std.specs.Prelude.{slice_get}
-use Rattle.std.proofs.Math.Path.{fun_ext}
-use Rattle.std.proofs.Math.Seq.{take-append_seam}
-use Rattle.std.proofs.lemmas.Cmp.{nat_list_cmp_total, tied_itself}
-use Rattle.std.proofs.lemmas.Option.{get_or_from_slice_get, slice_get-map, slice_get_within}
-use Rattle.std.specs.Ordering.{match_ordering}
-use Rattle.std.specs.List.{AllByRecursion, insert, swap_remove}
-use Rattle.std.specs.Map.{keys_of}
-use Rattle.inline_uses.specs.Symbols.{IsGap, bytes_at, key_order, text_at}
-use Rattle.inline_uses.specs.TextMap.{AreMapped, AreNumbers, Entries, IsFound, IsMissing, entries_at, entries_by, entry_of, with_value}
-use Rattle.inline_uses.specs.Index.{IsIndex, ids_in, index_of}
-use Rattle.inline_uses.specs.declared.index.Index.{Index}
-use Rattle.inline_uses.specs.declared.index.Spot.{Spot}
-use Rattle.inlinable_string.specs.declared.inlinable_string.InlinableStringN.{InlinableStringN}
+use Rattle.inline_uses.proofs.Names.{AllByRecursion, AreMapped, AreNumbers, Entries, Equal, Greater, Index, InlinableStringN, IsFound, IsGap, IsIndex, IsMissing, Less, List, Ordering, Some, Spot, [], ap, arith, bytes_at, entries_at, entries_by, entry_of, fun_ext, get_or, get_or_from_slice_get, ids_in, index_of, insert, key_order, keys_of, length, length-append, length-map, map, map-append, match_ordering, nat_list_cmp_total, option_map, refl, set, slice_get, slice_get-map, slice_get_within, subst, suc, swap_remove, sym, take, take-append_seam, take-set, text_at, tied_itself, with_value, ℕ, ◌++◌, ◌-◌, ◌<◌, ◌∙◌, ◌∷◌, ◌≡◌}
 use Rattle.inline_uses.proofs.Ids.{gap_with, index_with, index_without}
 use Rattle.inline_uses.proofs.Mapped.{found_entry, lent, mapped_valued, read_entry}
 use Rattle.inline_uses.proofs.Tables.{at_push}
@@ -64,18 +49,13 @@ module _ {V : Type 0} {items grown : List (InlinableStringN 30 × V)} {order : I
         (sym (length-map unpushed (λ f. f.0))) is.mapped.0.within
 
     pub pushed_index : IsIndex (text_at (keys_of pushed)) order
-    pushed_index = subst (λ keys. IsIndex (text_at keys) order) (sym pushed_keys)
-        (index_with (keys_of unpushed) key order under_keys is.mapped.1)
+    pushed_index = index_with (keys_of unpushed) key pushed_keys order under_keys is.mapped.1
 
     -- where its key goes
     pub pushed_gap : IsGap (map (text_at (keys_of pushed)) (ids_in order))
         (text_at (keys_of pushed) id) (index_of order spot)
-    pushed_gap = subst (λ keys. IsGap (map (text_at keys) (ids_in order)) (text_at keys id)
-        (index_of order spot)) (sym pushed_keys)
-        (subst (λ n. IsGap (map (text_at (keys_of unpushed ++ key ∷ [])) (ids_in order))
-        (text_at (keys_of unpushed ++ key ∷ []) n) (index_of order spot)) keys_count
-        (gap_with (keys_of unpushed) key (ids_in order) (index_of order spot) under_keys
-        is.missing.gap))
+    pushed_gap = gap_with (keys_of unpushed) key pushed_keys (ids_in order) (index_of order spot)
+        (sym keys_count) under_keys is.missing.gap
 
     -- with its number there
     module _ (after : Index) (ids : ids_in after ≡ insert (ids_in order) (index_of order spot) id)
@@ -100,12 +80,10 @@ module _ {V : Type 0} {items grown : List (InlinableStringN 30 × V)} {order : I
             ≡ with_value (entries_at unpushed (ids_in order)) key value
         entries_pushed = same_entries pushed (ids_in after)
             (insert (entries_at unpushed (ids_in order)) (index_of order spot) (key, value))
-            mapped_pushed.0.within
-            (ap (λ es. map (slice_get es) (ids_in after)) pushed_is
+            mapped_pushed.0.within (ap (λ es. map (slice_get es) (ids_in after)) pushed_is
             ∙ ap (map (slice_get (unpushed ++ (key, value) ∷ []))) new_ids
             ∙ with_entry unpushed (ids_in order) (index_of order spot) (key, value)
-            is.mapped.0.within)
-            ∙ sym (is.missing.put value)
+            is.mapped.0.within) ∙ sym (is.missing.put value)
 
     -- and where it could get none, and goes again
     module _ (after : Index) (ids : ids_in after ≡ ids_in order)
@@ -114,15 +92,14 @@ module _ {V : Type 0} {items grown : List (InlinableStringN 30 × V)} {order : I
         (left_is : left ≡ swap_remove grown id gone)
       where
         items_back : left ≡ items
-        items_back = rw (left_is, is.grown_is, is.id_is)
-            (last_swapped items (is.text, value) gone)
+        items_back = rw (left_is, is.grown_is, is.id_is) (last_swapped items (is.text, value) gone)
 
         pub mapped_back : AreMapped (map entry_of left) after
         mapped_back = rw items_back (
           rw ids is.mapped.0,
-          index_without (keys_of unpushed) key after
+          index_without (keys_of unpushed) key pushed_keys after
               (subst (AllByRecursion (λ id. id < length (keys_of unpushed))) (sym ids) under_keys)
-              (subst (λ keys. IsIndex (text_at keys) after) pushed_keys index),
+              index,
         )
 
 -- a value that was put under a key is replaced

@@ -1,15 +1,5 @@
 -- What edits leave of a run: a part of it, and one id more.
-use Rattle.std.proofs.Common.{arith, ◌≡◌, ℕ, zero, suc, ◌-◌, List, [], ◌∷◌, length, take, drop, Global, Vec, Less, refl, sym, ap, subst, ◌∙◌}
-use Rattle.std.proofs.lemmas.List.{drop-map, length-map, take-map}
-use Rattle.std.proofs.lemmas.List.Elements.{All-drop, All-from_recursion, All-take, recursion_from_All}
-use Rattle.std.proofs.lemmas.Option.{slice_get-map}
-use Rattle.std.specs.Prelude.{Some, slice_get}
-use Rattle.std.specs.List.{AllByRecursion, insert}
-use Rattle.std.specs.List.Sorted.{IsStrictlySortedBy}
-use Rattle.inline_uses.specs.Index.{IsMark, IsOrdered, first_front}
-use Rattle.inline_uses.specs.Symbols.{key_order, IsGap}
-use Rattle.inline_uses.specs.declared.index.mark.Mark.{Mark}
-use Rattle.inline_uses.specs.declared.index.run.Run.{Run}
+use Rattle.inline_uses.proofs.Names.{All-drop, All-from_recursion, All-take, AllByRecursion, Global, IsGap, IsMark, IsOrdered, IsStrictlySortedBy, Less, List, Mark, Run, Some, Vec, [], ap, arith, drop, first_front, insert, key_order, length, length-map, map-append, recursion_from_All, refl, slice_get, slice_get-map, subst, suc, sym, take, take-append-drop, take-append_seam, zero, ℕ, ◌++◌, ◌-◌, ◌∙◌, ◌∷◌, ◌≡◌}
 use Rattle.inline_uses.proofs.Gaps.{parts_of_gap}
 use Rattle.inline_uses.proofs.IndexMarks.{between}
 use Rattle.inline_uses.proofs.IndexRuns.{AreMarks, texts_of}
@@ -24,6 +14,10 @@ module _ {X : Type 0} (P : X → Type 0) where
   all_drop n xs all =
       recursion_from_All P (drop n xs) (All-drop P n xs (All-from_recursion P xs all))
 
+  pub all_front : (xs ys : List X) → AllByRecursion P (xs ++ ys) → AllByRecursion P xs
+  all_front xs ys all =
+      subst (AllByRecursion P) (take-append_seam xs ys) (all_take (length xs) (xs ++ ys) all)
+
   pub all_insert : (at : ℕ) (xs : List X) (new : X) → AllByRecursion P xs → P new
       → AllByRecursion P (insert xs at new)
   all_insert zero xs new all is = (is, all)
@@ -31,20 +25,13 @@ module _ {X : Type 0} (P : X → Type 0) where
   all_insert (suc at) (x ∷ xs) new all is = (all.0, all_insert at xs new all.1 is)
 
 -- parts of texts in order are in order, and so are these with one more where it goes
-pub sorted_take : (n : ℕ) (ts : List (List ℕ)) → IsStrictlySortedBy key_order ts
-    → IsStrictlySortedBy key_order (take n ts)
+pub sorted_parts : (front rest : List (List ℕ)) → IsStrictlySortedBy key_order (front ++ rest)
+    → IsStrictlySortedBy key_order front × IsStrictlySortedBy key_order rest
 unfolding IsStrictlySortedBy
-sorted_take zero ts sorted = tt
-sorted_take (suc n) [] sorted = tt
-sorted_take (suc n) (t ∷ ts) sorted =
-    (all_take (λ y. key_order t y ≡ Less) n ts sorted.0, sorted_take n ts sorted.1)
-
-pub sorted_drop : (n : ℕ) (ts : List (List ℕ)) → IsStrictlySortedBy key_order ts
-    → IsStrictlySortedBy key_order (drop n ts)
-unfolding IsStrictlySortedBy
-sorted_drop zero ts sorted = sorted
-sorted_drop (suc n) [] sorted = tt
-sorted_drop (suc n) (t ∷ ts) sorted = sorted_drop n ts sorted.1
+sorted_parts [] rest sorted = (tt, sorted)
+sorted_parts (t ∷ front) rest sorted =
+    let parts = sorted_parts front rest sorted.1 in
+    ((all_front (λ y. key_order t y ≡ Less) front rest sorted.0, parts.0), parts.1)
 
 -- a text that does not go before the first of others goes among the rest
 pub gap_in_rest : (text : List ℕ) (ts : List (List ℕ)) (t : List ℕ) (at : ℕ)
@@ -55,9 +42,8 @@ gap_in_rest text ts t at gap = (
   λ i le less. gap.2 (suc i) (omega arith) (omega arith),
 )
 
-pub sorted_insert : (at : ℕ) (ts : List (List ℕ)) (new : List ℕ)
-    → IsStrictlySortedBy key_order ts → IsGap ts new at
-    → IsStrictlySortedBy key_order (insert ts at new)
+pub sorted_insert : (at : ℕ) (ts : List (List ℕ)) (new : List ℕ) → IsStrictlySortedBy key_order ts
+    → IsGap ts new at → IsStrictlySortedBy key_order (insert ts at new)
 unfolding IsStrictlySortedBy
 sorted_insert zero ts new sorted gap = ((parts_of_gap new ts zero gap).1, sorted)
 sorted_insert (suc at) [] new sorted gap = (tt, tt)
@@ -126,31 +112,34 @@ lengthened text_of n (m ∷ marks) are sorted same =
           end (ap (λ m. take n (text_of m.id)) head ∙ rw (are.one_is, are.other_is) at same),
     )
 
--- both parts of a run are runs
+-- some marks of a run are a run
+pub run_of_some : (text_of : ℕ → List ℕ) (old new : Run) (some : List Mark) → new.front ≡ old.front
+    → new.marks.items ≡ some → IsStrictlySortedBy key_order (texts_of text_of some)
+    → AllByRecursion (IsMark text_of old.front
+    (first_front old.front (texts_of text_of old.marks.items))) some → IsOrdered text_of new
+run_of_some text_of old new some front marks sorted all = record {
+  sorted = rw marks sorted;
+  marks = rw (front, marks) (with_own_front text_of old.front _ some all);
+}
+
+-- and so are both parts of its marks
 module _ (text_of : ℕ → List ℕ) (run : Run) (at : ℕ) (marks : Vec Mark Global)
     (is : IsOrdered text_of run)
   where
-    abbrev front : List ℕ
-    front = first_front run.front (texts_of text_of run.marks.items)
+    abbrev items : List Mark
+    items = run.marks.items
 
-    pub lower_run : marks.items ≡ take at run.marks.items
-        → IsOrdered text_of (record { front = run.front; marks = marks })
-    lower_run part = record {
-      sorted = subst (λ ms. IsStrictlySortedBy key_order (texts_of text_of ms)) (sym part)
-          (rw (← take-map, ← take-map)
-          (sorted_take at (texts_of text_of run.marks.items) is.sorted));
-      marks = with_own_front text_of run.front front marks.items
-          (subst (AllByRecursion (IsMark text_of run.front front)) (sym part)
-          (all_take _ at run.marks.items is.marks));
-    }
+    parts : IsStrictlySortedBy key_order (texts_of text_of (take at items))
+        × IsStrictlySortedBy key_order (texts_of text_of (drop at items))
+    parts = sorted_parts (texts_of text_of (take at items)) (texts_of text_of (drop at items))
+        (rw (← map-append, ← map-append, take-append-drop) is.sorted)
 
-    pub upper_run : marks.items ≡ drop at run.marks.items
+    pub lower_run : marks.items ≡ take at items
         → IsOrdered text_of (record { front = run.front; marks = marks })
-    upper_run part = record {
-      sorted = subst (λ ms. IsStrictlySortedBy key_order (texts_of text_of ms)) (sym part)
-          (rw (← drop-map, ← drop-map)
-          (sorted_drop at (texts_of text_of run.marks.items) is.sorted));
-      marks = with_own_front text_of run.front front marks.items
-          (subst (AllByRecursion (IsMark text_of run.front front)) (sym part)
-          (all_drop _ at run.marks.items is.marks));
-    }
+    lower_run part = run_of_some text_of run (record { front = run.front; marks = marks })
+        (take at items) refl part parts.0 (all_take _ at items is.marks)
+
+    pub upper_run : marks.items ≡ drop at items
+        → IsOrdered text_of (record { front = run.front; marks = marks })
+    upper_run part = run_of_some text_of run (record { front = run.front; marks = marks })
+        (drop at items) refl part parts.1 (all_drop _ at items is.marks)

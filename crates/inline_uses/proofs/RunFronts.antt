@@ -1,10 +1,5 @@
 -- How many first bytes texts have in common.
-use Rattle.std.proofs.Common.{arith, ◌≡◌, ◌≢◌, ℕ, zero, suc, ◌-◌, ◌<◌, ◌≤◌, min, List, [], ◌∷◌, map, length, take, get_or, Ordering, Less, Equal, Greater, Some, refl, sym, ap, subst, ◌∙◌}
-use Rattle.std.proofs.lemmas.Cmp.{nat_cmp_total, ranked, tied_itself}
-use Rattle.std.specs.Ordering.{match_ordering, nat_cmp}
-use Rattle.std.specs.Prelude.{slice_get}
-use Rattle.inline_uses.specs.Index.{IsMark, common, first_front, last_of, longest_front}
-use Rattle.inline_uses.specs.declared.index.mark.Mark.{Mark}
+use Rattle.inline_uses.proofs.Names.{Equal, Greater, IsMark, Less, List, Mark, Ordering, Some, [], ap, arith, common, first_front, get_or, last_of, length, longest_front, map, match_ordering, min, nat_cmp, nat_cmp_total, ranked, refl, slice_get, subst, suc, sym, take, tied_itself, zero, ℕ, ◌-◌, ◌<◌, ◌∙◌, ◌∷◌, ◌≡◌, ◌≢◌, ◌≤◌}
 use Rattle.inline_uses.proofs.IndexRuns.{AreMarks, texts_of}
 use Rattle.inline_uses.proofs.RunEdits.{AreEnds, all_at}
 
@@ -25,8 +20,7 @@ pub common_take : (xs ys : List ℕ) (n : ℕ) → n ≤ common xs ys → take n
 common_take xs ys zero within = refl
 common_take [] ys (suc n) within = absurd (omega (arith, within))
 common_take (x ∷ xs) [] (suc n) within = absurd (omega (arith, within))
-common_take (x ∷ xs) (y ∷ ys) (suc n) within =
-    by (nat_cmp x y) refl within (common_take xs ys n)
+common_take (x ∷ xs) (y ∷ ys) (suc n) within = by (nat_cmp x y) refl within (common_take xs ys n)
   where
     by : (o : Ordering) → nat_cmp x y ≡ o → suc n ≤ match_ordering o 0 (suc (common xs ys)) 0
         → (n ≤ common xs ys → take n xs ≡ take n ys) → x ∷ take n xs ≡ y ∷ take n ys

@@ -1,14 +1,5 @@
 -- A run with one id more, where its text goes.
-use Rattle.std.proofs.Common.{arith, ◌≡◌, ℕ, ◌≤◌, List, [], ◌∷◌, map, take, drop, sym, ap, subst, ◌∙◌}
-use Rattle.std.proofs.lemmas.List.{take-take}
-use Rattle.std.specs.Int.{from_be_bytes, w64}
-use Rattle.std.specs.Prelude.{Some, slice_get}
-use Rattle.std.specs.List.{AllByRecursion, insert}
-use Rattle.std.specs.List.Sorted.{IsStrictlySortedBy}
-use Rattle.inline_uses.specs.Index.{IsMark, IsOrdered, IsShared, first_front}
-use Rattle.inline_uses.specs.Symbols.{key_order, IsGap}
-use Rattle.inline_uses.specs.declared.index.mark.Mark.{Mark}
-use Rattle.inline_uses.specs.declared.index.run.Run.{Run}
+use Rattle.inline_uses.proofs.Names.{AllByRecursion, IsGap, IsMark, IsOrdered, IsShared, IsStrictlySortedBy, List, Mark, Run, Some, [], ap, arith, drop, first_front, from_be_bytes, insert, key_order, map, slice_get, subst, sym, take, take-take, w64, ℕ, ◌∙◌, ◌∷◌, ◌≡◌, ◌≤◌}
 use Rattle.inline_uses.proofs.IndexMarks.{AreBytes}
 use Rattle.inline_uses.proofs.InRuns.{all_weaker}
 use Rattle.inline_uses.proofs.RunEdits.{sorted_insert, with_own_front}

@@ -1,30 +1,11 @@
 -- An index in which a run gets the ids of the next one, which is gone.
-use Rattle.std.proofs.Common.{◌≡◌, ℕ, zero, suc, ◌+◌, ◌<◌, ◌≤◌, List, [], ◌∷◌, ◌++◌, map, length, take, get_or, set, Global, Vec, Some, refl, sym, ap, subst, ◌∙◌, append_assoc}
-use Rattle.std.specs.Prelude.{slice_get}
-use Rattle.std.proofs.Math.Seq.{take-append_seam}
-use Rattle.std.proofs.lemmas.List.{length-append, take-map}
-use Rattle.std.proofs.lemmas.Option.{slice_get_read}
-use Rattle.std.specs.List.{insert, remove}
-use Rattle.std.specs.List.Sorted.{IsStrictlySortedBy}
-use Rattle.inline_uses.specs.Index.{IsIndex, IsOrdered, ids_at, ids_of, runs_of, with_run}
-use Rattle.inline_uses.specs.Symbols.{key_order}
-use Rattle.inline_uses.specs.declared.index.Index.{Index}
-use Rattle.inline_uses.specs.declared.index.run.Run.{Run}
+use Rattle.inline_uses.proofs.Names.{Global, Index, IsIndex, IsOrdered, IsStrictlySortedBy, List, Run, Some, Vec, [], ap, append_assoc, get_or, ids_at, ids_of, insert, key_order, length, length-append, map, map-append, refl, remove, runs_of, set, slice_get, slice_get_read, suc, sym, with_run, zero, ℕ, ◌++◌, ◌+◌, ◌<◌, ◌∙◌, ◌∷◌, ◌≡◌, ◌≤◌}
 use Rattle.inline_uses.proofs.InRuns.{flat, ids_at_is, sorted_rest}
-use Rattle.inline_uses.proofs.RunEdits.{sorted_take}
+use Rattle.inline_uses.proofs.RunEdits.{sorted_parts}
 use Rattle.inline_uses.proofs.RunRemovals.{all_remove, have_removed}
 use Rattle.inline_uses.proofs.RunSets.{IsShort, all_set, index_of_runs, other_firsts_set}
 use Rattle.inline_uses.proofs.Spots.{runs_with}
 use Rattle.inline_uses.proofs.Tables.{before_append}
-
-sorted_front : (text_of : ℕ → List ℕ) (ids rest : List ℕ)
-    → IsStrictlySortedBy key_order (map text_of (ids ++ rest))
-    → IsStrictlySortedBy key_order (map text_of ids)
-sorted_front text_of ids rest sorted =
-    let front : take (length ids) (map text_of (ids ++ rest)) ≡ map text_of ids
-    = take-map text_of (length ids) (ids ++ rest) ∙ ap (map text_of) (take-append_seam ids rest) in
-    subst (IsStrictlySortedBy key_order) front
-    (sorted_take (length ids) (map text_of (ids ++ rest)) sorted)
 
 -- a run is there without the next one
 pub there_still : (r : Run) (later : List Run) (k : ℕ)
@@ -62,8 +43,8 @@ module _ (old next : Run) where
   both_in_order text_of r (n ∷ later) zero is then sorted =
       let same : r ≡ old = cc in
       let other : n ≡ next = cc in
-      rw (← same, ← other) (sorted_front text_of (ids_of r ++ ids_of n) (flat later)
-      (rw append_assoc sorted))
+      rw (← same, ← other) (sorted_parts (map text_of (ids_of r ++ ids_of n))
+      (map text_of (flat later)) (rw (← map-append, append_assoc) sorted)).0
   both_in_order text_of r (n ∷ later) (suc k) is then sorted =
       both_in_order text_of n later k is then
       (sorted_rest text_of [] (ids_of r) (flat (n ∷ later)) sorted)
@@ -99,8 +80,7 @@ module _ (old next : Run) where
         → IsIndex text_of after × (flat (runs_of after) ≡ flat (runs_of before))
     joined text_of before after at is there then both ordered few runs firsts starts =
         let later = before.later.items in
-        let short : length (ids_of new) ≤ 256
-        = rw (
+        let short : length (ids_of new) ≤ 256 = rw (
           both,
           length-append,
           ← ids_at_is (runs_of before) at old there,
@@ -111,8 +91,8 @@ module _ (old next : Run) where
         (all_set (IsOrdered text_of) (before.first ∷ remove later at) at new
         (all_remove (IsOrdered text_of) (suc at) (runs_of before) is.runs) ordered)
         (all_set IsShort (before.first ∷ remove later at) at new
-        (all_remove IsShort (suc at) (runs_of before) is.short) short)
-        starts (rw firsts (other_firsts_set (remove (ids_of before.starts) at)
+        (all_remove IsShort (suc at) (runs_of before) is.short) short) starts
+        (rw firsts (other_firsts_set (remove (ids_of before.starts) at)
         (before.first ∷ remove later at) at old new
         (have_removed (ids_of before.starts) later at is.firsts)
         (there_still before.first later at ∙ there) (λ past id here. ap (λ ids. slice_get ids 0)

@@ -1,21 +1,10 @@
 -- What has one id less: a run, and an index.
-use Rattle.std.proofs.Common.{arith, ◌≡◌, ℕ, zero, suc, ◌+◌, ◌-◌, ◌<◌, ◌≤◌, List, [], ◌∷◌, ◌++◌, map, length, take, drop, set, Some, Less, refl, sym, ap, subst, ◌∙◌}
-use Rattle.std.specs.Prelude.{slice_get}
-use Rattle.std.proofs.Math.Seq.{drop-append_seam}
-use Rattle.std.proofs.lemmas.List.{length-append}
-use Rattle.std.proofs.lemmas.List.Edits.{length-remove, remove-append_left, remove-append_right}
-use Rattle.std.specs.List.{AllByRecursion, remove}
-use Rattle.std.specs.List.Sorted.{IsStrictlySortedBy}
-use Rattle.inline_uses.specs.Index.{HaveFirsts, IsAt, IsIndex, IsMark, IsOrdered, first_front, ids_at, ids_of, index_of, runs_of, with_run}
-use Rattle.inline_uses.specs.Symbols.{key_order}
-use Rattle.inline_uses.specs.declared.index.Index.{Index}
-use Rattle.inline_uses.specs.declared.index.Spot.{Spot}
-use Rattle.inline_uses.specs.declared.index.run.Run.{Run}
-use Rattle.inline_uses.proofs.InRuns.{all_append, flat, ids_at_is, later_set, sorted_rest}
+use Rattle.inline_uses.proofs.Names.{AllByRecursion, HaveFirsts, Index, IsAt, IsIndex, IsOrdered, IsStrictlySortedBy, Less, List, Run, Some, Spot, [], ap, arith, common_steps, drop, drop-append_seam, get_or, get_or-map, gets, ids_at, ids_of, index_of, key_order, length, length-append, length-map, length-remove, map, nat_list_cmp_total, remove, remove-append_left, remove-append_right, runs_of, set, slice_get, slice_get-get_or, sorted_from_all_adjacent, subst, suc, sym, take, with_run, zero, ℕ, ◌++◌, ◌+◌, ◌-◌, ◌<◌, ◌∙◌, ◌∷◌, ◌≡◌, ◌≤◌}
+use Rattle.inline_uses.proofs.InRuns.{all_append, first_at, flat, ids_at_is, later_set, later_start}
 use Rattle.inline_uses.proofs.IndexRuns.{texts_of}
-use Rattle.inline_uses.proofs.RunEdits.{all_at, all_drop, all_take, with_own_front}
-use Rattle.inline_uses.proofs.RunSets.{IsShort, all_set, changed, flat_edit, index_of_runs}
-use Rattle.inline_uses.proofs.RunSplits.{firsts_above}
+use Rattle.inline_uses.proofs.RunEdits.{all_at, all_drop, all_take, run_of_some}
+use Rattle.inline_uses.proofs.RunSets.{IsShort, all_set, changed, edit_past, flat_edit, index_of_runs}
+use Rattle.inline_uses.proofs.RunSplits.{in_order}
 use Rattle.inline_uses.proofs.Search.{removed_seen}
 use Rattle.inline_uses.proofs.Spots.{firsts_renamed, runs_with, starts_with}
 
@@ -39,21 +28,10 @@ sorted_remove (suc at) (t ∷ ts) sorted =
 pub run_less : (text_of : ℕ → List ℕ) (old new : Run) (at : ℕ) → new.front ≡ old.front
     → new.marks.items ≡ remove old.marks.items at → IsOrdered text_of old → IsOrdered text_of new
 run_less text_of old new at front marks is =
-    let own = first_front old.front (texts_of text_of old.marks.items) in
-    record {
-      sorted = rw (marks, removed_seen, removed_seen)
-          (sorted_remove at (texts_of text_of old.marks.items) is.sorted);
-      marks = rw front (with_own_front text_of old.front own new.marks.items
-          (rw marks (all_remove (IsMark text_of old.front own) at old.marks.items is.marks)));
-    }
-
--- a removal among some with others before them
-remove_past : (front rest : List ℕ) (at : ℕ)
-    → remove (front ++ rest) (length front + at) ≡ front ++ remove rest at
-remove_past front rest at =
-    let same : length front + at - length front ≡ at = omega arith in
-    remove-append_right front rest (length front) (length front + at) refl (omega arith)
-    ∙ ap (λ i. front ++ remove rest i) same
+    let items = old.marks.items in
+    run_of_some text_of old new (remove items at) front marks
+    (rw (removed_seen, removed_seen) (sorted_remove at (texts_of text_of items) is.sorted))
+    (all_remove _ at items is.marks)
 
 -- the ids of all without a run of one id
 pub flat_gone : (runs : List Run) (k : ℕ) → length (ids_at runs k) ≡ 1
@@ -62,7 +40,8 @@ flat_gone [] k one = cc
 flat_gone (r ∷ runs) zero one = subst (λ n. flat runs ≡ drop n (ids_of r ++ flat runs)) one
     (sym (drop-append_seam (ids_of r) (flat runs)))
 flat_gone (r ∷ runs) (suc k) one = ap (λ ids. ids_of r ++ ids) (flat_gone runs k one)
-    ∙ sym (remove_past (ids_of r) (flat runs) (length (flat (take k runs))))
+    ∙ sym (edit_past remove remove-append_right (ids_of r) (flat runs)
+    (length (flat (take k runs))))
     ∙ ap (remove (ids_of r ++ flat runs)) (sym (length-append (ids_of r) (flat (take k runs))))
 
 -- a run that has ids is there
@@ -71,11 +50,8 @@ run_there [] k some = absurd (omega (arith, some))
 run_there (r ∷ runs) zero some = omega arith
 run_there (r ∷ runs) (suc k) some = omega (arith, run_there runs k some)
 
-first_left : (ids : List ℕ) (at : ℕ) → 0 < at
-    → slice_get (remove ids at) 0 ≡ slice_get ids 0
-first_left ids zero past = absurd (omega (arith, past))
-first_left [] (suc at) past = refl
-first_left (id ∷ ids) (suc at) past = refl
+first_left : (ids : List ℕ) (at : ℕ) → 0 < at → slice_get (remove ids at) 0 ≡ slice_get ids 0
+first_left ids at past = grind (arith, common_steps, gets, past)
 
 -- the first ids without that of one run
 pub have_removed : (ids : List ℕ) (runs : List Run) (k : ℕ) → HaveFirsts ids runs
@@ -94,15 +70,15 @@ module _ (text_of : ℕ → List ℕ) where
   -- the first ids of runs in order are in order
   firsts_in_order : (ids : List ℕ) (runs : List Run) → InOrder (flat runs)
       → HaveFirsts ids (drop 1 runs) → InOrder ids
-  unfolding IsStrictlySortedBy
-  firsts_in_order [] runs sorted have = tt
-  firsts_in_order (id ∷ ids) [] sorted have = absurd have
-  firsts_in_order (id ∷ ids) (r ∷ []) sorted have = absurd have
-  firsts_in_order (id ∷ ids) (r ∷ next ∷ runs) sorted have =
-      let rest = sorted_rest text_of [] (ids_of r) (flat (next ∷ runs)) sorted in (
-        firsts_above text_of id (ids_of next) ids runs 0 rest have.1 have.0,
-        firsts_in_order ids (next ∷ runs) rest have.1,
-      )
+  firsts_in_order ids runs sorted have =
+      sorted_from_all_adjacent nat_list_cmp_total (map text_of ids) [] (λ k less.
+      let second : k + 1 < length ids = rw length-map at less in
+      let first : k < length ids = omega (arith, second) in
+      let one = first_at ids runs k _ have (slice_get-get_or ids k 0 first) in
+      let other = first_at ids runs (k + 1) _ have (slice_get-get_or ids (k + 1) 0 second) in
+      rw (get_or-map text_of ids k 0 [] first, get_or-map text_of ids (k + 1) 0 [] second)
+      (in_order text_of (flat runs) _ _ (get_or ids k 0) (get_or ids (k + 1) 0) sorted
+      (omega (arith, one.1, later_start runs (suc k) (suc (k + 1)) (omega arith))) one.0 other.0))
 
   -- an index in which a later run of one id is gone
   pub without_run : (before after : Index) (at : ℕ) → IsIndex text_of before
@@ -155,7 +131,7 @@ module _ {text_of : ℕ → List ℕ} {before : Index} {spot : Spot} {old new : 
     left = remove (flat (runs_of before)) (index_of before spot)
 
     left_is : flat (set (runs_of before) spot.run new) ≡ left
-    left_is = flat_edit remove remove_past (runs_of before) spot.run spot.at old new there
+    left_is = flat_edit remove remove-append_right (runs_of before) spot.run spot.at old new there
         (λ rest. remove-append_left (ids_of old) rest spot.at one_less.1) ids
 
     left_in_order : InOrder text_of left
@@ -166,8 +142,8 @@ module _ {text_of : ℕ → List ℕ} {before : Index} {spot : Spot} {old new : 
     pub with_less : (0 < spot.run → 0 < spot.at)
         → IsIndex text_of less × (flat (runs_of less) ≡ left)
     with_less past = changed text_of before less spot.run old new is there
-        (runs_with before spot.run new) (starts_with before spot.run new) ordered left left_is
-        left_in_order few
+        (runs_with before spot.run new) (ap ids_of (starts_with before spot.run new))
+        (rw starts_with is.starts) ordered left left_is left_in_order few
         (λ later. ap (λ ids. slice_get ids 0) ids ∙ first_left (ids_of old) spot.at (past later))
 
     -- else they have the next one in its place
@@ -190,8 +166,7 @@ module _ {text_of : ℕ → List ℕ} {before : Index} {spot : Spot} {old new : 
           IsIndex text_of after × (flat (runs_of after) ≡ left)
       with_next starts starts_are ids = index_of_runs text_of (record less { starts = starts })
           (set (runs_of before) spot.run new) left (runs_with before spot.run new) left_is
-          left_in_order
-          (all_set (IsOrdered text_of) (runs_of before) spot.run new is.runs ordered)
+          left_in_order (all_set (IsOrdered text_of) (runs_of before) spot.run new is.runs ordered)
           (all_set IsShort (runs_of before) spot.run new is.short few) starts_are
           (subst (λ ids. HaveFirsts ids (drop 1 (set (runs_of before) spot.run new))) (sym ids)
           firsts_are)

@@ -1,23 +1,9 @@
 -- An index in which a run is split.
-use Rattle.std.proofs.Common.{arith, ◌≡◌, ℕ, zero, suc, ◌+◌, ◌-◌, ◌<◌, ◌≤◌, List, [], ◌∷◌, ◌++◌, map, length, take, drop, set, Some, Less, refl, sym, ap, subst, ◌∙◌, inl, inr, add-one, append_assoc}
-use Rattle.std.specs.Prelude.{Err, IfOk, Ok, OnErr, OnOk, Result, slice_get}
-use Rattle.std.proofs.lemmas.Bool.{cases_lt}
-use Rattle.std.proofs.lemmas.List.{append-nil, length-append, length-drop, length-map, length-take-le, map-append, take-append-drop}
-use Rattle.std.proofs.lemmas.Map.Keys.{Less-from_sorted}
-use Rattle.std.proofs.lemmas.Option.{get_or_from_slice_get, slice_get-map, slice_get_within}
-use Rattle.std.specs.List.{AllByRecursion, insert}
-use Rattle.std.specs.List.Sorted.{IsStrictlySortedBy}
-use Rattle.std.specs.declared.alloc.AllocError.{AllocError}
-use Rattle.inline_uses.specs.Index.{HaveFirsts, IsChanged, IsIndex, IsOrdered, IsSplit, IsSpot, ids_at, ids_in, ids_of, index_of, runs_of}
-use Rattle.inline_uses.specs.Symbols.{key_order, IsGap}
-use Rattle.inline_uses.specs.declared.index.Index.{Index}
-use Rattle.inline_uses.specs.declared.index.Spot.{Spot}
-use Rattle.inline_uses.specs.declared.index.run.Run.{Run}
-use Rattle.inline_uses.proofs.Gaps.{AreAbove, AreBelow, gap_between}
-use Rattle.inline_uses.proofs.InRuns.{IsReplaced, flat, have_length, ids_at_is, in_flat, past_append, sorted_rest}
-use Rattle.inline_uses.proofs.RunEdits.{all_at, all_insert}
-use Rattle.inline_uses.proofs.RunSets.{IsShort, all_set, flat_same, index_of_runs, other_firsts_set}
-use Rattle.inline_uses.proofs.Tables.{before_append}
+use Rattle.inline_uses.proofs.Names.{AllByRecursion, AllocError, Err, HaveFirsts, IfOk, Index, IsChanged, IsGap, IsIndex, IsOrdered, IsSplit, IsSpot, IsStrictlySortedBy, Less, Less-from_sorted, List, Ok, OnErr, OnOk, Result, Run, Some, Spot, [], add-one, ap, append-nil, append_assoc, arith, cases_lt, common_steps, drop, get_or, get_or-map, get_or_from_slice_get, gets, ids_at, ids_in, ids_of, index_of, inl, inr, insert, key_order, length, length-append, length-drop, length-map, length-take-le, map, refl, runs_of, set, slice_get, slice_get-get_or, slice_get-map, slice_get_within, subst, suc, sym, take, take-append-drop, zero, ℕ, ◌++◌, ◌+◌, ◌-◌, ◌<◌, ◌∙◌, ◌∷◌, ◌≡◌, ◌≤◌}
+use Rattle.inline_uses.proofs.Gaps.{turned}
+use Rattle.inline_uses.proofs.InRuns.{IsReplaced, first_at, flat, have_length, ids_at_is, in_flat, later_start, next_start}
+use Rattle.inline_uses.proofs.RunEdits.{all_insert}
+use Rattle.inline_uses.proofs.RunSets.{IsShort, all_set, other_firsts_set, with_same}
 
 -- a run more has its first id among the first ids
 firsts_insert : (ids : List ℕ) (runs : List Run) (k first : ℕ) (new : Run) → HaveFirsts ids runs
@@ -30,20 +16,16 @@ firsts_insert (id ∷ ids) (r ∷ runs) (suc k) first new have next =
     (have.0, firsts_insert ids runs k first new have.1 next)
 
 first_of_front : (ids : List ℕ) (h : ℕ) → 0 < h → slice_get (take h ids) 0 ≡ slice_get ids 0
-first_of_front ids zero some = absurd (omega (arith, some))
-first_of_front [] (suc h) some = refl
-first_of_front (id ∷ ids) (suc h) some = refl
+first_of_front ids h some = grind (arith, common_steps, gets, some)
 
 first_of_rest : (ids : List ℕ) (h : ℕ) → slice_get (drop h ids) 0 ≡ slice_get ids h
-first_of_rest ids zero = refl
-first_of_rest [] (suc h) = refl
-first_of_rest (id ∷ ids) (suc h) = first_of_rest ids h
+first_of_rest ids h = grind (arith, common_steps, gets)
 
 -- where the first id of the upper part goes among the others
 module _ (text_of : ℕ → List ℕ) where
   -- an earlier id has a lesser text
-  in_order : (ids : List ℕ) (i j x y : ℕ) → IsStrictlySortedBy key_order (map text_of ids) → i < j
-      → slice_get ids i ≡ Some x → slice_get ids j ≡ Some y
+  pub in_order : (ids : List ℕ) (i j x y : ℕ) → IsStrictlySortedBy key_order (map text_of ids)
+      → i < j → slice_get ids i ≡ Some x → slice_get ids j ≡ Some y
       → key_order (text_of x) (text_of y) ≡ Less
   in_order ids i j x y sorted less first second =
       let texts = map text_of ids in
@@ -55,63 +37,29 @@ module _ (text_of : ℕ → List ℕ) where
       ) at (Less-from_sorted key_order texts i j
       [] sorted less (slice_get_within texts j (text_of y) other))
 
-  -- the first ids of runs after an id are above it
-  pub firsts_above : (x : ℕ) (front : List ℕ) (ids : List ℕ) (runs : List Run) (i : ℕ)
-      → IsStrictlySortedBy key_order (map text_of (front ++ flat runs)) → HaveFirsts ids runs
-      → slice_get front i ≡ Some x → AreAbove (text_of x) (map text_of ids)
-  firsts_above x front [] runs i sorted have is = tt
-  firsts_above x front (id ∷ ids) [] i sorted have is = absurd have
-  firsts_above x front (id ∷ ids) (r ∷ runs) i sorted have is =
-      let within = slice_get_within front i x is in (
-        in_order (front ++ flat (r ∷ runs)) i (length front + 0) x id sorted (omega (arith, within))
-            (before_append front (flat (r ∷ runs)) i x is)
-            (past_append front (flat (r ∷ runs)) 0
-            ∙ before_append (ids_of r) (flat runs) 0 id have.0),
-        firsts_above x (front ++ ids_of r) ids runs i
-            (subst (λ all. IsStrictlySortedBy key_order (map text_of all))
-            (sym (append_assoc front (ids_of r) (flat runs))) sorted)
-            have.1 (before_append front (ids_of r) i x is),
-      )
-
-  start_parts : (x at : ℕ) (ids : List ℕ) (r : Run) (runs : List Run) (k : ℕ) (old : Run)
-      → IsStrictlySortedBy key_order (map text_of (flat (r ∷ runs))) → HaveFirsts ids runs
-      → slice_get (r ∷ runs) k ≡ Some old → slice_get (ids_of old) at ≡ Some x → 0 < at
-      → AreBelow (text_of x) (map text_of (take k ids))
-      × AreAbove (text_of x) (map text_of (drop k ids))
-  start_parts x at ids r runs zero old sorted have is there past =
-      let same : r ≡ old = cc in
-      (tt, firsts_above x (ids_of r) ids runs at sorted have (rw same there))
-  start_parts x at [] r [] (suc k) old sorted have is there past = cc
-  start_parts x at [] r (r1 ∷ runs) (suc k) old sorted have is there past = absurd have
-  start_parts x at (id ∷ ids) r [] (suc k) old sorted have is there past = absurd have
-  start_parts x at (id ∷ ids) r (r1 ∷ runs) (suc k) old sorted have is there past =
-      let behind = sorted_rest text_of [] (ids_of r) (flat (r1 ∷ runs)) sorted in
-      let rest = start_parts x at ids r1 runs k old behind have.1 is there past in (
-        (
-          in_order (flat (r1 ∷ runs)) 0 (length (flat (take k (r1 ∷ runs))) + at) id x behind
-              (omega (arith, past)) (before_append (ids_of r1) (flat runs) 0 id have.0)
-              (in_flat (r1 ∷ runs) k old at x is there),
-          rest.0,
-        ),
-        rest.1,
-      )
-
+  -- an id of a run that is not its first goes among the first ids where its run is
   start_gap : (x at : ℕ) (ids : List ℕ) (runs : List Run) (k : ℕ) (old : Run)
       → IsStrictlySortedBy key_order (map text_of (flat runs)) → HaveFirsts ids (drop 1 runs)
       → slice_get runs k ≡ Some old → slice_get (ids_of old) at ≡ Some x → 0 < at
       → k ≤ length ids → IsGap (map text_of ids) (text_of x) k
-  start_gap x at ids [] k old sorted have is there past most = cc
-  start_gap x at ids (r ∷ runs) k old sorted have is there past most =
-      let parts = start_parts x at ids r runs k old sorted have is there past in
-      let place : length (map text_of (take k ids)) ≡ k
-      = rw (length-map, length-take-le k ids most) refl in
-      let whole : map text_of (take k ids) ++ map text_of (drop k ids) ≡ map text_of ids
-      = sym (map-append text_of (take k ids) (drop k ids))
-      ∙ ap (map text_of) (take-append-drop k ids) in
-      subst (λ n. IsGap (map text_of ids) (text_of x) n) place
-      (subst (λ ts. IsGap ts (text_of x) (length (map text_of (take k ids)))) whole
-      (gap_between (text_of x) (map text_of (take k ids)) (map text_of (drop k ids)) parts.0
-      parts.1))
+  start_gap x at ids runs k old sorted have is there past most =
+      let here = in_flat runs k old at x is there in
+      let own = rw (← ids_at_is runs k old is) at (slice_get_within (ids_of old) at x there) in
+      let first = λ (i : ℕ) (less : i < length ids).
+      (first_at ids runs i (get_or ids i 0) have (slice_get-get_or ids i 0 less)).0 in (
+        rw length-map most,
+        (λ i less.
+            let within : i < length ids = omega (arith, less, most) in
+            rw (get_or-map text_of ids i 0 [] within) (turned (text_of (get_or ids i 0)) (text_of x)
+            (in_order (flat runs) _ _ (get_or ids i 0) x sorted
+            (omega (arith, past, next_start runs i, later_start runs i k less)) (first i within)
+            here))),
+        λ i le less.
+            let within : i < length ids = rw length-map at less in
+            rw (get_or-map text_of ids i 0 [] within) (in_order (flat runs) _ _ x (get_or ids i 0)
+            sorted (omega (arith, own, later_start runs k (suc i) (omega (arith, le)))) here
+            (first i within)),
+      )
 
 -- the run that a part of a run was taken from, and what it had
 module _ {text_of : ℕ → List ℕ} {before after : Index} {at : ℕ} {old lower : Run}
@@ -170,17 +118,8 @@ module _ {text_of : ℕ → List ℕ} {index roomy parted : Index}
     -- it has the ids that it had, if it was not
     pub unsplit : {at : ℕ} → IsChanged text_of roomy parted at (λ ids. ids)
         → IsIndex text_of parted × (ids_in parted ≡ ids_in index)
-    unsplit {at} to =
-        index_of_runs text_of parted (set (runs_of index) at to.new) (ids_in index)
-        (replaced to).runs
-        (flat_same (runs_of index) at to.old to.new (replaced to).there to.changed)
-        ready.index.sorted
-        (all_set (IsOrdered text_of) (runs_of index) at to.new ready.index.runs to.ordered)
-        (all_set IsShort (runs_of index) at to.new ready.index.short (rw to.changed
-        (all_at IsShort (runs_of index) at to.old ready.index.short (sym (replaced to).there))))
-        ready.ordered (rw ready.starts (other_firsts_set (ids_of index.starts) (runs_of index) at
-        to.old to.new ready.index.firsts (replaced to).there
-        (λ past id here. ap (λ ids. slice_get ids 0) to.changed ∙ here)))
+    unsplit {at} to = with_same text_of index parted at to.old to.new ready.index
+        (replaced to).there (replaced to).runs ready.starts ready.ordered to.ordered to.changed
 
     module _ {spot : Spot} {kept : ℕ} {upper : Run} (some : 0 < kept) (less : kept < 256)
         (full : length (ids_at (runs_of index) spot.run) ≡ 256) (spot_is : IsSpot index spot)

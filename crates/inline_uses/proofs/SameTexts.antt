@@ -1,15 +1,5 @@
 -- An index over other texts, or with other ids, whose ids have the texts that its ids had.
-use Rattle.std.proofs.Common.{arith, ◌≡◌, ◌≤◌, ℕ, zero, suc, List, [], ◌∷◌, ◌++◌, Some, Global, Vec, map, length, take, drop, set, option_map, refl, sym, ap, subst, ◌∙◌}
-use Rattle.std.proofs.lemmas.Option.{slice_get-map}
-use Rattle.std.specs.Prelude.{⊤, slice_get}
-use Rattle.std.specs.Int.{from_be_bytes, w64}
-use Rattle.std.specs.List.{AllByRecursion}
-use Rattle.std.specs.List.Sorted.{IsStrictlySortedBy}
-use Rattle.inline_uses.specs.Index.{HaveFirsts, IsIndex, IsMark, IsOrdered, first_front, ids_in, ids_of, runs_of}
-use Rattle.inline_uses.specs.Symbols.{key_order}
-use Rattle.inline_uses.specs.declared.index.Index.{Index}
-use Rattle.inline_uses.specs.declared.index.mark.Mark.{Mark}
-use Rattle.inline_uses.specs.declared.index.run.Run.{Run}
+use Rattle.inline_uses.proofs.Names.{AllByRecursion, Global, HaveFirsts, Index, IsIndex, IsMark, IsOrdered, IsStrictlySortedBy, List, Mark, Run, Some, Vec, [], ap, arith, drop, first_front, from_be_bytes, ids_in, ids_of, key_order, length, map, option_map, refl, runs_of, set, slice_get, slice_get-map, subst, suc, sym, take, w64, zero, ℕ, ⊤, ◌++◌, ◌∙◌, ◌∷◌, ◌≡◌, ◌≤◌}
 use Rattle.inline_uses.proofs.InRuns.{flat}
 use Rattle.inline_uses.proofs.IndexMarks.{AreBytes}
 use Rattle.inline_uses.proofs.RunSets.{IsShort}
@@ -30,8 +20,7 @@ module _ (f g : ℕ → List ℕ) where
       let number : n.bits ≡ m.bits = cc in (
         record {
           begins = subst (λ t. take len t ≡ front) text are.0.begins;
-          bits = number
-              ∙ subst (λ t. m.bits ≡ from_be_bytes w64 (drop len t)) text are.0.bits;
+          bits = number ∙ subst (λ t. m.bits ≡ from_be_bytes w64 (drop len t)) text are.0.bits;
           bytes = subst AreBytes text are.0.bytes;
         },
         renamed_marks len front olds news (ap (drop 1) bits) (ap (drop 1) same) are.1,
@@ -44,16 +33,14 @@ module _ (f g : ℕ → List ℕ) where
       → IsOrdered g (record { front = old.front; marks = marks })
   renamed_run old marks bits is same = record {
     sorted = subst (IsStrictlySortedBy key_order) (sym same) is.sorted;
-    marks = subst (λ ts. AllByRecursion (IsMark g old.front (first_front old.front ts))
-        marks.items) (sym same) (renamed_marks old.front
-        (first_front old.front (map f (ids_of old))) old.marks.items marks.items bits same
-        is.marks);
+    marks = subst (λ ts. AllByRecursion (IsMark g old.front (first_front old.front ts)) marks.items)
+        (sym same) (renamed_marks old.front (first_front old.front (map f (ids_of old)))
+        old.marks.items marks.items bits same is.marks);
   }
 
   -- a run has other ids for the same texts, or the same ids
   abbrev pub StaysOrdered : Run → Run → Type 0
-  StaysOrdered old new =
-      IsOrdered f old → HaveTexts (ids_of old) (ids_of new) → IsOrdered g new
+  StaysOrdered old new = IsOrdered f old → HaveTexts (ids_of old) (ids_of new) → IsOrdered g new
 
   abbrev pub IsRenamed : Run → Run → Type 0
   IsRenamed old new = (length (ids_of new) ≡ length (ids_of old)) × StaysOrdered old new
@@ -118,15 +105,14 @@ module _ (f g : ℕ → List ℕ) where
       let rest = firsts_renamed ms ns olds news are.1 parts.1 have.1 now.1 in
       let head : Some (g n) ≡ Some (f m)
       = sym (slice_get-map g (ids_of new) 0 ∙ ap (option_map g) now.0)
-      ∙ ap (λ ts. slice_get ts 0) parts.0
-      ∙ slice_get-map f (ids_of old) 0 ∙ ap (option_map f) have.0 in
+      ∙ ap (λ ts. slice_get ts 0) parts.0 ∙ slice_get-map f (ids_of old) 0
+      ∙ ap (option_map f) have.0 in
       cc
 
   -- an index stays one if its runs, and the run of the first ids, have other ids
   pub renamed_index : (before after : Index) → AreRenamed (runs_of before) (runs_of after)
-      → IsRenamed before.starts after.starts
-      → HaveFirsts (ids_of after.starts) after.later.items → IsIndex f before
-      → HaveTexts (ids_in before) (ids_in after) → IsIndex g after
+      → IsRenamed before.starts after.starts → HaveFirsts (ids_of after.starts) after.later.items
+      → IsIndex f before → HaveTexts (ids_in before) (ids_in after) → IsIndex g after
   renamed_index before after are starts firsts is same =
       let runs = runs_renamed (runs_of before) (runs_of after) are same is.runs is.short in
       let later = (parted (ids_of before.first) (ids_of after.first) (flat before.later.items)

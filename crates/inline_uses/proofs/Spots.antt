@@ -1,16 +1,5 @@
 -- Spots of ids: where they are among all ids, and other ids there.
-use Rattle.std.proofs.Common.{arith, ◌≡◌, ℕ, zero, suc, ◌+◌, ◌-◌, ◌<◌, List, [], ◌∷◌, ◌++◌, map, length, drop, set, Some, refl, sym, ap, subst, ◌∙◌}
-use Rattle.std.specs.Prelude.{Err, Ok, OnErr, OnOk, Result, ⊤, slice_get}
-use Rattle.std.specs.List.{insert}
-use Rattle.std.specs.declared.alloc.AllocError.{AllocError}
-use Rattle.std.specs.Vec.{with_item}
-use Rattle.std.proofs.lemmas.List.{length-map, length-set, set-append_left, set-append_right}
-use Rattle.std.proofs.lemmas.Option.{slice_get_within}
-use Rattle.inline_uses.specs.Index.{HaveFirsts, IsAt, IsIndex, IsOrdered, IsSpot, ids_at, ids_in, ids_of, index_of, runs_of, with_run}
-use Rattle.inline_uses.specs.Symbols.{IsGap}
-use Rattle.inline_uses.specs.declared.index.Index.{Index}
-use Rattle.inline_uses.specs.declared.index.Spot.{Spot}
-use Rattle.inline_uses.specs.declared.index.run.Run.{Run}
+use Rattle.inline_uses.proofs.Names.{AllocError, Err, HaveFirsts, Index, IsAt, IsGap, IsIndex, IsOrdered, IsSpot, List, Ok, OnErr, OnOk, Result, Run, Some, Spot, [], ap, arith, common_steps, drop, gets, ids_at, ids_in, ids_of, index_of, insert, length, length-map, length-set, map, refl, runs_of, set, set-append_left, set-append_right, slice_get, slice_get_within, subst, suc, sym, with_item, with_run, zero, ℕ, ⊤, ◌+◌, ◌-◌, ◌<◌, ◌∙◌, ◌∷◌, ◌≡◌}
 use Rattle.inline_uses.proofs.InRuns.{after_first, flat, found_with, gap_in_flat, id_of_text, ids_at_is, later_set, later_there, run_of_first, run_within, text_in_flat}
 use Rattle.inline_uses.proofs.RunSets.{flat_edit, gap_in_run, other_firsts_set, with_more, with_same}
 use Rattle.inline_uses.proofs.SameTexts.{AreRenamed, HaveTexts, IsRenamed, StaysOrdered, one_renamed, renamed_index, same_run}
@@ -80,8 +69,7 @@ pub runs_with : (index : Index) (k : ℕ) (run : Run)
 runs_with index zero run = refl
 runs_with index (suc k) run = refl
 
-pub starts_with : (index : Index) (k : ℕ) (run : Run)
-    → (with_run index k run).starts ≡ index.starts
+pub starts_with : (index : Index) (k : ℕ) (run : Run) → (with_run index k run).starts ≡ index.starts
 starts_with index zero run = refl
 starts_with index (suc k) run = refl
 
@@ -102,26 +90,19 @@ module _ (text_of : ℕ → List ℕ) (index : Index) (spot : Spot) (id : ℕ) (
         → (new : Run) (r : Result ⊤ AllocError) → IsOrdered text_of new
         → OnOk r (ids_of new ≡ insert (ids_of old) spot.at id) → OnErr r (ids_of new ≡ ids_of old)
         → IsIndex text_of (with_run index spot.run new)
-        × (OnOk r (ids_in (with_run index spot.run new)
-        ≡ insert (ids_in index) (index_of index spot) id))
-        × OnErr r (ids_in (with_run index spot.run new) ≡ ids_in index)
+        × (OnOk r (ids_in (with_run index spot.run new) ≡ insert (ids_in index)
+        (index_of index spot) id)) × OnErr r (ids_in (with_run index spot.run new) ≡ ids_in index)
     added_at was room new (Ok u) run ok err =
         let more = with_more text_of index (with_run index spot.run new) spot.run old new was there
-        (runs_with index spot.run new) (starts_with index spot.run new) run spot.at id
+        (runs_with index spot.run new) (ap ids_of (starts_with index spot.run new))
+        (rw starts_with was.starts) run spot.at id
         (rw seen at is.within) ok (rw seen at room) is.after gap in
         (more.0, more.1, tt)
     added_at was room new (Err e) run ok err =
         let same = with_same text_of index (with_run index spot.run new) spot.run old new was there
-        (runs_with index spot.run new) (starts_with index spot.run new) run err in
+        (runs_with index spot.run new) (ap ids_of (starts_with index spot.run new))
+        (rw starts_with was.starts) run err in
         (same.0, tt, same.1)
-
--- another id among some with others before them
-set_past : (front rest : List ℕ) (at id : ℕ)
-    → set (front ++ rest) (length front + at) id ≡ front ++ set rest at id
-set_past front rest at id =
-    let same : length front + at - length front ≡ at = omega arith in
-    set-append_right front rest (length front) (length front + at) id refl (omega arith)
-    ∙ ap (λ i. front ++ set rest i id) same
 
 -- another first id of a run is another one of the first ids
 pub firsts_renamed : (ids : List ℕ) (runs : List Run) (k id : ℕ) (new : Run) → HaveFirsts ids runs
@@ -136,14 +117,10 @@ firsts_renamed (i ∷ ids) (r ∷ runs) (suc k) id new have first =
 -- the first id, where an id is another
 first_is : (ids : List ℕ) (at id : ℕ) → at < length ids → at ≡ 0
     → slice_get (set ids at id) 0 ≡ Some id
-first_is [] at id within is = absurd (omega (arith, within))
-first_is (i ∷ ids) at id within is = rw is refl
+first_is ids at id within is = grind (arith, common_steps, gets, within, is)
 
-first_stays : (ids : List ℕ) (at id : ℕ) → 0 < at
-    → slice_get (set ids at id) 0 ≡ slice_get ids 0
-first_stays [] at id past = refl
-first_stays (i ∷ ids) zero id past = absurd (omega (arith, past))
-first_stays (i ∷ ids) (suc at) id past = refl
+first_stays : (ids : List ℕ) (at id : ℕ) → 0 < at → slice_get (set ids at id) 0 ≡ slice_get ids 0
+first_stays ids at id past = grind (arith, common_steps, gets, past)
 
 -- an index in which the id at a spot is another
 module _ (index : Index) (spot : Spot) (id : ℕ) (old new : Run) (at : IsAt index spot)
@@ -158,7 +135,7 @@ module _ (index : Index) (spot : Spot) (id : ℕ) (old new : Run) (at : IsAt ind
 
     pub ids_renamed : ids_in lent ≡ set (ids_in index) (index_of index spot) id
     ids_renamed = ap flat (runs_with index spot.run new)
-        ∙ flat_edit (λ ids i. set ids i id) (λ front rest i. set_past front rest i id)
+        ∙ flat_edit (λ ids i. set ids i id) (λ front rest n i. set-append_right front rest n i id)
         (runs_of index) spot.run spot.at old new there
         (λ rest. set-append_left (ids_of old) rest spot.at id within) ids
 
@@ -198,5 +175,4 @@ module _ (index : Index) (spot : Spot) (id : ℕ) (old new : Run) (at : IsAt ind
             (rw (same, is) (subst (λ rs. HaveFirsts (set (ids_of index.starts) (spot.run - 1) id)
             (drop 1 rs)) (later_set index.first new index.later.items spot.run past)
             (firsts_renamed (ids_of index.starts) index.later.items (spot.run - 1) id new have
-            (ap (λ ids. slice_get ids 0) ids
-            ∙ first_is (ids_of old) spot.at id within first))))
+            (ap (λ ids. slice_get ids 0) ids ∙ first_is (ids_of old) spot.at id within first))))

@@ -70,8 +70,7 @@ not_below (b ∷ bs) e = cc
 -- the keys of a place are in its range
 contained : (place p : Option ℕ) (k : List ℕ) → place ≡ p
     → range_contains place_order (first_key place) (end_key place) (p, k) ≡ true
-contained place p k e =
-    rw (← e, place_tied place, place_after place, least (bytes_of k)) refl
+contained place p k e = rw (← e, place_tied place, place_after place, least (bytes_of k)) refl
 
 less_first : (o r : Ordering) → ordering_then o r ≡ Less → ¬ (r ≡ Less) → o ≡ Less
 less_first Less r e not = refl
@@ -131,10 +130,9 @@ found_left place key es id bytes is =
 
 -- what a range with these bounds gives
 pub range_is : (place : Option ℕ) (a b : Bound (Option ℕ × List ℕ))
-    → (ids : BTreeMap (Option ℕ × List ℕ) ℕ) (es : List Entry)
-    → a ≡ first_key place → b ≡ end_key place
-    → es ≡ entries_between place_order a b ids.entries
-    → All (IsEntryInRange place_order a b ids) es → (es ≡ under place ids.entries)
-    × All (IsEntryInRange place_order (first_key place) (end_key place) ids) es
+    → (ids : BTreeMap (Option ℕ × List ℕ) ℕ) (es : List Entry) → a ≡ first_key place
+    → b ≡ end_key place → es ≡ entries_between place_order a b ids.entries
+    → All (IsEntryInRange place_order a b ids) es → (es ≡ under place ids.entries) × All
+    (IsEntryInRange place_order (first_key place) (end_key place) ids) es
 range_is place a b ids es first end between inside =
     (rw (first, end) at between, rw (first, end) at inside)

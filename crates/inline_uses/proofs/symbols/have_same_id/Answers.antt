@@ -1,6 +1,4 @@
-use Rattle.std.proofs.Common.{◌≡◌, Some, sym, ap, ◌∙◌}
-use Rattle.std.specs.Cmp.{unsigned_Decides}
-use Rattle.std.specs.Prelude.{slice_get}
+use Rattle.inline_uses.proofs.Names.{Some, ap, slice_get, sym, unsigned_Decides, ◌∙◌, ◌≡◌}
 use Rattle.inline_uses.proofs.symbols.have_same_id.Goals as goal
 
 pub returns-in-Some-Some : goal.returns-in-Some-Some

@@ -1,13 +1,11 @@
-use Rattle.std.proofs.Common.{rules, ◌≡◌}
-use Rattle.inline_uses.specs.Symbols.{bytes_at}
+use Rattle.inline_uses.proofs.Names.{bytes_at, rules, ◌≡◌}
 use Rattle.inline_uses.proofs.Pushed.{IsPushed, entries_pushed, mapped_back, mapped_pushed, pushed_gap, pushed_index}
 use Rattle.inline_uses.proofs.text_map.insert.Given.{Over}
 use Rattle.inline_uses.proofs.text_map.insert.Goals.{In_default-push}
 use Rattle.inline_uses.proofs.text_map.insert.Goals as goal
 
 pushed : (g : Over) → (c : In_default-push g) → IsPushed c.args.entries.now.items
-    c.push.new.self.items c.args.order.now c.args.key.now c.args.value c.args.spot
-    c.len-id.result
+    c.push.new.self.items c.args.order.now c.args.key.now c.args.value c.args.spot c.len-id.result
 pushed g c =
     let name : bytes_at c.in-Ok.key ≡ c.args.key.now = search rules in
     record {

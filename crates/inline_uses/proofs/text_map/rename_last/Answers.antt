@@ -1,6 +1,4 @@
-use Rattle.std.proofs.Common.{arith, rules, ◌≡◌, suc, ◌-◌, length, map, ap, Some, ◌∙◌}
-use Rattle.std.proofs.lemmas.List.{length-map}
-use Rattle.inline_uses.specs.TextMap.{entry_of}
+use Rattle.inline_uses.proofs.Names.{Some, ap, arith, entry_of, length, length-map, map, rules, suc, ◌-◌, ◌∙◌, ◌≡◌}
 use Rattle.inline_uses.proofs.Deleted.{LacksOne, last_renumbered, last_there, other_renumbered}
 use Rattle.inline_uses.proofs.text_map.rename_last.Given.{Over}
 use Rattle.inline_uses.proofs.text_map.rename_last.Goals.{After-len-last}

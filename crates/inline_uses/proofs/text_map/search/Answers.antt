@@ -1,12 +1,4 @@
-use Rattle.std.proofs.Common.{ℕ, List, map, Result, Ok, Err}
-use Rattle.std.specs.Result.{IfErr}
-use Rattle.std.proofs.lemmas.Result.{IfOk-weaker}
-use Rattle.std.specs.Map.{keys_of}
-use Rattle.inline_uses.specs.Index.{IsSpot, ids_in, index_of}
-use Rattle.inline_uses.specs.Symbols.{IsGap, text_at}
-use Rattle.inline_uses.specs.TextMap.{AreMapped, Entries, IsMissing}
-use Rattle.inline_uses.specs.declared.index.Index.{Index}
-use Rattle.inline_uses.specs.declared.index.Spot.{Spot}
+use Rattle.inline_uses.proofs.Names.{AreMapped, Entries, Err, IfErr, IfOk-weaker, Index, IsGap, IsMissing, IsSpot, List, Ok, Result, Spot, ids_in, index_of, keys_of, map, text_at, ℕ}
 use Rattle.inline_uses.proofs.Mapped.{found_entry, missing}
 use Rattle.inline_uses.proofs.text_map.search.Goals as goal
 

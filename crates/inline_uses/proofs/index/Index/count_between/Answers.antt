@@ -1,5 +1,4 @@
-use Rattle.std.proofs.Common.{arith, rules, ◌≡◌, ◌<◌, length, inr, refl, sym}
-use Rattle.inline_uses.specs.Index.{ids_of}
+use Rattle.inline_uses.proofs.Names.{arith, inr, refl, rules}
 use Rattle.inline_uses.proofs.Places.{counted_all, counted_more, counted_within, not_before}
 use Rattle.inline_uses.proofs.index.Index.count_between.Goals as goal
 

@@ -1,5 +1,4 @@
-use Rattle.std.proofs.Common.{arith, rules}
-use Rattle.inline_uses.specs.Index.{runs_of}
+use Rattle.inline_uses.proofs.Names.{arith, rules, runs_of}
 use Rattle.inline_uses.proofs.InRuns.{ids_at_is}
 use Rattle.inline_uses.proofs.Places.{last_end}
 use Rattle.inline_uses.proofs.index.Index.end.Goals as goal

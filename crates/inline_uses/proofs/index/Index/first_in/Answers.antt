@@ -1,6 +1,6 @@
-use Rattle.std.proofs.Common.{arith}
+use Rattle.inline_uses.proofs.Names.{arith}
 use Rattle.inline_uses.proofs.Places.{IsFirst, first_here, first_next, is_before, last_end, not_before, within_all}
-use Rattle.inline_uses.proofs.index.Index.first_in.Goals.{Then-spot-end-3, Else-spot-end-3, then-from-len, else-from-len+then-from-len-2}
+use Rattle.inline_uses.proofs.index.Index.first_in.Goals.{Else-spot-end-3, Then-spot-end-3, else-from-len+then-from-len-2, then-from-len}
 use Rattle.inline_uses.proofs.index.Index.first_in.Goals as goal
 
 pub returns-else-from-len-2-clause-none : goal.returns-else-from-len-2-clause-none
@@ -17,14 +17,11 @@ first c = elim c.if-from-len.branch [
       c.requires.firsts (omega arith) (omega arith))
 ]
 
-pub returns-then-spot-end-3-clause-at : goal.returns-then-spot-end-3-clause-at
-returns-then-spot-end-3-clause-at c = (first c).at
-
-pub returns-then-spot-end-3-clause-same : goal.returns-then-spot-end-3-clause-same
-returns-then-spot-end-3-clause-same c = (first c).same
-
-pub returns-then-spot-end-3-clause-before : goal.returns-then-spot-end-3-clause-before
-returns-then-spot-end-3-clause-before c = is_before _ _ _ (first c).at c.if-spot-end-3.either
+pub returns-then-spot-end-3 : goal.returns-then-spot-end-3
+returns-then-spot-end-3 c =
+    let is = first c in
+    let before = is_before _ _ _ is.at c.if-spot-end-3.either in
+    record { at = is.at; same = is.same; before = before; none = tt }
 
 passed : (c : Else-spot-end-3) → IsFirst c.args.self.now c.args.from c.if-from-len.spot
 passed c = elim c.if-from-len.branch [

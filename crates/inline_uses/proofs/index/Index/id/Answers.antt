@@ -1,4 +1,4 @@
-use Rattle.inline_uses.specs.Index.{runs_of}
+use Rattle.inline_uses.proofs.Names.{runs_of}
 use Rattle.inline_uses.proofs.InRuns.{ids_at_is, in_flat}
 use Rattle.inline_uses.proofs.index.Index.id.Goals as goal
 

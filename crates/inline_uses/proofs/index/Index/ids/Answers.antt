@@ -1,6 +1,4 @@
-use Rattle.std.proofs.Common.{[], ◌∷◌, ◌++◌, take, refl, sym, ap, ◌∙◌}
-use Rattle.std.proofs.lemmas.List.{flat_map_more, take_all, take_more}
-use Rattle.inline_uses.specs.Index.{ids_of}
+use Rattle.inline_uses.proofs.Names.{[], ap, flat_map_more, ids_of, refl, sym, take, take_all, take_more, ◌++◌, ◌∙◌, ◌∷◌}
 use Rattle.inline_uses.proofs.index.Index.ids.Goals as goal
 
 pub loop-run-preserved : goal.loop-run-preserved

@@ -1,6 +1,4 @@
-use Rattle.std.proofs.Common.{◌≡◌, ◌++◌, take}
-use Rattle.std.specs.List.{flat_map}
-use Rattle.inline_uses.specs.Index.{ids_of}
+use Rattle.inline_uses.proofs.Names.{flat_map, ids_of, take, ◌++◌, ◌≡◌}
 use Rattle.inline_uses.proofs.index.Index.ids.Given as goal
 
 -- the ids of the runs so far are there

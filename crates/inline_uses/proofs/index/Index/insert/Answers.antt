@@ -1,5 +1,4 @@
-use Rattle.std.proofs.Common.{arith, sym}
-use Rattle.inline_uses.specs.Index.{runs_of}
+use Rattle.inline_uses.proofs.Names.{arith, runs_of, sym}
 use Rattle.inline_uses.proofs.InRuns.{ids_at_is}
 use Rattle.inline_uses.proofs.RunEdits.{all_at}
 use Rattle.inline_uses.proofs.RunSets.{IsShort}

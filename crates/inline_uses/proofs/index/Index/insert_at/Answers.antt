@@ -6,20 +6,10 @@ add-requires-clause-gap g c = gap_at (g.T.Texts.text_of c.args.texts.now) c.args
     c.args.spot c.args.id c.run_mut.result.now c.run_mut.ensures.value c.requires.spot
     c.requires.gap
 
-pub returns-clause-index : goal.returns-clause-index
-returns-clause-index g c = (added_at (g.T.Texts.text_of c.args.texts.now) c.args.self.now
-    c.args.spot c.args.id c.run_mut.result.now c.run_mut.ensures.value c.requires.spot
-    c.requires.gap c.requires.index c.requires.room c.add.new.self c.add.result c.add.ensures.run
-    c.add.ensures.ok c.add.ensures.err).0
-
-pub returns-clause-ok : goal.returns-clause-ok
-returns-clause-ok g c = (added_at (g.T.Texts.text_of c.args.texts.now) c.args.self.now
-    c.args.spot c.args.id c.run_mut.result.now c.run_mut.ensures.value c.requires.spot
-    c.requires.gap c.requires.index c.requires.room c.add.new.self c.add.result c.add.ensures.run
-    c.add.ensures.ok c.add.ensures.err).1
-
-pub returns-clause-err : goal.returns-clause-err
-returns-clause-err g c = (added_at (g.T.Texts.text_of c.args.texts.now) c.args.self.now
-    c.args.spot c.args.id c.run_mut.result.now c.run_mut.ensures.value c.requires.spot
-    c.requires.gap c.requires.index c.requires.room c.add.new.self c.add.result c.add.ensures.run
-    c.add.ensures.ok c.add.ensures.err).2
+pub returns : goal.returns
+returns g c =
+    let is = added_at (g.T.Texts.text_of c.args.texts.now) c.args.self.now c.args.spot c.args.id
+    c.run_mut.result.now c.run_mut.ensures.value c.requires.spot c.requires.gap c.requires.index
+    c.requires.room c.add.new.self c.add.result c.add.ensures.run c.add.ensures.ok
+    c.add.ensures.err in
+    record { index = is.0; ok = is.1; err = is.2 }

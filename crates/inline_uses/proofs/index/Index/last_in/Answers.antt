@@ -1,4 +1,4 @@
-use Rattle.std.proofs.Common.{arith}
+use Rattle.inline_uses.proofs.Names.{arith}
 use Rattle.inline_uses.proofs.Places.{is_before, not_before}
 use Rattle.inline_uses.proofs.index.Index.last_in.Goals as goal
 
@@ -8,5 +8,4 @@ returns-then-spot-from-3-clause-none c =
     omega (arith, below, c.in_ok-spot.ensures.same)
 
 pub returns-else-spot-from-3-clause-after : goal.returns-else-spot-from-3-clause-after
-returns-else-spot-from-3-clause-after c =
-    not_before _ _ _ c.requires.from c.if-spot-from-3.either
+returns-else-spot-from-3-clause-after c = not_before _ _ _ c.requires.from c.if-spot-from-3.either

@@ -1,6 +1,4 @@
-use Rattle.std.proofs.Common.{rules, map}
-use Rattle.std.proofs.lemmas.List.{length-map}
-use Rattle.inline_uses.specs.Index.{ids_of}
+use Rattle.inline_uses.proofs.Names.{ids_of, length-map, map, rules}
 use Rattle.inline_uses.proofs.InRuns.{have_length}
 use Rattle.inline_uses.proofs.IndexRuns.{gap_in_none}
 use Rattle.inline_uses.proofs.index.Index.locate.Goals as goal

@@ -1,5 +1,4 @@
-use Rattle.std.proofs.Common.{sym}
-use Rattle.inline_uses.specs.Index.{IsOrdered, ids_of, runs_of}
+use Rattle.inline_uses.proofs.Names.{IsOrdered, ids_of, runs_of, sym}
 use Rattle.inline_uses.proofs.InRuns.{run_within}
 use Rattle.inline_uses.proofs.RunEdits.{all_at}
 use Rattle.inline_uses.proofs.Spots.{found_spot, gap_spot}
@@ -14,22 +13,16 @@ pub search-requires : goal.search-requires
 search-requires g c = all_at (IsOrdered (g.T.Texts.text_of c.args.texts.now))
     (runs_of c.args.self.now) c.args.run c.run.result.now c.requires.index.runs (sym c.run.ensures)
 
-pub returns-in-Ok-clause-at : goal.returns-in-Ok-clause-at
-returns-in-Ok-clause-at g c = (found_spot (g.T.Texts.text_of c.args.texts.now)
-    c.args.text.now c.args.self.now _ c.run.result.now c.run.ensures
-    c.in-Ok.ensures.found).0
+pub returns-in-Ok : goal.returns-in-Ok
+returns-in-Ok g c =
+    let is = found_spot (g.T.Texts.text_of c.args.texts.now) c.args.text.now c.args.self.now
+    (record { run = c.args.run; at = c.in-Ok.at }) c.run.result.now c.run.ensures
+    c.in-Ok.ensures.found in
+    record { at = is.0; found = is.1; spot = tt; gap = tt }
 
-pub returns-in-Ok-clause-found : goal.returns-in-Ok-clause-found
-returns-in-Ok-clause-found g c = (found_spot (g.T.Texts.text_of c.args.texts.now)
-    c.args.text.now c.args.self.now (record { run = c.args.run; at = c.in-Ok.at })
-    c.run.result.now c.run.ensures c.in-Ok.ensures.found).1
-
-pub returns-in-Err-clause-spot : goal.returns-in-Err-clause-spot
-returns-in-Err-clause-spot g c = (gap_spot (g.T.Texts.text_of c.args.texts.now)
-    c.args.text.now c.args.self.now _ c.run.result.now c.run.ensures c.requires.index
-    c.requires.gap c.in-Err.ensures.gap).0
-
-pub returns-in-Err-clause-gap : goal.returns-in-Err-clause-gap
-returns-in-Err-clause-gap g c = (gap_spot (g.T.Texts.text_of c.args.texts.now)
-    c.args.text.now c.args.self.now (record { run = c.args.run; at = c.in-Err.at })
-    c.run.result.now c.run.ensures c.requires.index c.requires.gap c.in-Err.ensures.gap).1
+pub returns-in-Err : goal.returns-in-Err
+returns-in-Err g c =
+    let is = gap_spot (g.T.Texts.text_of c.args.texts.now) c.args.text.now c.args.self.now
+    (record { run = c.args.run; at = c.in-Err.at }) c.run.result.now c.run.ensures c.requires.index
+    c.requires.gap c.in-Err.ensures.gap in
+    record { at = tt; found = tt; spot = is.0; gap = is.1 }

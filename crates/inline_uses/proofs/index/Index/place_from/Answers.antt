@@ -1,4 +1,4 @@
-use Rattle.std.proofs.lemmas.List.{length-map}
+use Rattle.inline_uses.proofs.Names.{length-map}
 use Rattle.inline_uses.proofs.Search.{parted_at}
 use Rattle.inline_uses.proofs.index.Index.place_from.Goals as goal
 

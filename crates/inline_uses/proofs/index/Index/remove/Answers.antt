@@ -1,6 +1,4 @@
-use Rattle.std.proofs.Common.{arith, ◌≡◌, ◌-◌, length, suc, take, ap, subst, ◌∙◌}
-use Rattle.std.specs.List.{remove}
-use Rattle.inline_uses.specs.Index.{ids_at, ids_in, index_of, runs_of}
+use Rattle.inline_uses.proofs.Names.{ap, arith, ids_at, ids_in, index_of, length, remove, runs_of, subst, suc, take, ◌-◌, ◌∙◌, ◌≡◌}
 use Rattle.inline_uses.proofs.InRuns.{flat, ids_at_is}
 use Rattle.inline_uses.proofs.index.Index.remove.Goals as goal
 
@@ -17,9 +15,8 @@ returns-then-len-eq1-clause-ids g c =
     let same : suc (c.args.spot.run - 1) ≡ c.args.spot.run = omega arith in
     let within = rw (ids_at_is (runs_of self) c.args.spot.run _ c.run.ensures)
     at c.requires.at.within in
-    let place : length (flat (take (suc (c.args.spot.run - 1)) (runs_of self)))
-    ≡ index_of self c.args.spot = ap (λ k. length (flat (take k (runs_of self)))) same
-    ∙ omega (arith, within) in
+    let place : length (flat (take (suc (c.args.spot.run - 1)) (runs_of self))) ≡ index_of self
+    c.args.spot = ap (λ k. length (flat (take k (runs_of self)))) same ∙ omega (arith, within) in
     c.remove_run.ensures.ids ∙ ap (remove (ids_in self)) place
 
 pub remove_from_run-requires-clause-more : goal.remove_from_run-requires-clause-more

@@ -1,5 +1,4 @@
-use Rattle.std.proofs.Common.{arith, rules}
-use Rattle.inline_uses.specs.Index.{runs_of}
+use Rattle.inline_uses.proofs.Names.{arith, rules, runs_of}
 use Rattle.inline_uses.proofs.InRuns.{have_length, ids_at_is}
 use Rattle.inline_uses.proofs.RunRemovals.{next_in_order, some_left, with_less, with_next}
 use Rattle.inline_uses.proofs.Spots.{starts_with}

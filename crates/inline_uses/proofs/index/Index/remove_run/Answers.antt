@@ -1,5 +1,4 @@
-use Rattle.std.proofs.Common.{arith, ◌∷◌, ap, suc}
-use Rattle.inline_uses.specs.Index.{runs_of}
+use Rattle.inline_uses.proofs.Names.{ap, arith, runs_of, suc, ◌∷◌}
 use Rattle.inline_uses.proofs.InRuns.{have_length}
 use Rattle.inline_uses.proofs.RunRemovals.{flat_gone, run_there, without_run}
 use Rattle.inline_uses.proofs.index.Index.remove_run.Goals as goal

@@ -1,5 +1,4 @@
-use Rattle.std.proofs.Common.{arith, rules, ◌<◌, refl}
-use Rattle.std.proofs.lemmas.Option.{slice_get_read}
+use Rattle.inline_uses.proofs.Names.{arith, refl, rules, slice_get_read, ◌<◌}
 use Rattle.inline_uses.proofs.InRuns.{later_there}
 use Rattle.inline_uses.proofs.Spots.{with_later}
 use Rattle.inline_uses.proofs.index.Index.run_mut.Goals as goal

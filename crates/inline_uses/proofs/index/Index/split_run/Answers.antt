@@ -1,9 +1,7 @@
-use Rattle.std.proofs.Common.{arith}
-use Rattle.inline_uses.specs.Index.{runs_of, with_run}
+use Rattle.inline_uses.proofs.Names.{Run, arith, runs_of, with_run}
 use Rattle.inline_uses.proofs.InRuns.{IsReplaced, ids_at_is}
 use Rattle.inline_uses.proofs.RunSplits.{split_failed, split_made}
 use Rattle.inline_uses.proofs.Spots.{runs_with}
-use Rattle.inline_uses.specs.declared.index.run.Run.{Run}
 use Rattle.inline_uses.proofs.index.Index.split_run.Given.{Over}
 use Rattle.inline_uses.proofs.index.Index.split_run.Goals.{After-run_mut}
 use Rattle.inline_uses.proofs.index.Index.split_run.Goals as goal

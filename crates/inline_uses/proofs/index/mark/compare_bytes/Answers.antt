@@ -1,5 +1,4 @@
-use Rattle.std.proofs.Common.{rules, ◌≡◌, sym}
-use Rattle.inlinable_string.proofs.Compared.{ties_are_equal}
+use Rattle.inline_uses.proofs.Names.{rules, sym, ties_are_equal, ◌≡◌}
 use Rattle.inline_uses.proofs.index.mark.compare_bytes.Goals as goal
 
 pub returns-then-eq : goal.returns-then-eq

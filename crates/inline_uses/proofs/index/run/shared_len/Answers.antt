@@ -1,4 +1,4 @@
-use Rattle.std.proofs.Common.{arith, rules, ◌≢◌, ◌<◌, ◌≤◌, get_or, length}
+use Rattle.inline_uses.proofs.Names.{arith, get_or, length, rules, ◌<◌, ◌≢◌, ◌≤◌}
 use Rattle.inline_uses.proofs.RunFronts.{common_least, common_most, common_within}
 use Rattle.inline_uses.proofs.index.run.shared_len.Goals as goal
 

@@ -1,4 +1,4 @@
-use Rattle.std.proofs.Common.{◌≡◌, take}
+use Rattle.inline_uses.proofs.Names.{take, ◌≡◌}
 use Rattle.inline_uses.proofs.index.run.shared_len.Given as goal
 
 abbrev pub invariant-loop-at : goal.invariant-loop-at

@@ -1,4 +1,4 @@
-use Rattle.std.proofs.Common.{arith, rules, ◌≢◌, take}
+use Rattle.inline_uses.proofs.Names.{arith, rules, take, ◌≢◌}
 use Rattle.inline_uses.proofs.RunFronts.{common_less}
 use Rattle.inline_uses.proofs.index.run.shared_steps.Goals as goal
 

@@ -1,5 +1,4 @@
-use Rattle.std.proofs.Common.{◌≡◌, ◌+◌, ◌%◌, ◌<◌, ◌≤◌, min}
-use Rattle.inline_uses.specs.Index.{common}
+use Rattle.inline_uses.proofs.Names.{common, min, ◌%◌, ◌+◌, ◌<◌, ◌≡◌, ◌≤◌}
 use Rattle.inline_uses.proofs.index.run.shared_steps.Given as goal
 
 -- full steps, of which one more is not shared

@@ -1,7 +1,5 @@
-use Rattle.std.proofs.Common.{◌≡◌, ◌↔◌, Some, subst}
-use Rattle.std.specs.Prelude.{slice_get}
-use Rattle.inline_uses.specs.Index.{ids_in, index_of}
-use Rattle.inline_uses.specs.Symbols.{texts_of, with_ids}
+use Rattle.inline_uses.proofs.Names.{Some, ids_in, index_of, slice_get, subst, with_ids, ◌↔◌, ◌≡◌}
+use Rattle.inline_uses.specs.Symbols.{texts_of}
 use Rattle.inline_uses.proofs.Ids.{found_among, keys_are}
 use Rattle.inline_uses.proofs.Search.{none}
 use Rattle.inline_uses.proofs.symbols.Symbols.find.Goals as goal
@@ -17,5 +15,4 @@ returns-in-Err c = λ id.
     let ids = ids_in c.self.inside.order in
     rw (← c.self.view_is) (subst (λ o. (o ≡ Some id) ↔ (slice_get texts id ≡ Some c.args.text.now))
     (none c.args.text.now (with_ids texts ids) (index_of c.self.inside.order c.in-Err.field-0)
-    (rw (keys_are texts ids) c.in-Err.ensures.gap)).0
-    (c.self.invariant.0.found c.args.text.now id))
+    (rw (keys_are texts ids) c.in-Err.ensures.gap)).0 (c.self.invariant.0.found c.args.text.now id))

@@ -1,11 +1,5 @@
-use Rattle.std.proofs.Common.{rules, ◌≡◌, ℕ, ◌++◌, ◌∷◌, [], Some, length, map, refl, sym, ap, subst}
-use Rattle.std.proofs.Math.Seq.{take-append_seam}
-use Rattle.std.proofs.lemmas.List.{length-map, map-append, take-map}
-use Rattle.std.specs.List.{insert}
-use Rattle.std.specs.Map.{keys_of}
-use Rattle.std.specs.Prelude.{slice_get}
-use Rattle.inline_uses.specs.Index.{IsIndex, ids_in, index_of}
-use Rattle.inline_uses.specs.Symbols.{IsGap, bytes_at, text_at, texts_of, with_ids}
+use Rattle.inline_uses.proofs.Names.{IsGap, Some, [], ap, bytes_at, ids_in, index_of, insert, keys_of, length, length-map, map, map-append, refl, rules, slice_get, take-append_seam, take-map, with_ids, ℕ, ◌++◌, ◌∷◌, ◌≡◌}
+use Rattle.inline_uses.specs.Symbols.{texts_of}
 use Rattle.inline_uses.proofs.Ids.{no_id, found_among, keys_are, added, gap_with, index_with, index_without}
 use Rattle.inline_uses.proofs.Tables.{at_push, before_append}
 use Rattle.inline_uses.proofs.symbols.Symbols.intern.Goals.{In-Err, In_ok-push-in-Err}
@@ -30,8 +24,7 @@ returns-in-Ok-clause-new c = λ none. absurd (none c.in-Ok.id (returns-in-Ok-cla
 -- a text goes among the keys of the ids
 gap : (c : In-Err) → IsGap (keys_of (with_ids (texts_of c.self.inside) (ids_in
     c.self.inside.order))) c.args.text.now (index_of c.self.inside.order c.in-Err.spot)
-gap c = subst (λ keys. IsGap keys c.args.text.now (index_of c.self.inside.order c.in-Err.spot))
-    (sym (keys_are (texts_of c.self.inside) (ids_in c.self.inside.order))) c.in-Err.ensures.gap
+gap c = rw keys_are c.in-Err.ensures.gap
 
 -- a text that goes among the others has no id
 unknown : (c : In-Err) → (id : ℕ) → ¬ (slice_get c.args.self.now id ≡ Some c.args.text.now)
@@ -58,26 +51,16 @@ count c = rw (c.len-id.ensures, length-map) (search rules)
 
 pub insert-requires-clause-index : goal.insert-requires-clause-index
 insert-requires-clause-index c =
-    let pushed = (goal.at.insert-requires-clause-index c).In_ok-push-in-Err in
-    let moved : IsIndex (text_at (map bytes_at c.push.new.self.items)) c.self.inside.order
-    = subst (λ ts. IsIndex (text_at ts) c.self.inside.order) (sym (texts_are pushed))
-    (index_with (texts_of c.self.inside) c.args.text.now c.self.inside.order
-    c.self.invariant.0.within c.self.invariant.1) in
-    moved
+    index_with (texts_of c.self.inside) c.args.text.now
+    (texts_are (goal.at.insert-requires-clause-index c).In_ok-push-in-Err)
+    c.self.inside.order c.self.invariant.0.within c.self.invariant.1
 
 pub insert-requires-clause-gap : goal.insert-requires-clause-gap
 insert-requires-clause-gap c =
     let pushed = (goal.at.insert-requires-clause-gap c).In_ok-push-in-Err in
-    let ids = ids_in c.self.inside.order in
-    let at = index_of c.self.inside.order c.in-Err.spot in
-    let moved : IsGap (map (text_at (map bytes_at c.push.new.self.items)) ids)
-    (text_at (map bytes_at c.push.new.self.items) c.len-id.result) at
-    = subst (λ ts. IsGap (map (text_at ts) ids) (text_at ts c.len-id.result) at)
-    (sym (texts_are pushed)) (subst (λ n. IsGap (map (text_at (texts_of c.self.inside
-    ++ c.args.text.now ∷ [])) ids) (text_at (texts_of c.self.inside ++ c.args.text.now ∷ []) n) at)
-    (sym (count pushed)) (gap_with (texts_of c.self.inside) c.args.text.now ids at
-    c.self.invariant.0.within c.in-Err.ensures.gap)) in
-    moved
+    gap_with (texts_of c.self.inside) c.args.text.now (texts_are pushed)
+    (ids_in c.self.inside.order) (index_of c.self.inside.order c.in-Err.spot) (count pushed)
+    c.self.invariant.0.within c.in-Err.ensures.gap
 
 pub invariant_of-self-in-Ok-insert : goal.invariant_of-self-in-Ok-insert
 invariant_of-self-in-Ok-insert c =
@@ -98,12 +81,11 @@ invariant_of-self-in-Err-insert c =
     let texts : map bytes_at c.truncate.new.self.items ≡ old
     = rw (c.truncate.ensures.items, ← take-map, texts_are pushed, count pushed, take-append_seam)
     refl in
-    let ids : ids_in c.insert.new.self ≡ ids_in c.self.inside.order = c.in-Err-insert.ensures.err in
-    let grown : IsIndex (text_at (map bytes_at c.push.new.self.items)) c.insert.new.self
-    = c.in-Err-insert.ensures.index in (
+    let ids : ids_in c.insert.new.self ≡ ids_in c.self.inside.order
+    = c.in-Err-insert.ensures.err in (
       rw (texts, ids) c.self.invariant.0,
-      rw texts (index_without old c.args.text.now c.insert.new.self
-          (rw ids c.self.invariant.0.within) (rw (texts_are pushed) at grown)),
+      rw texts (index_without old c.args.text.now (texts_are pushed) c.insert.new.self
+          (rw ids c.self.invariant.0.within) c.in-Err-insert.ensures.index),
     )
 
 pub returns-in-Ok-insert-clause-id : goal.returns-in-Ok-insert-clause-id

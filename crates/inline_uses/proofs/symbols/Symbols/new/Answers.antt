@@ -1,5 +1,4 @@
-use Rattle.std.proofs.Common.{map}
-use Rattle.inline_uses.specs.Symbols.{bytes_at, text_at}
+use Rattle.inline_uses.proofs.Names.{bytes_at, map, text_at}
 use Rattle.inline_uses.proofs.Ids.{empty}
 use Rattle.inline_uses.proofs.symbols.Symbols.new.Goals as goal
 

@@ -1,6 +1,4 @@
-use Rattle.std.proofs.Common.{sym}
-use Rattle.inline_uses.specs.Index.{index_of}
-use Rattle.inline_uses.specs.TextMap.{by_number}
+use Rattle.inline_uses.proofs.Names.{by_number, index_of, sym}
 use Rattle.inline_uses.proofs.Deleted.{IsAtIndex, entries_left, mapped_left, others_left, value_left}
 use Rattle.inline_uses.proofs.Mapped.{missing}
 use Rattle.inline_uses.proofs.text_map.TextMap.delete.Given.{Over}

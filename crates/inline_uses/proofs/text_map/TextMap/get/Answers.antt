@@ -1,4 +1,4 @@
-use Rattle.std.proofs.Common.{sym}
+use Rattle.inline_uses.proofs.Names.{sym}
 use Rattle.inline_uses.proofs.Mapped.{value_read}
 use Rattle.inline_uses.proofs.text_map.TextMap.get.Goals as goal
 

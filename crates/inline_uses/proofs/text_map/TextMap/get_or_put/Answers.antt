@@ -1,6 +1,4 @@
-use Rattle.std.proofs.Common.{rules, ap, refl, ◌∙◌}
-use Rattle.std.specs.Option.{unwrap_or}
-use Rattle.inline_uses.specs.TextMap.{value_of, with_value}
+use Rattle.inline_uses.proofs.Names.{ap, refl, rules, unwrap_or, value_of, with_value, ◌∙◌}
 use Rattle.inline_uses.proofs.Mapped.{lent, mapped_valued, value_read}
 use Rattle.inline_uses.proofs.Pushed.{IsPut, last_lent, last_mapped, last_value}
 use Rattle.inline_uses.proofs.text_map.TextMap.get_or_put.Given.{Over}

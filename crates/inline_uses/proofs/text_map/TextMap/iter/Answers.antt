@@ -1,6 +1,4 @@
-use Rattle.std.proofs.Common.{arith, length, ap, ◌∙◌}
-use Rattle.std.proofs.lemmas.List.{length-map}
-use Rattle.inline_uses.specs.TextMap.{by_number, entry_of}
+use Rattle.inline_uses.proofs.Names.{ap, arith, by_number, entry_of, length, length-map, ◌∙◌}
 use Rattle.inline_uses.proofs.Mapped.{in_order, len_seen}
 use Rattle.inline_uses.proofs.Places.{all_between}
 use Rattle.inline_uses.proofs.text_map.TextMap.iter.Goals as goal

@@ -1,6 +1,4 @@
-use Rattle.std.proofs.Common.{rules, ◌≡◌, length, sym, ◌∙◌}
-use Rattle.std.proofs.lemmas.List.{length-map}
-use Rattle.inline_uses.specs.TextMap.{by_number}
+use Rattle.inline_uses.proofs.Names.{by_number, length, length-map, rules, sym, ◌∙◌, ◌≡◌}
 use Rattle.inline_uses.proofs.Mapped.{in_order, len_seen}
 use Rattle.inline_uses.proofs.text_map.TextMap.len.Goals as goal
 

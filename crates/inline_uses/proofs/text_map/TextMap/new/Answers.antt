@@ -1,7 +1,4 @@
-use Rattle.std.proofs.Common.{map}
-use Rattle.std.specs.Map.{keys_of}
-use Rattle.inline_uses.specs.Symbols.{text_at}
-use Rattle.inline_uses.specs.TextMap.{entry_of}
+use Rattle.inline_uses.proofs.Names.{entry_of, keys_of, map, text_at}
 use Rattle.inline_uses.proofs.Numbered.{no_numbers}
 use Rattle.inline_uses.proofs.text_map.TextMap.new.Goals as goal
 

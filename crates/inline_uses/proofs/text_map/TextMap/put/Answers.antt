@@ -1,5 +1,4 @@
 use Rattle.inline_uses.proofs.Mapped.{entries_valued, mapped_valued, value_read}
-use Rattle.inline_uses.proofs.text_map.TextMap.put.Goals.{In-Err}
 use Rattle.inline_uses.proofs.text_map.TextMap.put.Goals as goal
 
 pub invariant_of-self : goal.invariant_of-self

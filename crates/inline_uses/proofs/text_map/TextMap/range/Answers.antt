@@ -1,6 +1,4 @@
-use Rattle.std.proofs.Common.{arith}
-use Rattle.std.proofs.lemmas.List.{length-drop, length-map, length-take}
-use Rattle.inline_uses.specs.TextMap.{by_number, entry_of}
+use Rattle.inline_uses.proofs.Names.{arith, by_number, entry_of, length-drop, length-map, length-take}
 use Rattle.inline_uses.proofs.Mapped.{in_order, len_seen}
 use Rattle.inline_uses.proofs.Places.{between}
 use Rattle.inline_uses.proofs.text_map.TextMap.range.Goals as goal

@@ -1,9 +1,4 @@
-use Rattle.std.proofs.Common.{arith, ◌≡◌, ℕ, List, map, sym, ap, ◌∙◌}
-use Rattle.std.proofs.lemmas.Grind.{common_steps}
-use Rattle.std.proofs.lemmas.Simd.{map-map}
-use Rattle.inlinable_string.specs.declared.inlinable_string.InlinableStringN.{InlinableStringN}
-use Rattle.inline_uses.specs.Symbols.{bytes_at, text_at}
-use Rattle.inline_uses.specs.TextMap.{entry_of}
+use Rattle.inline_uses.proofs.Names.{InlinableStringN, List, ap, arith, bytes_at, common_steps, entry_of, map, map-map, sym, text_at, ℕ, ◌∙◌, ◌≡◌}
 use Rattle.inline_uses.proofs.text_map.VecTuple2InlinableStringTexts.text.Goals as goal
 
 pub returns-in-Some : goal.returns-in-Some

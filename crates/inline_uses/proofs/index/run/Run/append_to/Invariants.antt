@@ -1,4 +1,4 @@
-use Rattle.std.proofs.Common.{◌≡◌, ◌++◌, map, take}
+use Rattle.inline_uses.proofs.Names.{map, take, ◌++◌, ◌≡◌}
 use Rattle.inline_uses.proofs.index.run.Run.append_to.Given as goal
 
 -- the ids of the marks so far are there

@@ -1,4 +1,4 @@
-use Rattle.std.proofs.Common.{arith, ◌∙◌}
+use Rattle.inline_uses.proofs.Names.{arith, ◌∙◌}
 use Rattle.inline_uses.proofs.RunEdits.{AreEnds, lengthened}
 use Rattle.inline_uses.proofs.RunFronts.{ends_share, longest_is}
 use Rattle.inline_uses.proofs.index.run.Run.lengthen_front.Given.{Over}
@@ -19,8 +19,7 @@ ends g c = record {
 }
 
 pub shared_len-front-requires : goal.shared_len-front-requires
-shared_len-front-requires g c =
-    ends_share c.args.self.now.front (ends g c) c.requires.marks
+shared_len-front-requires g c = ends_share c.args.self.now.front (ends g c) c.requires.marks
 
 pub mark_after-requires-clause-shared : goal.mark_after-requires-clause-shared
 mark_after-requires-clause-shared g c =

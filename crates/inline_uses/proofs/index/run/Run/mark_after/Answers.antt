@@ -1,5 +1,4 @@
-use Rattle.std.proofs.Common.{rules, ◌≡◌, drop, subst, ◌∙◌}
-use Rattle.std.specs.Int.{from_be_bytes, w64}
+use Rattle.inline_uses.proofs.Names.{drop, from_be_bytes, rules, subst, w64, ◌∙◌, ◌≡◌}
 use Rattle.inline_uses.proofs.IndexMarks.{AreBytes}
 use Rattle.inline_uses.proofs.Remarked.{marked_more}
 use Rattle.inline_uses.proofs.index.run.Run.mark_after.Goals as goal
@@ -11,6 +10,5 @@ loop-i-preserved g c =
     c.bits_after-bits.result c.args.self.now c.loop-i.self c.index.result.now (search rules)
     c.index.ensures
     (subst (λ bs. c.bits_after-bits.result ≡ from_be_bytes w64 (drop c.args.front bs)) read
-    c.bits_after-bits.ensures.value)
-    (subst AreBytes read c.bits_after-bits.ensures.bytes)
+    c.bits_after-bits.ensures.value) (subst AreBytes read c.bits_after-bits.ensures.bytes)
     c.requires.shared c.loop-i.invariant

@@ -1,4 +1,4 @@
-use Rattle.std.proofs.Common.{refl}
+use Rattle.inline_uses.proofs.Names.{refl}
 use Rattle.inline_uses.proofs.RunRemovals.{run_less}
 use Rattle.inline_uses.proofs.Search.{removed_seen}
 use Rattle.inline_uses.proofs.index.run.Run.remove.Goals as goal

@@ -1,7 +1,4 @@
-use Rattle.std.proofs.Common.{ap}
-use Rattle.std.proofs.Math.Seq.{map-set_same}
-use Rattle.std.proofs.lemmas.List.{map-set}
-use Rattle.std.specs.Vec.{with_item}
+use Rattle.inline_uses.proofs.Names.{ap, map-set, map-set_same, with_item}
 use Rattle.inline_uses.proofs.SameTexts.{renamed_run}
 use Rattle.inline_uses.proofs.index.run.Run.rename.Goals as goal
 

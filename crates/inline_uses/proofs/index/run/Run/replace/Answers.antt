@@ -1,5 +1,4 @@
-use Rattle.std.proofs.Common.{refl, ◌∙◌}
-use Rattle.std.proofs.lemmas.List.{map-set}
+use Rattle.inline_uses.proofs.Names.{map-set, refl, ◌∙◌}
 use Rattle.inline_uses.proofs.RunGrown.{run_shared, run_with}
 use Rattle.inline_uses.proofs.RunSets.{all_set}
 use Rattle.inline_uses.proofs.index.run.Run.replace.Goals as goal

@@ -1,5 +1,4 @@
-use Rattle.std.proofs.Common.{arith, rules, ◌<◌, length, sym, ◌∙◌}
-use Rattle.std.proofs.lemmas.List.{length-map}
+use Rattle.inline_uses.proofs.Names.{arith, length, length-map, rules, sym, ◌<◌, ◌∙◌}
 use Rattle.inline_uses.proofs.IndexRuns.{by_text, found_at, texts_of}
 use Rattle.inline_uses.proofs.Search.{goes_after, goes_before}
 use Rattle.inline_uses.proofs.index.run.Run.search_few.Goals as goal

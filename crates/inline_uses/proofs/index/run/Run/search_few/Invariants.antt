@@ -1,4 +1,4 @@
-use Rattle.std.proofs.Common.{length}
+use Rattle.inline_uses.proofs.Names.{length}
 use Rattle.inline_uses.proofs.IndexRuns.{texts_of}
 use Rattle.inline_uses.proofs.Search.{GoesWithin}
 use Rattle.inline_uses.proofs.index.run.Run.search_few.Given as goal

@@ -1,5 +1,4 @@
-use Rattle.std.proofs.Common.{rules, ◌≡◌, length, sym, ◌∙◌}
-use Rattle.std.proofs.lemmas.List.{length-map}
+use Rattle.inline_uses.proofs.Names.{length, length-map, rules, sym, ◌∙◌, ◌≡◌}
 use Rattle.inline_uses.proofs.IndexMarks.{are_bytes}
 use Rattle.inline_uses.proofs.IndexRuns.{above_all, after_middle, before_middle, below_all, found_middle, texts_of}
 use Rattle.inline_uses.proofs.index.run.Run.search_many.Goals as goal
@@ -17,9 +16,8 @@ loop-start-preserved g c = before_middle _ c.args.text.now c.requires c.loop-sta
     at (sym c.compare.ensures ∙ c.in-Greater.is))
 
 pub returns-in-Equal-clause-found : goal.returns-in-Equal-clause-found
-returns-in-Equal-clause-found g c = found_middle _ c.args.text.now c.requires
-    c.loop-start.invariant (search rules) c.index.ensures c.bits_after-bits.result
-    (sym c.compare.ensures ∙ c.in-Equal.is)
+returns-in-Equal-clause-found g c = found_middle _ c.args.text.now c.requires c.loop-start.invariant
+    (search rules) c.index.ensures c.bits_after-bits.result (sym c.compare.ensures ∙ c.in-Equal.is)
 
 pub returns-in-Less-compare_front-clause-gap : goal.returns-in-Less-compare_front-clause-gap
 returns-in-Less-compare_front-clause-gap g c =

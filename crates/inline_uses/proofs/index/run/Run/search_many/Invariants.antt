@@ -1,4 +1,4 @@
-use Rattle.std.proofs.Common.{◌-◌}
+use Rattle.inline_uses.proofs.Names.{◌-◌}
 use Rattle.inline_uses.proofs.IndexRuns.{GoesIn}
 use Rattle.inline_uses.proofs.index.run.Run.search_many.Given as goal
 

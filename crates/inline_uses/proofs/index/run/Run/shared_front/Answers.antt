@@ -1,5 +1,4 @@
-use Rattle.std.proofs.Common.{◌≡◌, take, sym}
-use Rattle.std.specs.Cmp.Lexicographic.{bytes_decides}
+use Rattle.inline_uses.proofs.Names.{bytes_decides, sym, take, ◌≡◌}
 use Rattle.inline_uses.proofs.RunGrown.{first_id, shared_with_first}
 use Rattle.inline_uses.proofs.index.run.Run.shared_front.Goals as goal
 

@@ -1,5 +1,4 @@
-use Rattle.std.proofs.Common.{refl}
-use Rattle.std.proofs.lemmas.List.{drop-map, take-map}
+use Rattle.inline_uses.proofs.Names.{drop-map, refl, take-map}
 use Rattle.inline_uses.proofs.RunEdits.{lower_run, upper_run}
 use Rattle.inline_uses.proofs.index.run.Run.split.Goals as goal
 

@@ -1,6 +1,4 @@
-use Rattle.std.proofs.Common.{arith, ◌≡◌, [], ◌∷◌, ◌++◌, ◌∙◌, sym, map}
-use Rattle.std.proofs.lemmas.List.{length-append}
-use Rattle.inline_uses.specs.TextMap.{entries_in, entry_of}
+use Rattle.inline_uses.proofs.Names.{[], arith, entries_in, entry_of, length-append, map, sym, ◌++◌, ◌∙◌, ◌∷◌, ◌≡◌}
 use Rattle.inline_uses.proofs.Places.{last_entry}
 use Rattle.inline_uses.proofs.text_map.iter.IterDoubleEndedIterator.next_back.Given.{Over}
 use Rattle.inline_uses.proofs.text_map.iter.IterDoubleEndedIterator.next_back.Goals.{After-index-entry}

@@ -1,7 +1,4 @@
-use Rattle.std.proofs.Common.{arith, map}
-use Rattle.std.proofs.lemmas.List.{length-drop, length-take}
-use Rattle.inline_uses.specs.Index.{ids_in}
-use Rattle.inline_uses.specs.TextMap.{entry_of}
+use Rattle.inline_uses.proofs.Names.{arith, entry_of, ids_in, length-drop, length-take, map}
 use Rattle.inline_uses.proofs.Numbered.{count}
 use Rattle.inline_uses.proofs.Places.{within_all}
 use Rattle.inline_uses.proofs.text_map.iter.IterExactSizeIterator.len.Goals as goal

@@ -1,5 +1,4 @@
-use Rattle.std.proofs.Common.{arith, ◌≡◌, ◌∷◌, ◌∙◌, sym, ap, length, map}
-use Rattle.inline_uses.specs.TextMap.{entries_in, entry_of}
+use Rattle.inline_uses.proofs.Names.{ap, arith, entries_in, entry_of, length, map, sym, ◌∙◌, ◌∷◌, ◌≡◌}
 use Rattle.inline_uses.proofs.Places.{next_entry}
 use Rattle.inline_uses.proofs.text_map.iter.IterIterator.next.Given.{Over}
 use Rattle.inline_uses.proofs.text_map.iter.IterIterator.next.Goals.{After-index-entry}

@@ -20,8 +20,7 @@ loop-key-init c = (
     c.rev-key-items.ensures.source,
     c.iter.ensures.all,
     append-nil,
-  )
-      refl,
+  ) refl,
 )
 
 pub loop-key-preserved : goal.loop-key-preserved
@@ -38,8 +37,7 @@ loop-key-preserved c =
         c.as_str.ensures.bytes,
         c.in_ok-to_json.ensures,
         c.loop-key.invariant.1,
-      )
-          (put_first with_bytes rest left e done all last c.loop-key.invariant.2
+      ) (put_first with_bytes rest left e done all last c.loop-key.invariant.2
           (texts_in_order c.args.self.now c.iter.ensures.order)),
       left_parts with_bytes rest left e done all last c.loop-key.invariant.2,
     )
