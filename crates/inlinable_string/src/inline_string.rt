@@ -25,8 +25,6 @@ mod printed;
 mod replaced;
 mod retained;
 mod split;
-#[cfg(test)]
-mod tests;
 
 /// The capacity of an [`InlineString`] in bytes, as in the crate `inlinable_string`.
 pub const INLINE_STRING_CAPACITY: usize = 30;
