@@ -22,9 +22,7 @@ fn boxable(rt: &impl Abort, alloc: Global, room: usize, content: &str) -> Boxed 
 fn texts_of(rt: &impl Abort, alloc: Global, contents: [&str; 4]) -> Vec<Boxed> {
     let [string, inline, heap, user] = contents;
     let string = String::from_str(alloc, string).expect(rt, "memory");
-    let user = HeapText {
-        string: String::from_str(alloc, user).expect(rt, "memory"),
-    };
+    let user = HeapText(String::from_str(alloc, user).expect(rt, "memory"));
     let mut texts: Vec<Boxed> = Vec::new(alloc);
     for text in [
         Box::new(alloc, string).expect(rt, "memory"),
