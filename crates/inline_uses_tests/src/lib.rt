@@ -2,8 +2,6 @@
 #![tactic(auto)]
 
 #[cfg(test)]
-mod editor;
-#[cfg(test)]
 mod memory;
 #[cfg(test)]
 mod names;
@@ -11,10 +9,6 @@ mod names;
 mod refusals;
 #[cfg(test)]
 mod store;
-#[cfg(test)]
-mod symbols;
-#[cfg(test)]
-mod text_map;
 #[cfg(test)]
 mod tokens;
 #[cfg(test)]

@@ -3,86 +3,92 @@
 use crate::names::name;
 use inline_uses::store::Store;
 use inline_uses::symbols::Symbols;
+use inline_uses::text_map::TextMap;
 use std::alloc::{AllocError, Global};
 use std::process::Abort;
 use std::test::Fail;
 use test_support::{Hoard, NEEDS_THE_PROVED_BUILD};
 
-/// Gives ids to the texts of these numbers. The first that does not get its number.
+/// Gives ids to the texts of these numbers. The first that gets none.
 fn first_refused(symbols: &mut Symbols, from: usize, to: usize) -> Option<usize> {
     for number in from..to {
-        let id = symbols.intern(name(number).as_str());
-        if !id.is_ok_and(|id| id == number) {
+        if symbols.intern(name(number).as_str()).is_err() {
             return Some(number);
         }
     }
     None
 }
 
-/// Puts the empty text under the keys of these numbers. The first that is not put.
-fn first_not_put(store: &mut Store, from: usize, to: usize) -> Option<usize> {
+/// Puts the empty text under the keys of these numbers, and deletes the key that came `most` before
+/// each. The first that is not put.
+fn first_not_put(store: &mut Store, from: usize, to: usize, most: usize) -> Option<usize> {
     for number in from..to {
         if store.put(name(number).as_str(), "").is_err() {
             return Some(number);
         }
+        if most <= number {
+            store.delete(name(number - most).as_str());
+        }
     }
     None
 }
 
-/// How many texts, and keys, are many.
-const TEXTS: usize = 100_000;
-
-const KEYS: usize = 20_000;
-
 #[test]
 fn many_texts_get_ids(rt: HostRuntime) {
     let mut symbols = Symbols::new(rt.alloc());
-    let refused = first_refused(&mut symbols, 0, TEXTS);
+    let refused = first_refused(&mut symbols, 0, 100_000);
     assert!(rt; refused.is_none(), "{refused:?} refused");
-    assert!(rt; symbols.len() == TEXTS);
+}
+
+/// Each is below all before it.
+#[test]
+fn many_texts_that_fall_get_ids_within_the_time_of_a_test(rt: HostRuntime) -> Result<(), Fail> {
+    let mut symbols = Symbols::new(rt.alloc());
+    for turn in 0..20_000usize {
+        symbols.intern(name(19_999 - turn).as_str())?;
+    }
+    assert!(rt; symbols.len() == 20_000);
+    Ok(())
 }
 
 #[test]
 fn many_keys_are_put(rt: HostRuntime) {
     let mut store = Store::new(rt.alloc());
-    let refused = first_not_put(&mut store, 0, KEYS);
+    let refused = first_not_put(&mut store, 0, 20_000, usize::MAX);
     assert!(rt; refused.is_none(), "{refused:?} refused");
-    assert!(rt; store.len() == KEYS);
 }
 
 /// The length of a long text.
 const LONG: usize = 300;
 
 #[test]
-fn a_long_text_gets_an_id(rt: HostRuntime) -> Result<(), Fail> {
-    let (long, mut symbols) = ("a".repeat(rt.alloc(), LONG)?, Symbols::new(rt.alloc()));
-    let id = symbols.intern(long.as_str());
-    assert!(rt; id.is_ok_and(|id| id == 0), "refused");
-    assert!(rt; symbols.text(0) == Some(long.as_str()));
+fn a_long_text_gets_an_id_and_a_value(rt: HostRuntime) -> Result<(), Fail> {
+    let alloc = rt.alloc();
+    let (mut symbols, mut map) = (Symbols::new(alloc), TextMap::new(alloc));
+    let long = "a".repeat(alloc, LONG)?;
+    let are_put = [symbols.intern(&long).is_ok(), map.put(&long, 0).is_ok()];
+    assert!(rt; are_put == [true; 2], "{are_put:?} refused");
     Ok(())
 }
 
 #[test]
 fn a_long_value_is_put_under_a_long_key(rt: HostRuntime) -> Result<(), Fail> {
     let (long, mut store) = ("a".repeat(rt.alloc(), LONG)?, Store::new(rt.alloc()));
-    let is_put = store.put(long.as_str(), long.as_str()).is_ok();
+    let is_put = store.put(&long, &long).is_ok();
     assert!(rt; is_put, "refused");
-    assert!(rt; store.get(long.as_str()) == Some(long.as_str()));
     Ok(())
 }
 
 /// There is capacity for 1,024 texts, since it is doubled, and the last run has 232 ids and
 /// capacity for 256.
 #[test]
-fn room_is_doubled(rt: HostRuntime) -> Result<(), Fail> {
+fn room_is_doubled(rt: HostRuntime) {
     let mut symbols = Symbols::new(rt.alloc());
     assert!(rt; first_refused(&mut symbols, 0, 1000).is_none());
     let hoard = Hoard::take(rt.alloc()).expect(&rt, NEEDS_THE_PROVED_BUILD);
     let refused = first_refused(&mut symbols, 1000, 2000);
     drop(hoard);
     assert!(rt; refused == Some(1024), "the first refused is {refused:?}");
-    assert!(rt; first_refused(&mut symbols, 1024, 2000).is_none());
-    Ok(())
 }
 
 /// Whether a new text gets an id after others, while all memory but these bytes is held.
@@ -97,9 +103,9 @@ fn is_enough(
     let spare: Vec<u8> = Vec::with_capacity(alloc, bytes)?;
     let hoard = Hoard::take(alloc).expect(rt, NEEDS_THE_PROVED_BUILD);
     drop(spare);
-    let refused = first_refused(&mut symbols, texts, texts.saturating_add(1));
+    let is_enough = symbols.intern("new").is_ok();
     drop(hoard);
-    Ok(refused.is_none())
+    Ok(is_enough)
 }
 
 /// Room for four texts, and for an index of four.
@@ -118,51 +124,20 @@ fn some_kib_are_enough_to_split_a_run(rt: HostRuntime) -> Result<(), Fail> {
     Ok(())
 }
 
-/// How many keys a queue has, and how many come first, and then while all memory is held.
-const QUEUE: usize = 100;
-
-const FIRST: usize = 1100;
-
-const LAST: usize = 10_100;
-
-/// Puts the keys of these numbers, and for each deletes the oldest. The first that is not put.
-fn first_not_queued(store: &mut Store, from: usize, to: usize) -> Option<usize> {
-    for number in from..to {
-        let is_put = store.put(name(number).as_str(), "").is_ok();
-        let oldest = name(number.saturating_sub(QUEUE));
-        if !is_put || !store.delete(oldest.as_str()) {
-            return Some(number);
-        }
-    }
-    None
-}
-
-/// A queue whose keys each were replaced a hundred times uses the room of those that left.
+/// A queue of 100 keys that each were replaced ten times uses the room of those that left, and
+/// keeps no memory for them: what it gives back is less than 64 KiB.
 #[test]
-fn a_queue_needs_no_more_memory(rt: HostRuntime) -> Result<(), Fail> {
-    let mut store = Store::new(rt.alloc());
-    assert!(rt; first_not_put(&mut store, 0, QUEUE).is_none());
-    assert!(rt; first_not_queued(&mut store, QUEUE, FIRST).is_none());
-    let hoard = Hoard::take(rt.alloc()).expect(&rt, NEEDS_THE_PROVED_BUILD);
-    let refused = first_not_queued(&mut store, FIRST, LAST);
-    drop(hoard);
-    assert!(rt; refused.is_none(), "{refused:?} refused");
-    assert!(rt; store.len() == QUEUE);
-    Ok(())
-}
-
-/// And it keeps no memory for them: what it gives back is less than 64 KiB.
-#[test]
-fn a_queue_keeps_little_memory(rt: HostRuntime) -> Result<(), Fail> {
-    let mut store = Store::new(rt.alloc());
-    assert!(rt; first_not_put(&mut store, 0, QUEUE).is_none());
-    assert!(rt; first_not_queued(&mut store, QUEUE, LAST).is_none());
-    let hoard = Hoard::take(rt.alloc()).expect(&rt, NEEDS_THE_PROVED_BUILD);
+fn a_queue_needs_no_more_memory(rt: HostRuntime) {
+    let alloc = rt.alloc();
+    let mut store = Store::new(alloc);
+    assert!(rt; first_not_put(&mut store, 0, 1100, 100).is_none());
+    let hoard = Hoard::take(alloc).expect(&rt, NEEDS_THE_PROVED_BUILD);
+    let refused = first_not_put(&mut store, 1100, 10_100, 100);
     drop(store);
-    let given_back: Result<Vec<u8>, _> = Vec::with_capacity(rt.alloc(), 65_536);
+    let given_back: Result<Vec<u8>, _> = Vec::with_capacity(alloc, 65_536);
     let is_little = given_back.is_err();
     drop(given_back);
     drop(hoard);
+    assert!(rt; refused.is_none(), "{refused:?} refused");
     assert!(rt; is_little, "more was kept");
-    Ok(())
 }

@@ -1,130 +1,102 @@
-//! Stores of keys and values, in memory and with all of it held.
-use inlinable_string::StringExt;
-use inline_uses::store::{Entry, Store};
-use std::alloc::AllocError;
+//! Stores as bytes, and what room their entries use where there is no memory.
+use crate::names::name;
+use inlinable_string::InlinableString;
+use inline_uses::store::Store;
+use inline_uses::store::json::{ReadError, copied};
+use inline_uses::text_map::TextMap;
+use std::alloc::{AllocError, Global};
+use std::process::Abort;
 use std::test::Fail;
 use test_support::letters::LETTERS_31;
 use test_support::{Hoard, NEEDS_THE_PROVED_BUILD};
 
-mod json;
-mod window;
+/// Keys with their values, and the JSON of the store that has them.
+const ENTRIES: &[(&str, &str)] = &[("é\"", "\n€"), ("", ""), (LETTERS_31, LETTERS_31)];
 
-/// What is put, in its order, and what a scan then finds.
-const PUT: &[(&str, &str)] = &[
-    ("b", "one"),
-    ("", "nothing"),
-    ("é", LETTERS_31),
-    (LETTERS_31, "long"),
-    ("b", "two"),
-    ("a", ""),
-    ("ab", "\"é\n"),
-];
+const JSON: &str =
+    r#"{"":"","aaaaaaaaaaaaaaaaaaaaaaaaaaaaaaa":"aaaaaaaaaaaaaaaaaaaaaaaaaaaaaaa","é\"":"\n€"}"#;
 
-const FOUND: &[(&str, &str)] = &[
-    ("", "nothing"),
-    ("a", ""),
-    (LETTERS_31, "long"),
-    ("ab", "\"é\n"),
-    ("b", "two"),
-    ("é", LETTERS_31),
-];
-
-// What looks at a store borrows it: a test that owns one is proved to drop it wherever it may end.
-
-/// Puts the values under their keys, in turn.
-pub fn put_all(store: &mut Store, entries: &[(&str, &str)]) -> Result<(), AllocError> {
-    for (key, value) in entries {
-        store.put(key, value)?;
+/// And so are those of the map that is read from them.
+#[test]
+fn a_store_and_its_copy_are_written_as_these_bytes(rt: HostRuntime) -> Result<(), Fail> {
+    for (entries, json) in [(&ENTRIES[..0], "{}"), (ENTRIES, JSON)] {
+        let mut store = Store::new(rt.alloc());
+        for (key, value) in entries {
+            store.put(key, value)?;
+        }
+        let bytes = copied(&store)?.to_bytes()?;
+        let map: TextMap<InlinableString> = TextMap::from_bytes(rt.alloc(), &bytes)?;
+        assert!(rt; bytes.as_slice() == json.as_bytes());
+        assert!(rt; map.to_bytes()?.as_slice() == json.as_bytes());
     }
     Ok(())
 }
 
-/// Whether each of these keys has its value, and there are no more.
-pub fn has_values(store: &Store, entries: &[(&str, &str)]) -> bool {
-    for (key, value) in entries {
-        if store.get(key) != Some(*value) {
-            return false;
-        }
-    }
-    store.len() == entries.len()
-}
-
-/// Whether these are the entries that were found, in this order and no more.
-fn are_found(found: &[Entry], entries: &[(&str, &str)]) -> bool {
-    for ((key_found, value_found), (key, value)) in found.iter().zip(entries) {
-        if key_found.as_str() != *key || value_found.as_str() != *value {
-            return false;
-        }
-    }
-    found.len() == entries.len()
-}
-
-#[test]
-fn entries_are_in_the_order_of_their_keys(rt: HostRuntime) -> Result<(), Fail> {
-    let mut store = Store::new(rt.alloc());
-    put_all(&mut store, PUT)?;
-    assert!(rt; has_values(&store, FOUND) && are_found(store.scan(), FOUND));
-    assert!(rt; are_found(store.range("a", "b"), &FOUND[1..4]));
-    assert!(rt; store.range("b", "a").is_empty());
-    let deleted = [store.delete(""), store.delete("")];
-    assert!(rt; deleted == [true, false] && has_values(&store, &FOUND[1..]));
-    Ok(())
-}
-
-/// More keys than a store of two has room for.
-const NEW: &[&str] = &[
-    "a", "b", "c", "d", "e", "f", "g", "h", "i", "j", "k", "l", "m", "n", "o", "p", "q", "r", "s",
+/// What is no JSON, or no object of strings.
+const NONE: &[&[u8]] = &[
+    b"[\"a\"]",
+    b"{\"a\":\"one\",\"b\":[]}",
+    b"{\"a\":\"one\"}x",
+    b"{\"a\":\"\xff\"}",
 ];
 
-/// 31 digits.
-const DIGITS_31: &str = "0123456789012345678901234567890";
-
-/// Whether a short value is put under a known key, a long value or a long new key is not, and a
-/// long key is looked up and deleted.
-fn answers_without_memory(store: &mut Store) -> [bool; 7] {
-    [
-        store.put("known", "new").is_ok(),
-        store.put(LETTERS_31, "short").is_ok(),
-        store.put("known", LETTERS_31).is_err(),
-        store.put(DIGITS_31, "short").is_err(),
-        store.get(LETTERS_31) == Some("short"),
-        store.delete(LETTERS_31),
-        store.get("known") == Some("new"),
-    ]
-}
-
-/// The first of these keys that is refused a value.
-fn first_refused<'a>(store: &mut Store, keys: &[&'a str]) -> Option<&'a str> {
-    for key in keys {
-        if store.put(key, "").is_err() {
-            return Some(*key);
-        }
-    }
-    None
-}
-
-/// Whether the key is not there, and can be put.
-fn is_put_anew(store: &mut Store, key: &str) -> Result<bool, AllocError> {
-    if store.get(key).is_some() {
-        return Ok(false);
-    }
-    store.put(key, "now")?;
-    Ok(store.get(key) == Some("now"))
+/// Whether neither a store nor a map is read, and not for lack of memory.
+fn is_no_store(alloc: Global, bytes: &[u8]) -> bool {
+    matches!(Store::from_bytes(alloc, bytes), Err(ReadError::NotAStore))
+        && matches!(TextMap::from_bytes(alloc, bytes), Err(ReadError::NotAStore))
 }
 
 #[test]
-fn refused_memory_changes_nothing(rt: HostRuntime) -> Result<(), Fail> {
-    let mut store = Store::new(rt.alloc());
-    put_all(&mut store, &[("known", "old"), (LETTERS_31, "long")])?;
-    let hoard = Hoard::take(rt.alloc()).expect(&rt, NEEDS_THE_PROVED_BUILD);
-    let answers = answers_without_memory(&mut store);
-    let refused = first_refused(&mut store, NEW);
+fn bytes_of_no_store_are_told_from_an_allocation_failure(rt: HostRuntime) {
+    for bytes in NONE {
+        assert!(rt; is_no_store(rt.alloc(), bytes));
+    }
+    for end in 0..JSON.len() {
+        assert!(rt; is_no_store(rt.alloc(), &JSON.as_bytes()[..end]));
+    }
+}
+
+/// At the front, in the middle and at the end: the first number of 20 that are deleted, each two
+/// more than the one before it, the first number of those that are put, and their step.
+const PLACES: &[(usize, usize, usize)] = &[(400, 300, 1), (480, 401, 2), (560, 600, 1)];
+
+/// Fills a store with the keys of each second number from 400 to 600, and while all memory is held
+/// deletes those of a place and puts others there. How many, until one is refused.
+fn put_without_memory(
+    rt: &impl Abort,
+    alloc: Global,
+    is_falling: bool,
+    &(old, new, step): &(usize, usize, usize),
+) -> Result<usize, AllocError> {
+    let mut store = Store::new(alloc);
+    for turn in 0..100usize {
+        let at = if is_falling { 99 - turn } else { turn };
+        store.put(name(400 + 2 * at).as_str(), "")?;
+    }
+    let hoard = Hoard::take(alloc).expect(rt, NEEDS_THE_PROVED_BUILD);
+    for turn in 0..20usize {
+        store.delete(name(old.saturating_add(2 * turn)).as_str());
+    }
+    let mut put = 0;
+    for turn in 0..100usize {
+        let key = name(new.saturating_add(step.saturating_mul(turn)));
+        if store.put(key.as_str(), "").is_err() {
+            break;
+        }
+        put = turn + 1;
+    }
     drop(hoard);
-    assert!(rt; answers == [true; 7], "{answers:?}");
-    assert!(rt; store.get("known") == Some("new"));
-    // The key that was refused is not there; once there is memory again it can be put.
-    let refused = refused.ok_or("none was refused")?;
-    let is_put = is_put_anew(&mut store, refused)?;
-    assert!(rt; is_put);
+    Ok(put)
+}
+
+/// There is room for 128, since it is doubled.
+#[test]
+fn without_memory_keys_take_what_room_there_is(rt: HostRuntime) -> Result<(), Fail> {
+    for is_falling in [false, true] {
+        for place in PLACES {
+            let put = put_without_memory(&rt, rt.alloc(), is_falling, place)?;
+            assert!(rt; put == 48, "{put} taken, {is_falling} {place:?}");
+        }
+    }
     Ok(())
 }
