@@ -131,8 +131,8 @@ impl<V: Drop> TextMap<V> {
     ghost use Rattle.std.specs.Option.{unwrap_or};
     ghost use Rattle.inline_uses.specs.Lending.{LendsValueIfOk};
 
-    /// Reserves memory for this many keys. Fails only if an allocation does; the map is unchanged in
-    /// either case.
+    /// Reserves memory for this many keys. Fails only if an allocation does; the map is unchanged
+    /// in either case.
     fn reserve(&mut self, count: usize) -> Result<(), AllocError>
         ensures { self.new ≡ self.old }
     {

@@ -19,7 +19,7 @@ enum TextsCall {
     ToBytes,
 }
 
-/// A map of texts, each under itself, and the JSON of one of two.
+/// A map of texts, each under itself, and the JSON of one of as many.
 #[derive(Drop)]
 struct Texts {
     map: TextMap<InlinableString>,
@@ -28,6 +28,8 @@ struct Texts {
 
 const OBJECT: &str =
     r#"{"aaaaaaaaaaaaaaaaaaaaaaaaaaaaaaa":"aaaaaaaaaaaaaaaaaaaaaaaaaaaaaaa","short":"short"}"#;
+
+const FIVE: &str = r#"{"a":"a","b":"b","c":"c","d":"d","e":"e"}"#;
 
 impl Call for TextsCall {
     type Subject = Texts;
@@ -38,7 +40,8 @@ impl Call for TextsCall {
             let text = start.text(turn);
             map.put(text.as_str(), InlinableString::from(alloc, text.as_str())?)?;
         }
-        let value = Value::from_slice(alloc, OBJECT.as_bytes()).map_err(|_| AllocError)?;
+        let object = if start.len() == 5 { FIVE } else { OBJECT };
+        let value = Value::from_slice(alloc, object.as_bytes()).map_err(|_| AllocError)?;
         Ok(Texts { map, value })
     }
 
@@ -55,8 +58,10 @@ impl Call for TextsCall {
     }
 }
 
-/// What the JSON value requests.
+/// What the JSON value requests, and that of five.
 const OF_VALUE: usize = 6;
+
+const OF_FIVE: usize = 12;
 
 /// The row of entries, and the long key and value. Two entries request as much, and marks.
 #[test]
@@ -68,6 +73,12 @@ fn store_from_map(rt: HostRuntime) -> Result<(), Fail> {
 #[test]
 fn from_json(rt: HostRuntime) -> Result<(), Fail> {
     assert_requests(&rt, Two, 4 + OF_VALUE, FromJson, 4)
+}
+
+/// Entries and marks, each once, where five puts would request each twice.
+#[test]
+fn from_json_of_five(rt: HostRuntime) -> Result<(), Fail> {
+    assert_requests(&rt, Rising(5), 4 + OF_FIVE, FromJson, 2)
 }
 
 /// What this requests is JSON's: a node of its map, the texts of the key and of the value, and room
