@@ -218,6 +218,7 @@ impl Run {
     }
 
     /// Returns how much of the front a text has too: all of it, or else full steps.
+    #[inline(always)]
     fn shared_front<T: Texts>(&self, texts: &T, text: &[u8]) -> usize
         ensures most { result ≤ self.now.front }
         ensures shared { IsShared result text.now (map (T.text_of texts.now) (ids_of self.now)) }
