@@ -19,7 +19,7 @@ enum TextsCall {
     ToBytes,
 }
 
-/// A map of texts, each under itself, and the JSON of one of as many.
+/// A map of texts, each under itself, and a JSON object of strings.
 #[derive(Drop)]
 struct Texts {
     map: TextMap<InlinableString>,
