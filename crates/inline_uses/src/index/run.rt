@@ -214,7 +214,11 @@ impl Run {
         ensures front { self.new.front ≡ self.old.front }
         ensures marks { self.new.marks.items ≡ insert self.old.marks.items at mark }
     {
-        let _ = self.marks.insert(at, mark);
+        // Those after it move as one block, which `Vec::insert` moves one after the other.
+        let len = self.marks.len();
+        let _ = self.marks.push(mark);
+        self.marks.copy_within(at..len, at + 1);
+        self.marks[at] = mark;
     }
 
     /// Returns how much of the front a text has too: all of it, or else full steps.
