@@ -64,7 +64,8 @@ HOSTILE = {'accepted': 1_200, **dict.fromkeys((
 WRONG_DEFINITIONS = {'inlinable_string': 160, 'inline_uses': 35, 'script_language': 87}
 
 # Edits in `wrong-clauses/`, by crate: just as many. Public functions of `callers` that promise something.
-WRONG_CLAUSES, CALLERS = {'inlinable_string': 5}, 109
+# READMEs whose first program is proved and run: just as many.
+WRONG_CLAUSES, CALLERS, PROGRAMS = {'inlinable_string': 5}, 109, 2
 
 # Lemmas, answers to goals and definitions, and paths and names in backticks that the documents cite.
 PROOFS, CITED = 1_300, 400
@@ -75,7 +76,7 @@ UNSAFE = {'library': 13, 'others': 3}
 # For `gate quick`: functions of the library that are proved, and by crate, tests that must pass without being
 # proved, and how many at most may say that they need the proved build.
 QUICK_PROVED = 14
-TRIED = {'inline_tests': (10, 3), 'inline_uses_tests': (58, 5)}
+TRIED = {'inline_tests': (10, 3), 'inline_uses_tests': (59, 5)}
 
 # Workloads of the bench, and on how many of them each type of text is run.
 BENCH_WORKLOADS = 82

@@ -11,6 +11,7 @@ ghost use Rattle.inline_uses.specs.Tokens.{AreTokens, Fails, HasNoClose, IsStop,
 
 mod ascii;
 mod letters;
+mod printed;
 
 use ascii::{ascii_len, kind_of_ascii};
 use inlinable_string::InlineStringN;

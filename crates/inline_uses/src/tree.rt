@@ -11,6 +11,8 @@ use inlinable_string::{InlinableString, InlineStringN, StringExt, StringMake};
 use std::alloc::{AllocError, Global};
 use std::collections::BTreeMap;
 use std::collections::btree_map::Entry;
+use std::error::Error;
+use std::fmt;
 use std::marker::Model;
 
 pub mod json;
@@ -41,6 +43,21 @@ pub enum Fault {
     TooDeep,
     /// An allocation failed.
     NoMemory,
+}
+
+impl Error for Fault {}
+
+impl fmt::Display for Fault {
+    fn fmt<W: fmt::Write>(&self, f: &mut fmt::Formatter<W>) -> fmt::Result {
+        f.write_str(match self {
+            Fault::LongKey => "a key has more than 16 bytes",
+            Fault::NoNode => "there is no such node",
+            Fault::Taken => "the place has a node with this key",
+            Fault::NotObject => "a value of the JSON is not an object",
+            Fault::TooDeep => "too many objects are nested in the JSON",
+            Fault::NoMemory => "there is no memory",
+        })
+    }
 }
 
 impl From<AllocError> for Fault {

@@ -6,6 +6,8 @@ mod memory;
 #[cfg(test)]
 mod names;
 #[cfg(test)]
+mod printed;
+#[cfg(test)]
 mod refusals;
 #[cfg(test)]
 mod store;

@@ -10,6 +10,8 @@ use super::Store;
 use inlinable_string::StringExt;
 use serde_json::{Map, Value, put};
 use std::alloc::{AllocError, Global};
+use std::error::Error;
+use std::fmt;
 
 /// Why bytes were not read as a store.
 #[derive(Clone, Copy, Debug, PartialEq, Eq)]
@@ -18,6 +20,17 @@ pub enum ReadError {
     NotAStore,
     /// They may be, and an allocation failed.
     NoMemory,
+}
+
+impl Error for ReadError {}
+
+impl fmt::Display for ReadError {
+    fn fmt<W: fmt::Write>(&self, f: &mut fmt::Formatter<W>) -> fmt::Result {
+        f.write_str(match self {
+            ReadError::NotAStore => "the bytes are not a JSON object of strings",
+            ReadError::NoMemory => "there is no memory",
+        })
+    }
 }
 
 impl From<AllocError> for ReadError {
