@@ -7,11 +7,11 @@ import os
 import re
 from time import monotonic
 
-from floors import CALLERS, WRONG_CLAUSES
+from floors import CALLERS, PROGRAMS, WRONG_CLAUSES
 from gate_parts.edit_files import edits_of, texts_with
 from gate_parts.edits import are_refused, functions_of, sources
 from gate_parts.rooms import Room, copies, require_proof, said_of
-from gate_parts.tree import Failure, crate_folder, crates_with, in_tree, run_in, text_of, write_text
+from gate_parts.tree import Failure, crate_folder, crates_with, in_tree, run_in, text_of, with_those_below, write_text
 
 OPTIONS, FOLDER = '--jobs', 'wrong-clauses'
 CRATE, PROGRAM = 'callers', 'inline_script'
@@ -33,17 +33,29 @@ def require_callers():
     print(f'{CRATE}: {count} public functions with an `ensures`, and no proof', flush=True)
 
 
-def require_first_program(top, library):
-    """The first program of the README is proved in a new crate, and prints what the README says."""
-    readme, folder = text_of(in_tree('README.md')), crate_folder('pasted', top)
+def programs(library):
+    """By the path of each README that has a program: the crate that is made of it, and what that uses."""
+    found = {'README.md': ('pasted', [library])}
+    for crate in sorted(os.listdir(in_tree('crates'))):
+        path = os.path.join('crates', crate, 'README.md')
+        if os.path.exists(in_tree(path)) and FIRST.search(text_of(in_tree(path))):
+            found[path] = f'pasted_{crate}', sorted(with_those_below([crate]))
+    if len(found) != PROGRAMS:
+        raise Failure(f'{len(found)} READMEs have a program, and {PROGRAMS} must have one')
+    return found
+
+
+def require_program(top, path, crate, uses):
+    """The first program of a README is proved in a new crate, and prints what the README says."""
+    readme, folder, crates = text_of(in_tree(path)), crate_folder(crate, top), os.path.join(top, 'crates.txt')
     os.makedirs(os.path.join(folder, 'src'))
     write_text(os.path.join(folder, 'src', 'main.rt'), FIRST.search(readme)[1])
-    write_text(os.path.join(top, 'crates.txt'), text_of(in_tree('crates.txt')) + f'pasted: {library}\n')
+    write_text(crates, f'{text_of(crates)}{crate}: {" ".join(uses)}\n')
     said, status = run_in(folder, 'rt', 'run')
     printed = said.splitlines()[-1]
     if status or f'It prints `{printed}`' not in readme:
-        raise Failure(f'the first program of the README does not run as it says:\n{said}')
-    print(f'the first program of the README prints {printed}', flush=True)
+        raise Failure(f'the first program of {path} does not run as it says:\n{said}')
+    print(f'the first program of {path} prints {printed}', flush=True)
 
 
 def require_trusted():
@@ -58,10 +70,11 @@ def require_trusted():
 
 def are_needed(library, edits, jobs):
     """Whether the named callers are refused over the library with its weaker contracts, still proved."""
-    functions, start = functions_of(edits), monotonic()
-    with copies([library, CRATE], 1) as (top,):
+    functions, start, pasted = functions_of(edits), monotonic(), programs(library)
+    with copies({CRATE, *(crate for _, uses in pasted.values() for crate in uses)}, 1) as (top,):
         require_proof(top, CRATE, jobs, functions)
-        require_first_program(top, library)
+        for path, (crate, uses) in pasted.items():
+            require_program(top, path, crate, uses)
         with Room(top, library) as room:
             room.write(texts_with(crate_folder(library), edits))
             require_proof(top, library, jobs)

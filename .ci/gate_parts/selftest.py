@@ -15,6 +15,7 @@ from gate_parts.tree import in_tree, run_in, text_of, write_text
 FLOORS = '''
 EDITS, MUST_FAIL, WRONG_DEFINITIONS, WRONG_CLAUSES = {'toy': 1}, {'toy': 1}, {'toy': 1}, {'toy': 1}
 CALLERS = 1
+PROGRAMS = 1
 REFUSALS, WRONG_BODIES, WRONG_BODIES_PROVED = {'toy': (2, 3)}, {'toy': 2}, {'toy': 1}
 BENCH_WORKLOADS, BENCH_TEXTS = 1, {'One': 1, 'Two': 1}
 GROWTH = {'jobs toy': 30_000, 'word_index': 4_000}
@@ -192,6 +193,7 @@ BROKEN = (
     ('callers', 'call: returns-clause-value is not refused', {'REFUSED': ''}),
     ('callers', 'toy is not proved as it is', {'REFUSED': 'toy/one'}),
     ('callers', '1 public functions', '.ci/floors.py', 'CALLERS = 1\n', 'CALLERS = 2\n'),
+    ('callers', '1 READMEs have a program', '.ci/floors.py', 'PROGRAMS = 1', 'PROGRAMS = 2'),
     ('callers', 'has 1 edits in wrong-clauses', '.ci/floors.py', '1}\nCALLERS', '2}\nCALLERS'),
     # (the folder stays)
     ('callers', 'does not run as it says', 'README.md', 'main: proved', 'main: not proved'),
