@@ -5,15 +5,16 @@ counts, with the reason.
 """
 
 # Rows of all files of `crates/inline_vectors/data/`: just as many.
-ROWS = 606
+ROWS = 751
 
 # Edits in `must-fail-together/` and in `must-fail/`, by crate: just as many.
 MUST_FAIL = {'inlinable_string': 16}
 EDITS = {'inlinable_string': 209, 'inline_uses': 201, 'script_language': 32, 'word_index': 4}
 
-# By crate: the last request for memory of those that fail one after the other, and how often a test met one.
+# By crate: the last request for memory of those that fail one after the other, and how often a test met one;
+# of `inline_vectors` how many rows and scripts state requests, and how many of these were refused.
 # And how many requests each test of a crate makes before the first that fails.
-REFUSALS = {'inline_refusals': (7, 193), 'inline_uses_tests': (29, 48)}
+REFUSALS = {'inline_refusals': (7, 193), 'inline_vectors': (154, 164), 'inline_uses_tests': (29, 48)}
 PREPARED = {'inline_uses_tests': 24}
 
 # Edits in `wrong-bodies/` and `wrong-bodies-proved/`, by crate: just as many.

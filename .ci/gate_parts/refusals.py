@@ -6,7 +6,8 @@ more of each test is its last. A test must say `one refused` where one of its re
 it has unseen ones, `last refused` at the next, and `none refused` after it. So a call that allocates where it need
 not is found, even if it does without where that fails. Each allocation is one build of a crate's tests. So that few are
 needed where a call comes after many requests, each test of a crate may make a fixed number before it, which floors.py has; of these
-none fails. Without CRATE the wrong bodies of `wrong-bodies/` and `wrong-bodies-proved/` are tried too, as docs/TESTING.md
+none fails. Rows of `inline_vectors` that state requests are played by its program, in two builds (`stated_rows.py`).
+Without CRATE the wrong bodies of `wrong-bodies/` and `wrong-bodies-proved/` are tried too, as docs/TESTING.md
 says.
 """
 import os
@@ -16,6 +17,7 @@ from glob import glob
 from floors import PREPARED, REFUSALS, WRONG_BODIES, WRONG_BODIES_PROVED
 from gate_parts.edit_files import edits_of, read_edits, texts_with
 from gate_parts.rooms import Room, copies, require_proof
+from gate_parts.stated_rows import CRATE, rows_are_swept, wrong_rows
 from gate_parts.tree import PROCESSORS, crate_folder, crates_with, run_in, too_few
 
 OPTIONS, FOLDER, PROVED = 'crates', 'wrong-bodies', 'wrong-bodies-proved'
@@ -83,7 +85,10 @@ def is_swept(crate):
 
 
 def tried(top, crate):
-    """What the tests of a crate print where an allocation fails, and by name that of those that go wrong."""
+    """What the tests of a crate print where an allocation fails, and by name that of those that go wrong; of
+    the program of rows, what its rows print."""
+    if crate == CRATE:
+        return wrong_rows(top)
     request = PREPARED[crate] + REQUEST_OF_A_CALL if crate in PREPARED else REQUEST
     said = run_in(crate_folder(crate, top), 'rt', 'try', '--test', '--fail-alloc', str(request))[0]
     return said, {name: printed for name, how, printed in TEST.findall(said)
@@ -133,4 +138,5 @@ def bodies_are_refused():
 
 
 def main(given):
-    return all([*map(is_swept, given.crates or REFUSALS), bool(given.crates) or bodies_are_refused()])
+    sweeps = [rows_are_swept() if crate == CRATE else is_swept(crate) for crate in given.crates or REFUSALS]
+    return all([*sweeps, bool(given.crates) or bodies_are_refused()])

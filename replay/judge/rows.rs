@@ -40,7 +40,8 @@ fn played(row: &[Token], name: &str, room: Option<usize>) -> Result<Vec<(String,
         };
         let call = match call {
             [Word("held" | "block"), ..] => return Err("memory is held".into()),
-            [Word(word), given @ ..] => Call::of(word, given),
+            // (how many requests a call makes is not looked at)
+            [Word("requests"), Number(_), Word(word), given @ ..] | [Word(word), given @ ..] => Call::of(word, given),
             _ => return Err(NO_ROW.into()),
         };
         let before = (seen(&*text), text.storage());

@@ -1,7 +1,10 @@
 //! Files of rows.
 
 use crate::play::each::{Wronged, wrong_rows};
+use crate::play::refused::row_after;
 use crate::row::rows_of;
+use crate::scripts::{script_after, words_after};
+use std::env::Env;
 use std::rt::Files;
 use std::{fs, io};
 
@@ -37,6 +40,33 @@ pub fn play_files<R: Files + Print + AllocGlobal>(rt: &R, files: &[String]) -> i
         outcome = outcome.and(play_file(rt, file.as_str())?);
     }
     Ok(outcome)
+}
+
+/// Plays the row or the script of a file, or reads the program's words, after this number of other
+/// requests for memory, and prints what came of it. Whatever runs the program refuses one request.
+pub fn play_refused<R: Env + Files + Print + AllocGlobal>(
+    rt: &R,
+    file: &str,
+    way: &str,
+    before: &str,
+) -> io::Result<Outcome> {
+    let alloc = rt.alloc();
+    let before: usize = before.parse().ok().ok_or(io::ErrorKind::InvalidInput)?;
+    let content = fs::read_to_string(rt, file)?;
+    let (line, is_granted) = match (way, content.strip_prefix("script ")) {
+        ("words", _) => words_after(rt, before)?,
+        (_, Some(script)) => {
+            let ending = script_after(alloc, script.trim_end(), before)?;
+            ending.ok_or(io::ErrorKind::InvalidData)?
+        }
+        _ => match row_after(alloc, content.as_str(), way, before) {
+            Ok(ending) => ending,
+            Err(fault) => (format!(in alloc; "{fault}")?, false),
+        },
+    };
+    let next = if is_granted { "granted" } else { "refused" };
+    println!(rt; "{line}, and the next request {next}")?;
+    Ok(Outcome::Right)
 }
 
 /// Plays each row of a file, and prints those that are wrong and how many there are.

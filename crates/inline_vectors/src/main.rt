@@ -1,5 +1,6 @@
 //! Plays the files of rows that its arguments name, and prints each row that is wrong. With the
-//! argument `-` it answers the questions of standard input, a line each.
+//! argument `-` it answers the questions of standard input, a line each. With `refuse` it plays one
+//! row, in which an allocation may fail.
 //!
 //! The exit status is 0 if all rows were right, 1 if one was wrong, and 2 after a fault.
 #![tactic(auto)]
@@ -21,7 +22,7 @@ mod text;
 mod value;
 mod word;
 
-use files::{Outcome, play_files};
+use files::{Outcome, play_files, play_refused};
 use questions::answer_questions;
 use std::env::{self, Env};
 use std::io;
@@ -46,6 +47,9 @@ fn run_program<R: Env + Files + Input + Print + AllocGlobal>(rt: &R) -> io::Resu
     let words: Vec<String> = env::args(rt)?.skip(1).collect(rt.alloc())?;
     match words.as_slice() {
         [word] if word.as_str() == "-" => answer_questions(rt),
+        [word, file, way, before] if word.as_str() == "refuse" => {
+            play_refused(rt, file.as_str(), way.as_str(), before.as_str())
+        }
         files => play_files(rt, files),
     }
 }

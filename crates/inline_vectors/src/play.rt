@@ -10,6 +10,7 @@ pub mod fault;
 mod memory;
 mod playing;
 pub mod question;
+pub mod refused;
 mod run_of_all;
 mod start;
 mod wrong;

@@ -230,6 +230,9 @@ impl fmt::Display for Step {
             Memory::Held => f.write_str("held ")?,
             Memory::Block(size) => write!(f, "block {size} ")?,
         }
+        if let Some(requests) = self.requests {
+            write!(f, "requests {requests} ")?;
+        }
         write!(f, "{}", self.call)?;
         match &self.wanted {
             Some(wanted) => write!(f, "{wanted}"),

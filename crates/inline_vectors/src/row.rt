@@ -25,6 +25,8 @@ pub struct Row {
 pub struct Step {
     pub times: usize,
     pub memory: Memory,
+    /// How many requests for memory it makes, if the row says so.
+    pub requests: Option<usize>,
     pub call: Call,
     /// `None` in a question.
     pub wanted: Option<Wanted>,

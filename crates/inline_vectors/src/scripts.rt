@@ -2,13 +2,32 @@
 //! is the status that the program `inline_script` ends with, and what it prints.
 
 use crate::lex::RowReader;
+use crate::play::refused::{Ending, refused_before};
 use crate::print::{Quoted, QuotedBytes};
 use crate::value::{pieces, text};
+use script_language::ScriptFault;
+use script_language::arguments::words_of;
 use script_language::script::script;
 use std::alloc::{AllocError, Global};
+use std::env::Env;
+
+/// How many bytes a script prints at most while its requests are counted.
+const PRINTED: usize = 1_000;
 
 /// The line with its answer; `None` where it is no script.
 pub fn script_line(alloc: Global, line: &str) -> Result<Option<String>, AllocError> {
+    Ok(match script_after(alloc, line, 0)? {
+        Some((line, _)) => Some(line),
+        None => None,
+    })
+}
+
+/// The same with this number of other requests before those of the script.
+pub fn script_after(
+    alloc: Global,
+    line: &str,
+    before: usize,
+) -> Result<Option<Ending>, AllocError> {
     let Some((word, rest)) = line.split_once(' ') else {
         return Ok(None);
     };
@@ -19,10 +38,35 @@ pub fn script_line(alloc: Global, line: &str) -> Result<Option<String>, AllocErr
     if !reader.rest.is_empty() {
         return Ok(None);
     }
-    let (status, printed) = printed_by(alloc, word, input.as_slice())?;
+    let words = [String::from_str(alloc, word)?];
+    let mut out = Vec::with_capacity(alloc, PRINTED)?;
+    let mut lines = input.as_slice();
+    let refused = refused_before(alloc, before)?;
+    if refused.is_some() {
+        return Ok(refused);
+    }
+    let answer = script(alloc, &words, &mut lines, &mut out);
+    let is_granted = Box::new(alloc, 0u8).is_ok();
+    let status = printed_fault(alloc, answer, &mut out)?;
     let input = quoted(alloc, input.as_slice())?;
-    let printed = quoted(alloc, printed.as_slice())?;
-    Ok(Some(format!(in alloc; "script {word} {input} = {status}, {printed}")?))
+    let printed = quoted(alloc, out.as_slice())?;
+    let line = format!(in alloc; "script {word} {input} = {status}, {printed}")?;
+    Ok(Some((line, is_granted)))
+}
+
+/// How many words the program is given, read after this number of other requests.
+pub fn words_after<R: Env + AllocGlobal>(rt: &R, before: usize) -> Result<Ending, AllocError> {
+    let alloc = rt.alloc();
+    if let Some(ending) = refused_before(alloc, before)? {
+        return Ok(ending);
+    }
+    let words = words_of(rt);
+    let is_granted = Box::new(alloc, 0u8).is_ok();
+    let line = match words {
+        Ok(words) => format!(in alloc; "{} words", words.len())?,
+        Err(fault) => format!(in alloc; "{fault}")?,
+    };
+    Ok((line, is_granted))
 }
 
 /// The bytes of a script; `None` where it is neither a text nor bytes.
@@ -47,17 +91,16 @@ fn quoted(alloc: Global, bytes: &[u8]) -> Result<String, AllocError> {
     }
 }
 
-/// The status of a script, and what is printed.
-fn printed_by(alloc: Global, word: &str, input: &[u8]) -> Result<(u8, Vec<u8>), AllocError> {
-    let words = [String::from_str(alloc, word)?];
-    let mut out = Vec::new(alloc);
-    let mut lines = input;
-    match script(alloc, &words, &mut lines, &mut out) {
-        Ok(()) => Ok((0, out)),
-        Err(fault) => {
-            let fault_line = format!(in alloc; "{fault}\n")?;
-            out.extend_from_slice(fault_line.as_bytes())?;
-            Ok((fault.status(), out))
-        }
-    }
+/// The status of a script, of which a fault is printed.
+fn printed_fault(
+    alloc: Global,
+    answer: Result<(), ScriptFault>,
+    out: &mut Vec<u8>,
+) -> Result<u8, AllocError> {
+    let Err(fault) = answer else {
+        return Ok(0);
+    };
+    let line = format!(in alloc; "{fault}\n")?;
+    out.extend_from_slice(line.as_bytes())?;
+    Ok(fault.status())
 }

@@ -22,10 +22,15 @@ pub fn step_of(reader: &mut RowReader) -> Result<Step, Problem> {
     } else {
         Memory::Ample
     };
+    let requests = match memory {
+        Memory::Ample if reader.takes_word("requests") => Some(reader.number()?),
+        _ => None,
+    };
     let call = call_of(reader)?;
     Ok(Step {
         times,
         memory,
+        requests,
         call,
         wanted: None,
     })

@@ -93,9 +93,10 @@ impl<'a> Playing<'a> {
     }
 }
 
-/// How long a text of this row can be at most, or its JSON text, where memory is held for a step.
+/// How long a text of this row can be at most, or its JSON text, if memory is held for a step or
+/// its requests are counted.
 fn room_of(row: &Row) -> usize {
-    if row.steps.iter().all(|step| step.memory == Memory::Ample) {
+    if row.steps.iter().all(|step| step.memory == Memory::Ample && step.requests.is_none()) {
         return 0;
     }
     let mut room = row.start.text.len();

@@ -26,7 +26,10 @@ pub fn play_inlinable<const N: usize>(
         "default" => Ok(InlinableStringN::default(alloc)),
         "from" => InlinableStringN::from(alloc, string),
         "from_str" => InlinableStringN::from_str(alloc, string),
-        "from_string" => Ok(InlinableStringN::from_string(alloc, given.take_string())),
+        "from_string" => {
+            let made: InlinableStringN<N> = given.take_string().into();
+            Ok(made)
+        }
         "from_chars" => InlinableStringN::from_chars(alloc, string.chars()),
         "from_strs" => InlinableStringN::from_strs(alloc, given.strs.iter().copied()),
         "collect" if given.strs.is_empty() => string.chars().collect(alloc),

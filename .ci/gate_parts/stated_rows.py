@@ -1,0 +1,129 @@
+"""Rows that state how many requests for memory their calls make, played with each of these refused.
+
+A case is a row and the number of the request that is refused, of those of its calls; the last case of a row is that of
+the request that the program itself makes after them. In the row of a case the call that makes the request comes twice:
+first it fails, and then it succeeds. `rt try --fail-alloc` builds a program of which one request is refused,
+always the same, counted from the start. So the program makes further requests before the calls. By a first run the
+cases find how many are granted there; by a second, each makes as many as put the refused one where it must be.
+"""
+import os
+import re
+import subprocess
+from collections import defaultdict, namedtuple
+from functools import lru_cache
+from tempfile import TemporaryDirectory
+
+from floors import REFUSALS
+from gate_parts.refused_scripts import WORDS, answers
+from gate_parts.rows import CRATE, files_of
+from gate_parts.tree import TOP, Failure, crate_folder, too_few, write_text
+
+# The request of the whole program that is refused. A row is read, and its text made, with fewer.
+REQUEST = 1000
+QUOTED = r'''"(?:\\.|[^"\\])*"|'(?:\\[^']+|[^'\\])\''''
+ROW = re.compile(rf'''(\S+)((?:{QUOTED}|[^:"'])*): (.*)''')
+STEPS = re.compile(rf'''((?:{QUOTED}|[^;"'])+)(?:; |$)''')
+STEP = re.compile(rf'''requests (\d+) ((\w+)(?:{QUOTED}|[^="'])*) = .*''')
+COMMANDS = {*'push push_str insert insert_str truncate pop remove clear replace_bytes reserve reserve_exact '
+            'shrink_to_fit'.split()}
+# What a call answers if its request is refused, where that is not `no memory`; a shrink does without.
+REFUSED = {'write_char': 'write fault', 'write_str': 'write fault', 'write': 'write fault', 'shrink_to_fit': 'done'}
+# Rows that are wrong in one value each: a case of each must go wrong.
+SPOILED = (
+    """InlinableString "a" * 30: requests 0 push 'b' = done, "a" * 30 + "b" heap""",
+    """InlinableString "a" * 30: requests 2 push 'b' = done, "a" * 30 + "b" heap""",
+    """InlinableString "a": requests 1 push 'b' = done, "ab" inline""",
+    """InlinableString "a" * 30: requests 1 push 'b' = done, "a" * 30 + "c" heap""",
+    """InlinableString "a" * 30: requests 1 push 'b' = done, "a" * 30 + "b" inline""",
+    """InlinableString "a" * 29: requests 1 extend_chars "bc" = done, "a" * 29 + "bc" heap""")
+# A row, named by its type and its first call, and how it is played.
+Case = namedtuple('Case', 'name place way request is_last file wanted', defaults=['right'])
+
+
+def cases_of(place, row):
+    """The cases of a row, by calls, and if it has several and commands alone, also by runs."""
+    kind, start, rest = ROW.fullmatch(row).groups()
+    steps = STEPS.findall(rest)
+    stated = [STEP.fullmatch(step) for step in steps]
+    if None in stated:
+        raise Failure(f'{place}: each step of a row must state its requests, or none')
+    words = [step[3] for step in stated]
+    ways = ['calls', 'run', 'run_dyn'] if len(words) > 1 and COMMANDS.issuperset(words) else ['calls']
+    owners = [step for step in stated for _ in range(int(step[1]))]
+    for request, owner in enumerate([*owners, None], 1):
+        twice = [part for step in stated for part in [refused(step)] * (step is owner) + [step[0]]]
+        # (`run_dyn` is not played at each capacity)
+        for way in ways[:2 if '<' in kind else 3]:
+            yield Case(f'{kind}::{words[0]}', place, way, request, owner is None,
+                       f'{kind}{start}: {"; ".join(twice)}\n')
+
+
+def refused(step):
+    return f'requests {step[1]} {step[2]} = {REFUSED.get(step[3], "no memory")}, unchanged'
+
+
+@lru_cache(maxsize=None)
+def cases():
+    """All cases of all rows that state requests, of scripts, and of the words that the program is given."""
+    rows = [(f'{name}:{number}', row) for name, rows in files_of(crate_folder(CRATE)).items()
+            for number, row in rows if re.search(r'(:|;) requests \d', row)]
+    rows += [(row, row) for row in SPOILED]
+    scripts = [Case(f'script::{script.split()[0]}', script, 'script', request, request == len(all_of),
+                    f'script {script}\n', f'script {script} = {answer}')
+               for script, all_of in answers() for request, answer in enumerate(all_of, 1)]
+    words = [Case('words_of', 'words', 'words', request, request == len(WORDS), '', answer)
+             for request, answer in enumerate(WORDS, 1)]
+    return [*(case for place, row in rows for case in cases_of(place, row)), *scripts, *words]
+
+
+def played(top, befores):
+    """What the program prints of each case, after so many requests before its calls."""
+    with TemporaryDirectory() as folder:
+        for number, (case, before) in enumerate(zip(cases(), befores)):
+            write_text(os.path.join(folder, f'{number:04}'), case.file)
+            write_text(os.path.join(folder, f'{number:04}.args'), f'{case.way}\n{before}\n')
+        ran = subprocess.run(
+            ['rt', 'try', '--fail-alloc', str(REQUEST), '--cases', folder, '--', 'refuse', '{}'],
+            cwd=crate_folder(CRATE, top), stdin=subprocess.DEVNULL, stdout=subprocess.PIPE,
+            stderr=subprocess.PIPE, check=False)
+    said = re.findall('^== ([0-9]{4})\n(.*)$', ran.stdout.decode(errors='replace'), re.MULTILINE)
+    if [int(number) for number, _ in said] != list(range(len(cases()))):
+        raise Failure(f'{CRATE}: not each case has an answer: {ran.stdout[-2000:]}, {ran.stderr[-2000:]}')
+    return [answer for _, answer in said]
+
+
+@lru_cache(maxsize=None)
+def befores():
+    """How many requests come before the calls of each case, so that its own is the one that is refused."""
+    granted = [re.match(r'(\d+) granted', answer) or answer for answer in played(TOP, [REQUEST] * len(cases()))]
+    for case, count in zip(cases(), granted):
+        if isinstance(count, str) or int(count[1]) < case.request:
+            raise Failure(f'{case.place}: no request is refused before its calls: {count}')
+    return [int(count[1]) - case.request + 1 for case, count in zip(cases(), granted)]
+
+
+def faults_of(top):
+    """Each case that goes wrong, with what is printed of it."""
+    for case, answer in zip(cases(), played(top, befores())):
+        if answer != f'{case.wanted}, and the next request {"refused" if case.is_last else "granted"}':
+            yield case, f'{case.place}, {case.name} by {case.way}, request {case.request}: {answer}'
+
+
+def wrong_rows(top):
+    """What is printed of the rows that go wrong: together, and by their names."""
+    found = defaultdict(str)
+    for case, fault in ((case, fault) for case, fault in faults_of(top) if case.place not in SPOILED):
+        found[case.name] += fault + '\n'
+    return ''.join(found.values()), found
+
+
+def rows_are_swept():
+    """Refuses each request of each row in turn; whether all was well."""
+    found = list(faults_of(TOP))
+    faults = [fault for case, fault in found if case.place not in SPOILED]
+    faults += [f'this row is not found wrong: {row}' for row in SPOILED if row not in {case.place for case, _ in found}]
+    tried = [case for case in cases() if case.place not in SPOILED]
+    counts = {'rows': len({case.place for case in tried}), 'meetings': sum(not case.is_last for case in tried)}
+    faults += too_few(counts, dict(zip(counts, REFUSALS.get(CRATE, (1, 1)))))
+    print(f'{CRATE}: {counts["rows"]} rows, {counts["meetings"]} requests refused', *faults, sep='\n')
+    return not faults
