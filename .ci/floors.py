@@ -14,7 +14,7 @@ EDITS = {'inlinable_string': 209, 'inline_uses': 201, 'script_language': 32, 'wo
 # By crate: the last request for memory of those that fail one after the other, and how often a test met one;
 # of `inline_vectors` how many rows and scripts state requests, and how many of these were refused.
 # And how many requests each test of a crate makes before the first that fails.
-REFUSALS = {'inline_refusals': (7, 193), 'inline_vectors': (154, 164), 'inline_uses_tests': (29, 48)}
+REFUSALS = {'inline_vectors': (154, 164), 'inline_uses_tests': (29, 48)}
 PREPARED = {'inline_uses_tests': 24}
 
 # Edits in `wrong-bodies/` and `wrong-bodies-proved/`, by crate: just as many.
@@ -77,7 +77,7 @@ UNSAFE = {'library': 13, 'others': 3}
 # For `gate quick`: functions of the library that are proved, and by crate, tests that must pass without being
 # proved, and how many at most may say that they need the proved build.
 QUICK_PROVED = 14
-TRIED = {'inline_tests': (10, 3), 'inline_uses_tests': (59, 5)}
+TRIED = {'inline_tests': (13, 4), 'inline_uses_tests': (59, 5)}
 
 # Workloads of the bench, and on how many of them each type of text is run.
 BENCH_WORKLOADS = 82

@@ -1,6 +1,6 @@
 //! Boxed texts of unlike types, to each of which `run_each` gives the same commands.
 use Storage::{Heap, Inline};
-use inlinable_string::run::Command::{Pop, Push, PushStr, Remove, Truncate};
+use inlinable_string::run::Command::{Pop, Push, PushStr, Remove, ReserveExact, Truncate};
 use inlinable_string::run::Reply::{BadPlace, Char, Done, NoChar, NoMemory, NotUtf8};
 use inlinable_string::run::run_each;
 use inlinable_string::{BoxableString, InlinableString, Storage, StringExt, StringMake};
@@ -117,9 +117,14 @@ fn each_text_fails_to_allocate_by_itself(rt: HostRuntime) {
     for (replies, own) in replies.chunks(2).zip(&own) {
         assert!(&rt; replies == own.as_slice());
     }
-    let mut replies = [NotUtf8; 4];
-    run_each(&mut texts, &[Push('é')], &mut replies);
-    assert!(&rt; replies == [Done; 4]);
+    run_each(
+        &mut texts,
+        &[ReserveExact(usize::MAX), Push('é')],
+        &mut replies,
+    );
+    for replies in replies.chunks(2) {
+        assert!(&rt; replies == [NoMemory, Done].as_slice());
+    }
     let ends = [
         ("é", Heap),
         ("aaaaaaaaaaaaaaaaaaaaaaaaaaaaaé", Heap),

@@ -1,5 +1,5 @@
 //! Tests of what no row of `inline_vectors` can say: iterators, values that hold texts, texts used
-//! as a `str`, copies, and boxed texts of unlike types.
+//! as a `str`, copies, boxed texts of unlike types, and scripts whose reads or writes fail.
 #![tactic(auto)]
 
 #[cfg(test)]
@@ -14,3 +14,5 @@ mod joined;
 mod memory;
 #[cfg(test)]
 mod printed;
+#[cfg(test)]
+mod streams;

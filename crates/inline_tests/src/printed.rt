@@ -1,6 +1,7 @@
 //! A value that holds a text, printed into others.
-use inlinable_string::{InlinableString, InlineString, StringExt, StringMake};
+use inlinable_string::{InlinableString, InlineString, Storage, StringExt, StringMake};
 use std::fmt::{self, Display, Write};
+use test_support::{Hoard, NEEDS_THE_PROVED_BUILD};
 
 /// An entry of a list, with its text in it.
 #[derive(Drop)]
@@ -28,4 +29,15 @@ fn a_value_that_holds_a_text_is_written_into_others(rt: HostRuntime) {
     assert!(&rt; array.as_str() == "é     | 12; é     | 12; é");
     assert!(&rt; write!(text, "{entry}; {entry}; {entry}").is_ok());
     assert!(&rt; text.as_str() == "é     | 12; é     | 12; é     | 12");
+}
+
+/// What was written before stays.
+#[test]
+fn a_write_without_memory_fails_at_the_piece_that_is_not_inline(rt: HostRuntime) {
+    let mut text = InlinableString::new(rt.alloc());
+    let hoard = Hoard::take(rt.alloc()).expect(&rt, NEEDS_THE_PROVED_BUILD);
+    let is_written = write!(text, "{:>29}{}{}", "a", "b", "c").is_ok();
+    drop(hoard);
+    assert!(&rt; !is_written && text.storage() == Storage::Inline);
+    assert!(&rt; text.as_str() == "                            ab");
 }
