@@ -1,5 +1,6 @@
 -- That the long ranges of letters are among all.
-use Rattle.std.proofs.Common.{◌≡◌, ℕ, List, [], ◌∷◌, Bool, true, false, ◌&&◌, ◌||◌, leb, refl, arith}
+use Rattle.std.proofs.Common.{◌≡◌, ℕ, List, [], ◌∷◌, Bool, true, false, ◌&&◌, ◌||◌, leb, inl, inr, refl, arith}
+use Rattle.std.proofs.lemmas.Bool.{or_cases, or_left, or_right}
 use Rattle.std.proofs.lemmas.Bool.Decides.{nat_tests}
 use Rattle.std.specs.Int.{is_in_range}
 use Rattle.std.specs.Char.Unicode.Rows.{Range, in_ranges}
@@ -15,18 +16,15 @@ wider : (a b lo hi c : ℕ) → (leb a lo && leb hi b) ≡ true → is_in_range 
     → (leb a c && leb c b) ≡ true
 wider a b lo hi c ranges is = grind (arith, nat_tests)
 
-in_one_of : (x y z w : Bool) → (x || y) ≡ true → (x ≡ true → z ≡ true) → (y ≡ true → w ≡ true)
-    → (z || w) ≡ true
-in_one_of true y z w is first others = rw (first refl) refl
-in_one_of false y true w is first others = refl
-in_one_of false y false w is first others = others is
-
 within : (rs : List Range) (lo hi c : ℕ) → has_range lo hi rs ≡ true → is_in_range lo hi c ≡ true
     → in_ranges rs c ≡ true
 unfolding has_range in_ranges
 within [] lo hi c has is = cc
-within (r ∷ rs) lo hi c has is = in_one_of (leb r.0 lo && leb hi r.1) (has_range lo hi rs) _ _ has
-    (λ h. wider r.0 r.1 lo hi c h is) (λ h. within rs lo hi c h is)
+within (r ∷ rs) lo hi c has is =
+    elim (or_cases (leb r.0 lo && leb hi r.1) (has_range lo hi rs) has) [
+      | inl here ↦ or_left _ _ (wider r.0 r.1 lo hi c here is)
+      | inr later ↦ or_right _ _ (within rs lo hi c later is)
+    ]
 
 either : (x y z : Bool) → (x ≡ true → z ≡ true) → (y ≡ true → z ≡ true) → (x || y) ≡ true
     → z ≡ true

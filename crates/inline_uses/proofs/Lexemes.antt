@@ -1,18 +1,18 @@
 -- What tokens begin with, what is written between quotes, and where a source may be cut.
-use Rattle.std.proofs.Common.{◌≡◌, ◌≢◌, ℕ, ◌+◌, ◌-◌, ◌≤◌, ◌<◌, List, [], ◌∷◌, ◌++◌, length, take, drop, Bool, true, false, cond, ◌==◌, Option, Some, None, IfSome, refl, sym, ap, ◌∙◌, arith, append_assoc, length-append, lit<}
+use Rattle.std.proofs.Common.{◌≡◌, ◌≢◌, ℕ, ◌-◌, ◌≤◌, ◌<◌, List, [], ◌∷◌, ◌++◌, length, take, drop, Bool, true, false, cond, ◌==◌, Option, Some, None, IfSome, refl, sym, ap, ◌∙◌, arith, append_assoc, length-append, lit<}
 use Rattle.std.specs.Char.{encode_utf8}
 use Rattle.std.specs.Str.{chars, IsUtf8, IsCharBoundary}
 use Rattle.std.specs.Prelude.{slice_get}
 use Rattle.std.specs.Str.Pattern.{LacksTextAt}
 use Rattle.std.specs.List.{take_while}
 use Rattle.std.proofs.Math.Seq.{drop-append_seam, get_or-append_seam, take-append_seam}
-use Rattle.std.proofs.lemmas.List.Sums.{take_while-cons, sum_by-cons}
+use Rattle.std.proofs.lemmas.List.Sums.{take_while-cons}
 use Rattle.std.proofs.lemmas.Option.{same_Some}
 use Rattle.std.proofs.lemmas.Str.{encodes-chars, encodes-append, encodes_same, IsUtf8-take, IsUtf8-drop, IsUtf8-past_char, IsCharBoundary-at_seam, IsCharBoundary-before_ascii}
 use Rattle.inlinable_string.specs.Text.{bytes_of}
 use Rattle.inline_uses.specs.declared.tokens.Kind.{Kind}
 use Rattle.inline_uses.specs.declared.tokens.Kind.TheVariants.{Space, Word, Number, LineComment, BlockComment, Text, Mark}
-use Rattle.inline_uses.specs.Tokens.{kind_of, kind_at, continues, escape_of, with_char, unescaped_from, unescaped, HasNoClose, newlines, IsToken}
+use Rattle.inline_uses.specs.Tokens.{kind_of, kind_at, continues, escape_of, with_char, unescaped_from, unescaped, HasNoClose, IsToken}
 
 pub text_begins : (c : ℕ) (next : Option ℕ) → kind_of c next ≡ Text → c ≡ 34
 text_begins c None is = grind arith
@@ -40,25 +40,6 @@ pub mark_starts : (source rest : List ℕ) (c m : ℕ) → kind_at source ≡ So
     → source ≡ c ∷ rest → source ≡ m ∷ rest
 mark_starts source rest c m is whole =
     let same : c ≡ m = mark_begins c m (slice_get rest 0) (same_Some _ _ (rw whole at is)) in cc
-
--- the kind of a token goes on with the character that it begins with
-word_goes_on : (c : ℕ) (next : Option ℕ) → kind_of c next ≡ Word → continues Word c ≡ true
-word_goes_on c None is = grind arith
-word_goes_on c (Some d) is = grind arith
-
-space_goes_on : (c : ℕ) (next : Option ℕ) → kind_of c next ≡ Space → continues Space c ≡ true
-space_goes_on c None is = grind arith
-space_goes_on c (Some d) is = grind arith
-
-number_goes_on : (c : ℕ) (next : Option ℕ) → kind_of c next ≡ Number
-    → continues Number c ≡ true
-number_goes_on c None is = grind arith
-number_goes_on c (Some d) is = grind arith
-
-line_goes_on : (c : ℕ) (next : Option ℕ) → kind_of c next ≡ LineComment
-    → continues LineComment c ≡ true
-line_goes_on c None is = grind arith
-line_goes_on c (Some d) is = grind arith
 
 -- with more characters after the first
 more : (o : Option ℕ) (xs ys : Option (List ℕ)) (n : List ℕ)
@@ -180,60 +161,42 @@ none_before s text rest utf8 whole none front back is =
     ∙ drop-append_seam (bytes_of front) (42 ∷ 47 ∷ (bytes_of back ++ 47 ∷ rest)))
 
 pub some_here : (text rest : List ℕ) (c : ℕ) → text ≡ c ∷ rest → text ≢ []
-some_here text rest c is none = let e = sym is ∙ none in let bad : ⊥ = cc in absurd bad
+some_here text rest c is none = cc
 
-taken_some : (t : ℕ → Bool) (c : ℕ) (cs text : List ℕ) → t c ≡ true
-    → text ≡ take_while t (c ∷ cs) → text ≢ []
-taken_some t c cs text holds is none =
-    let e : c ∷ take_while t cs ≡ [] =
-    sym (take_while-cons t c cs ∙ ap (λ b. cond b (c ∷ take_while t cs) []) holds) ∙ sym is ∙ none
-    in
-    let bad : ⊥ = cc in absurd bad
+taken_some : (kind : Kind) (c : ℕ) (cs text : List ℕ) → continues kind c ≡ true
+    → text ≡ take_while (continues kind) (c ∷ cs) → text ≢ []
+taken_some kind c cs text holds is =
+    some_here text (take_while (continues kind) cs) c (is ∙ rw (take_while-cons, holds) refl)
 
-begun : (kind : Kind) (c : ℕ) (cs text word : List ℕ) → kind_of c (slice_get cs 0) ≡ kind
+begun : (kind : Kind) (c : ℕ) (next : Option ℕ) (cs text word : List ℕ) → kind_of c next ≡ kind
     → IsToken kind (c ∷ cs) text word → text ≢ []
-begun Space c cs text word k is =
-    taken_some (continues Space) c cs text (space_goes_on c (slice_get cs 0) k) is.0
-begun LineComment c cs text word k is =
-    taken_some (continues LineComment) c cs text (line_goes_on c (slice_get cs 0) k) is.0
-begun Word c cs text word k is =
-    taken_some (continues Word) c cs text (word_goes_on c (slice_get cs 0) k) is.0
-begun Number c cs text word k is =
-    taken_some (continues Number) c cs text (number_goes_on c (slice_get cs 0) k) is.0
-begun BlockComment c cs text word k is =
-    some_here text _ 47 is.1
-begun Text c cs text word k is = some_here text _ 34 is.1
-begun (Mark m) c cs text word k is = some_here text [] m is.0
+begun Space c None cs text word k is = taken_some Space c cs text (grind arith) is.0
+begun Space c (Some d) cs text word k is = taken_some Space c cs text (grind arith) is.0
+begun LineComment c None cs text word k is = taken_some LineComment c cs text (grind arith) is.0
+begun LineComment c (Some d) cs text word k is = taken_some LineComment c cs text (grind arith) is.0
+begun Word c None cs text word k is = taken_some Word c cs text (grind arith) is.0
+begun Word c (Some d) cs text word k is = taken_some Word c cs text (grind arith) is.0
+begun Number c None cs text word k is = taken_some Number c cs text (grind arith) is.0
+begun Number c (Some d) cs text word k is = taken_some Number c cs text (grind arith) is.0
+begun BlockComment c next cs text word k is = some_here text _ 47 is.1
+begun Text c next cs text word k is = some_here text _ 34 is.1
+begun (Mark m) c next cs text word k is = some_here text [] m is.0
 
 -- a token is not empty
 pub token_has_text : (kind : Kind) (source text word : List ℕ) → kind_at source ≡ Some kind
     → IsToken kind source text word → text ≢ []
-token_has_text kind [] text word k is = let bad : ⊥ = cc in absurd bad
+token_has_text kind [] text word k is = cc
 token_has_text kind (c ∷ cs) text word k is =
-    begun kind c cs text word (same_Some (kind_of c (slice_get cs 0)) kind k) is
+    begun kind c (slice_get cs 0) cs text word (same_Some _ _ k) is
 
 none_at : (source : List ℕ) → kind_at source ≡ None → source ≡ []
 none_at [] is = refl
-none_at (c ∷ source) is = let bad : ⊥ = cc in absurd bad
+none_at (c ∷ source) is = cc
 
 pub nothing_left : (source : List ℕ) → IsUtf8 source → kind_at (chars source) ≡ None
     → source ≡ []
 nothing_left source utf8 is =
     sym (encodes-chars source utf8) ∙ ap bytes_of (none_at (chars source) is)
-
--- a character more in a line, or a line more
-pub lines-cons : (line c : ℕ) (text : List ℕ)
-    → line + newlines (c ∷ text) ≡ cond (c == 10) (line + 1) line + newlines text
-lines-cons line c text =
-    let more = sum_by-cons (λ d. cond (d == 10) 1 0) c text in grind (arith, more)
-
-pub line_fits : (b : Bool) (line size more most : ℕ) → line + more < most → size < more
-    → cond b (line + 1) line + size < most
-line_fits b line size more most fits less = grind arith
-
-pub column_fits : (b : Bool) (column size more most : ℕ) → column + more < most → size < more
-    → cond b 1 (column + 1) + size < most
-column_fits b column size more most fits less = grind arith
 
 pub some_length : (xs : List ℕ) → xs ≢ [] → 0 < length xs
 some_length [] some = absurd (some refl)

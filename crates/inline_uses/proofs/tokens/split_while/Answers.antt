@@ -2,12 +2,13 @@ use Rattle.std.proofs.Common.{◌≡◌, ◌<◌, length, drop, get_or, sym, ap,
 use Rattle.std.specs.Str.{chars}
 use Rattle.std.proofs.lemmas.Bool.{ltb-true}
 use Rattle.std.proofs.lemmas.List.{get_or_default}
-use Rattle.inline_uses.proofs.Ascii.{place_after, ends_here, ends_later}
+use Rattle.inline_uses.specs.Tokens.{continues}
+use Rattle.inline_uses.proofs.Ascii.{cut_after, ends_here, ends_later}
 use Rattle.inline_uses.proofs.tokens.split_while.Goals as goal
 
 pub split_at-requires : goal.split_at-requires
 split_at-requires c =
-    place_after c.args.kind c.args.source.now _ c.utf8.source c.ascii_len-passed.ensures
+    cut_after (continues c.args.kind) c.args.source.now c.ascii_len-passed.ensures c.utf8.source
 
 pub returns-in-Some-clause-front : goal.returns-in-Some-clause-front
 returns-in-Some-clause-front c =
@@ -21,11 +22,11 @@ returns-in-Some-clause-front c =
     ∙ ap (λ l. get_or l 0 0) left ∙ get_or-drop n s 0 0 in
     let low = ltb-true c.in-Some.next.now 128 (sym c.is_ascii.ensures ∙ c.if-is_ascii.true) in
     ap chars c.split_at.ensures.front
-    ∙ ends_here c.args.kind s n c.utf8.source c.ascii_len-passed.ensures short
+    ∙ ends_here (continues c.args.kind) s c.ascii_len-passed.ensures c.utf8.source short
     (rw add-zero at (rw byte at low))
 
 pub returns-in_default-clause-front : goal.returns-in_default-clause-front
 returns-in_default-clause-front c =
     ap chars c.split_at-in_default.ensures.front
-    ∙ ends_later c.args.kind c.args.source.now _ c.len_while.result c.ascii_len-passed.ensures
+    ∙ ends_later (continues c.args.kind) c.args.source.now c.ascii_len-passed.ensures _
     (rw c.split_at.ensures.back at c.len_while.ensures.front)
