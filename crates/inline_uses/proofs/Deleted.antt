@@ -1,10 +1,10 @@
 -- A map of which an entry goes: the last one takes its place in the list, and its number.
 use Rattle.inline_uses.proofs.Names.{AllByRecursion, AreMapped, AreNumbers, AreOthers, Entries, Index, InlinableStringN, IsFound, IsGap, IsIndex, IsRenumbered, List, Some, ap, arith, entries_at, entry_of, get_or, ids_in, keys_of, length, length-map, map, refl, remove, set, slice_get, slice_get-map, subst, suc, swap_remove, sym, text_at, value_of, without, ℕ, ◌-◌, ◌<◌, ◌∙◌, ◌≡◌}
 use Rattle.inline_uses.proofs.Mapped.{found_entry, value_read}
-use Rattle.inline_uses.proofs.RunEdits.{all_at}
 use Rattle.inline_uses.proofs.SameTexts.{same_texts}
 use Rattle.inline_uses.proofs.Search.{removed_seen}
-use Rattle.inline_uses.proofs.Numbered.{differ, is_renamed, key_or, keys_at, none_renamed, not_among, numbers_renamed, one_index, others_of, place_of, renamed, renamed_seen, same_entries, seen, swapped_length, swapped_moves, swapped_seen, swapped_stays}
+use Rattle.inline_uses.proofs.Each.{all_at}
+use Rattle.inline_uses.proofs.Numbered.{is_renamed, key_or, keys_at, none_renamed, not_among, numbers_renamed, once, one_index, others_of, place_of, renamed, renamed_seen, same_entries, seen, swapped_length, swapped_moves, swapped_seen, swapped_stays}
 
 -- an index stays one where its ids are others for the same texts
 abbrev pub IsKept : Index → Index → Type 0
@@ -70,7 +70,7 @@ module _ {V : Type 0} {es : Entries V} {last id : ℕ} {order : Index}
           last_text in
           let here : slice_get (ids_in order) at ≡ Some last = rw same last_place.1 in
           renumbered after (ids ∙ is_renamed last id (ids_in order) at here
-          (differ text_of (ids_in order) at last here is.index.sorted)) kept
+          (once text_of (ids_in order) at last here is.index.sorted)) kept
 
 -- a number in an index is that of an element
 pub number_within : {V : Type 0} (items : List (InlinableStringN 30 × V)) (order : Index)
@@ -107,7 +107,7 @@ module _ {V : Type 0} {items : List (InlinableStringN 30 × V)} {order : Index} 
         → AreOthers (length items) id (ids_in left)
     others_left left ids = rw (ids, ← length-map items entry_of) (others_of (length es) at id
         (ids_in order) is.number
-        (differ (text_at (keys_of es)) (ids_in order) at id is.number is.mapped.1.sorted)
+        (once (text_at (keys_of es)) (ids_in order) at id is.number is.mapped.1.sorted)
         is.mapped.0)
 
     -- the element goes out of the list, where the last entry gets its number

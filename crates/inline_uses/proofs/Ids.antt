@@ -1,9 +1,8 @@
 -- The ids of texts in the order of their texts, and how a new text is found among them.
-use Rattle.inline_uses.proofs.Names.{AllByRecursion, Bool, Equal-is, HaveOneId, Index, IsGap, IsIndex, IsOrderOf, IsPermutation, IsPermutation-insert, IsPermutation-push_more, IsPermutation-refl, IsStrictlySortedBy, List, Some, [], ap, arith, cond, eq_by_cmp, eq_by_cmp_equiv, exact_bytes, false, get_or-append_seam, get_or_append_left, get_or_from_slice_get, ids_in, inl, inr, insert, is_at, is_eq, key_order, keys_of, length, length-append, lookup, lookup-insert, map, map-id, map-map, map-range_with_len_more, nat_list_cmp_total, none_passes_from_lookup, range_with_len, refl, slice_get, subst, suc, sym, text_at, tied_itself, true, with_ids, ℕ, ◌++◌, ◌+◌, ◌<◌, ◌↔◌, ◌∙◌, ◌∷◌, ◌≡◌}
+use Rattle.inline_uses.proofs.Names.{AllByRecursion, Bool, Equal-is, HaveOneId, Index, IsGap, IsIndex, IsOrderOf, IsPermutation, IsPermutation-insert, IsPermutation-push_more, IsPermutation-refl, IsStrictlySortedBy, List, Some, [], add-one, ap, arith, cond, eq_by_cmp, eq_by_cmp_equiv, exact_bytes, false, get_or-append_seam, get_or_append_left, get_or_from_slice_get, ids_in, inl, inr, insert, is_at, is_eq, key_order, keys_of, length, length-append, lookup, lookup-insert, map, map-id, map-map, map-range_with_len_more, nat_list_cmp_total, none_passes_from_lookup, range_with_len, refl, slice_get, subst, suc, sym, text_at, tied_itself, true, with_ids, ℕ, ◌++◌, ◌<◌, ◌↔◌, ◌∙◌, ◌∷◌, ◌≡◌}
 use Rattle.inline_uses.proofs.Search.{seen_at, inserted_seen, none, ordered_put}
-use Rattle.inline_uses.proofs.InRuns.{all_weaker}
-use Rattle.inline_uses.proofs.RunEdits.{all_insert}
 use Rattle.inline_uses.proofs.SameTexts.{same_texts}
+use Rattle.inline_uses.proofs.Each.{all_insert, all_weaker}
 use Rattle.inline_uses.proofs.Tables.{at_push, before_append, from_push}
 
 -- no text has two ids
@@ -23,11 +22,8 @@ with_ids_more texts text (id ∷ ids) all =
     (ap (λ rest. (text_at texts id, id) ∷ rest) (with_ids_more texts text ids all.1))
 
 next : (n : ℕ) → range_with_len 0 (suc n) ≡ range_with_len 0 n ++ n ∷ []
-next n =
-    let more : n + 1 ≡ suc n = omega arith in
-    subst (λ k. range_with_len 0 k ≡ range_with_len 0 n ++ n ∷ []) more
-    (sym (map-id (range_with_len 0 (n + 1))) ∙ map-range_with_len_more (λ i. i) 0 n n (omega arith)
-    ∙ ap (λ ids. ids ++ n ∷ []) (map-id (range_with_len 0 n)))
+next n = rw (map-id, map-id, add-one)
+    at (map-range_with_len_more (λ i. i) 0 n n (omega arith))
 
 -- with the next id all are there
 all_more : (n : ℕ) (ids : List ℕ) (at : ℕ) → IsPermutation (range_with_len 0 n) ids

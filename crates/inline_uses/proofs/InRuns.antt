@@ -1,7 +1,8 @@
 -- The ids of runs together, and where a text goes among them.
-use Rattle.inline_uses.proofs.Names.{All-append, All-from_recursion, All-weaker, AllByRecursion, Greater, HaveFirsts, Index, IsGap, IsStrictlySortedBy, Less, List, Run, Some, [], ap, append_assoc, arith, common_steps, drop, drop-map, flat_map, flat_map-append, get_or, get_or_from_slice_get, gets, ids_at, ids_of, key_order, length, length-append, length-map, length-take-le, map, map-append, nat_list_cmp_total, recursion_from_All, refl, runs_of, set, set-get_or, set_split, slice_get, slice_get-get_or, slice_get-map, slice_get_within, subst, suc, sym, take, take-append-drop, take-map, take-nil, zero, ℕ, ◌++◌, ◌+◌, ◌-◌, ◌<◌, ◌∙◌, ◌∷◌, ◌≡◌, ◌≤◌}
-use Rattle.inline_uses.proofs.Gaps.{AreAbove, AreBelow, gap_between, parts_of_gap, turned_back}
-use Rattle.inline_uses.proofs.RunEdits.{all_at, all_front, gap_in_rest, sorted_parts}
+use Rattle.std.proofs.lemmas.List.{drop_all}
+use Rattle.inline_uses.proofs.Names.{HaveFirsts, Index, inl, inr, subst, IsGap, IsStrictlySortedBy, Less, Less-from_sorted, List, Run, Some, [], ap, arith, cases_eq, cases_lt, common_steps, drop, flat_map, flat_map-append, get_or, get_or_from_slice_get, gets, ids_at, ids_of, key_order, length, length-append, length-drop, length-map, map, map-append, nat_list_cmp_total, refl, runs_of, set, set-get_or, set_split, slice_get, slice_get-get_or, slice_get-map, slice_get_within, suc, sym, take, take-nil, zero, ℕ, ◌++◌, ◌+◌, ◌-◌, ◌<◌, ◌∙◌, ◌∷◌, ◌≡◌, ◌≤◌}
+use Rattle.inline_uses.proofs.Gaps.{turned, turned_back}
+use Rattle.inline_uses.proofs.RunEdits.{sorted_parts}
 use Rattle.inline_uses.proofs.Tables.{before_append}
 
 -- the ids of runs
@@ -25,9 +26,8 @@ module _ {X : Type 0} where
 
 pub have_length : (ids : List ℕ) (runs : List Run) → HaveFirsts ids runs → length ids ≡ length runs
 have_length [] [] have = refl
-have_length [] (run ∷ runs) have = absurd have
-have_length (id ∷ ids) [] have = absurd have
 have_length (id ∷ ids) (run ∷ runs) have = ap suc (have_length ids runs have.1)
+have_length ids runs have = absurd have
 
 -- the ids are those before a run, its own, and those after it
 pub flat_at : (runs : List Run) (k : ℕ) (run : Run) → slice_get runs k ≡ Some run
@@ -54,186 +54,16 @@ run_of_first (i ∷ ids) [] k id have is = absurd have
 run_of_first (i ∷ ids) (run ∷ runs) zero id have is = (run, refl, have.0 ∙ is)
 run_of_first (i ∷ ids) (run ∷ runs) (suc k) id have is = run_of_first ids runs k id have.1 is
 
-pub all_weaker : {X : Type 0} (P Q : X → Type 0) → ((x : X) → P x → Q x) → (xs : List X)
-    → AllByRecursion P xs → AllByRecursion Q xs
-all_weaker P Q weaker xs all =
-    recursion_from_All Q xs (All-weaker P Q weaker xs (All-from_recursion P xs all))
-
-pub all_append : {X : Type 0} (P : X → Type 0) (xs ys : List X) → AllByRecursion P xs
-    → AllByRecursion P ys → AllByRecursion P (xs ++ ys)
-all_append P xs ys front rest = recursion_from_All P (xs ++ ys)
-    (All-append P xs ys (All-from_recursion P xs front) (All-from_recursion P ys rest))
-
-parted : {X : Type 0} (before own after : List X) (at : ℕ)
-    → before ++ (own ++ after) ≡ (before ++ take at own) ++ (drop at own ++ after)
-parted before own after at =
-    ap (λ own. before ++ (own ++ after)) (sym (take-append-drop at own))
-    ∙ ap (λ rest. before ++ rest) (append_assoc (take at own) (drop at own) after)
-    ∙ sym (append_assoc before (take at own) (drop at own ++ after))
-
--- ids whose texts are in order, beside a text
-module _ (text_of : ℕ → List ℕ) (text : List ℕ) where
-  abbrev pub AreSorted : List ℕ → Type 0
-  AreSorted ids = IsStrictlySortedBy key_order (map text_of ids)
-
-  pub sorted_rest : (ids rest : List ℕ) → AreSorted (ids ++ rest) → AreSorted rest
-  sorted_rest ids rest sorted =
-      (sorted_parts (map text_of ids) (map text_of rest) (rw (← map-append) sorted)).1
-
-  -- the ids before one whose text is below are below
-  before_below : (ids rest : List ℕ) (h : ℕ) → AreSorted (ids ++ rest) → slice_get rest 0 ≡ Some h
-      → key_order (text_of h) text ≡ Less → AreBelow text (map text_of ids)
-  unfolding IsStrictlySortedBy
-  before_below [] rest h sorted is below = tt
-  before_below (id ∷ ids) rest h sorted is below =
-      let there : slice_get (ids ++ rest) (length ids) ≡ Some h
-      = let end : length ids ≡ length ids + 0 = omega arith in
-      ap (slice_get (ids ++ rest)) end ∙ past_append ids rest 0 ∙ is in
-      let seen : Some (text_of h) ≡ slice_get (map text_of (ids ++ rest)) (length ids)
-      = rw (slice_get-map, there) refl in (
-        nat_list_cmp_total.trans (text_of id) (text_of h) text
-            (all_at (λ t. key_order (text_of id) t ≡ Less) (map text_of (ids ++ rest)) (length ids)
-            (text_of h) sorted.0 seen) below,
-        before_below ids rest h sorted.1 is below,
-      )
-
-  -- the ids from one whose text is above are above
-  from_above : (ids rest : List ℕ) (h : ℕ) → AreSorted (ids ++ rest) → slice_get ids 0 ≡ Some h
-      → key_order text (text_of h) ≡ Less → AreAbove text (map text_of ids)
-  unfolding IsStrictlySortedBy
-  from_above [] rest h sorted is above = tt
-  from_above (id ∷ ids) rest h sorted is above =
-      let first : key_order text (text_of id) ≡ Less = let same : id ≡ h = cc in rw same above in (
-        first,
-        all_weaker (λ t. key_order (text_of id) t ≡ Less) (λ t. key_order text t ≡ Less)
-            (λ t less. nat_list_cmp_total.trans text (text_of id) t first less) (map text_of ids)
-            (all_front (λ t. key_order (text_of id) t ≡ Less) (map text_of ids) (map text_of rest)
-            (subst (AllByRecursion (λ t. key_order (text_of id) t ≡ Less))
-            (map-append text_of ids rest) sorted.0)),
-      )
-
-  -- runs whose first ids are above are above
-  runs_above : (ids : List ℕ) (runs : List Run) → AreSorted (flat runs) → HaveFirsts ids runs
-      → AreAbove text (map text_of ids) → AreAbove text (map text_of (flat runs))
-  runs_above [] [] sorted have above = tt
-  runs_above [] (run ∷ runs) sorted have above = absurd have
-  runs_above (id ∷ ids) [] sorted have above = absurd have
-  runs_above (id ∷ ids) (run ∷ runs) sorted have above =
-      subst (AreAbove text) (sym (map-append text_of (ids_of run) (flat runs)))
-      (all_append (λ t. key_order text t ≡ Less) (map text_of (ids_of run))
-      (map text_of (flat runs)) (from_above (ids_of run) (flat runs) id sorted have.0 above.0)
-      (runs_above ids runs (sorted_rest (ids_of run) (flat runs) sorted) have.1 above.1))
-
-  -- the runs after the one in which a text goes are above it, and those before it below
-  pub after_above : (ids : List ℕ) (r : Run) (runs : List Run) (k : ℕ) → AreSorted (flat (r ∷ runs))
-      → HaveFirsts ids runs → IsGap (map text_of ids) text k
-      → AreAbove text (map text_of (flat (drop k runs)))
-  after_above ids r runs zero sorted have gap = runs_above ids runs
-      (sorted_rest (ids_of r) (flat runs) sorted) have (parts_of_gap text (map text_of ids) 0 gap).1
-  after_above [] r [] (suc k) sorted have gap = tt
-  after_above [] r (run ∷ runs) (suc k) sorted have gap = absurd have
-  after_above (id ∷ ids) r [] (suc k) sorted have gap = tt
-  after_above (id ∷ ids) r (run ∷ runs) (suc k) sorted have gap = after_above ids run runs k
-      (sorted_rest (ids_of r) (flat (run ∷ runs)) sorted) have.1
-      (gap_in_rest text (map text_of ids) (text_of id) k gap)
-
-  pub earlier_below : (ids : List ℕ) (r : Run) (runs : List Run) (k : ℕ)
-      → AreSorted (flat (r ∷ runs)) → HaveFirsts ids runs → IsGap (map text_of ids) text k
-      → AreBelow text (map text_of (flat (take k (r ∷ runs))))
-  earlier_below ids r runs zero sorted have gap = tt
-  earlier_below [] r runs (suc k) sorted have gap = absurd (omega (arith, gap.0))
-  earlier_below (id ∷ ids) r [] (suc k) sorted have gap = absurd have
-  earlier_below (id ∷ ids) r (run ∷ runs) (suc k) sorted have gap =
-      let next : slice_get (flat (run ∷ runs)) 0 ≡ Some id
-      = before_append (ids_of run) (flat runs) 0 id have.0 in
-      subst (AreBelow text) (sym (map-append text_of (ids_of r) (flat (take k (run ∷ runs)))))
-      (all_append (λ t. key_order t text ≡ Less) (map text_of (ids_of r))
-      (map text_of (flat (take k (run ∷ runs))))
-      (before_below (ids_of r) (flat (run ∷ runs)) id sorted next
-      (turned_back text (text_of id) (gap.1 0 (omega arith))))
-      (earlier_below ids run runs k (sorted_rest (ids_of r) (flat (run ∷ runs)) sorted) have.1
-      (gap_in_rest text (map text_of ids) (text_of id) k gap)))
-
-  -- where a text goes in the run in which it goes, it goes among all
-  pub gap_in_flat : (ids : List ℕ) (runs : List Run) (k at : ℕ) (run : Run)
-      → AreSorted (flat runs) → HaveFirsts ids (drop 1 runs) → IsGap (map text_of ids) text k
-      → slice_get runs k ≡ Some run → IsGap (map text_of (ids_of run)) text at
-      → IsGap (map text_of (flat runs)) text (length (flat (take k runs)) + at)
-  gap_in_flat ids [] k at run sorted have gap is here = cc
-  gap_in_flat ids (r ∷ runs) k at run sorted have gap is here =
-      let own = ids_of run in
-      let before = flat (take k (r ∷ runs)) in
-      let after = flat (drop k runs) in
-      let parts = parts_of_gap text (map text_of own) at here in
-      let whole = flat_at (r ∷ runs) k run is ∙ parted before own after at in
-      let place : length (map text_of (before ++ take at own)) ≡ length before + at
-      = rw (length-map, length-append, length-take-le at own (rw length-map at here.0)) refl in
-      subst (λ n. IsGap (map text_of (flat (r ∷ runs))) text n) place
-      (subst (λ ts. IsGap ts text (length (map text_of (before ++ take at own))))
-      (sym (ap (map text_of) whole ∙ map-append text_of (before ++ take at own)
-      (drop at own ++ after)))
-      (gap_between text (map text_of (before ++ take at own)) (map text_of (drop at own ++ after))
-      (rw map-append (all_append (λ t. key_order t text ≡ Less) (map text_of before)
-      (map text_of (take at own)) (earlier_below ids r runs k sorted have gap)
-      (rw (← take-map) parts.0)))
-      (rw map-append (all_append (λ t. key_order text t ≡ Less) (map text_of (drop at own))
-      (map text_of after) (rw (← drop-map) parts.1) (after_above ids r runs k sorted have gap)))))
-
-  -- a text goes after the first id of each run but the first
-  pub after_first : (ids : List ℕ) (runs : List Run) (k at : ℕ) (run : Run)
-      → HaveFirsts ids (drop 1 runs) → IsGap (map text_of ids) text k
-      → slice_get runs k ≡ Some run → IsGap (map text_of (ids_of run)) text at → 0 < k → 0 < at
-  after_first ids [] k at run have gap is here past = cc
-  after_first ids (r ∷ runs) zero at run have gap is here past = absurd (omega (arith, past))
-  after_first [] (r ∷ runs) (suc k) at run have gap is here past = absurd (omega (arith, gap.0))
-  after_first (id ∷ ids) (r ∷ []) (suc k) at run have gap is here past = absurd have
-  after_first (id ∷ ids) (r ∷ r1 ∷ runs) (suc zero) zero run have gap is here past =
-      let same : r1 ≡ run = cc in
-      let first : slice_get (ids_of run) 0 ≡ Some id = rw (← same) have.0 in
-      let more : key_order text (text_of id) ≡ Greater = gap.1 0 (omega arith) in
-      let seen : Some (text_of id) ≡ slice_get (map text_of (ids_of run)) 0
-      = rw (slice_get-map, first) refl in
-      let less : key_order text (text_of id) ≡ Less = all_at (λ t. key_order text t ≡ Less)
-      (map text_of (ids_of run)) 0 (text_of id)
-      (parts_of_gap text (map text_of (ids_of run)) 0 here).1 seen in
-      cc
-  after_first (id ∷ ids) (r ∷ r1 ∷ runs) (suc zero) (suc at) run have gap is here past = omega arith
-  after_first (id ∷ ids) (r ∷ r1 ∷ runs) (suc (suc k)) at run have gap is here past =
-      after_first ids (r1 ∷ runs) (suc k) at run have.1
-      (gap_in_rest text (map text_of ids) (text_of id) (suc k) gap) is here (omega arith)
-
-  -- the text of an id that has it is among all
-  text_is : (ids : List ℕ) (k id : ℕ) → slice_get (map text_of ids) k ≡ Some text
-      → slice_get ids k ≡ Some id → Some (text_of id) ≡ Some text
-  text_is ids k id found is = rw (slice_get-map, is) at found
-
-  pub found_with : (all : List ℕ) (at id : ℕ) → slice_get all at ≡ Some id
-      → Some (text_of id) ≡ Some text → slice_get (map text_of all) at ≡ Some text
-  found_with all at id is same = rw (slice_get-map, is) same
-
-  pub id_of_text : (ids : List ℕ) (k : ℕ) → slice_get (map text_of ids) k ≡ Some text
-      → (id : ℕ) × (slice_get ids k ≡ Some id) × (Some (text_of id) ≡ Some text)
-  id_of_text ids k found =
-      let id = get_or ids k 0 in
-      let is = slice_get-get_or ids k 0
-      (rw length-map at (slice_get_within (map text_of ids) k text found)) in
-      (id, is, text_is ids k id found is)
-
-  -- what is found in a run is among all
-  pub text_in_flat : (runs : List Run) (k at : ℕ) (run : Run) → slice_get runs k ≡ Some run
-      → slice_get (map text_of (ids_of run)) at ≡ Some text
-      → slice_get (map text_of (flat runs)) (length (flat (take k runs)) + at) ≡ Some text
-  text_in_flat runs k at run there found =
-      let id = id_of_text (ids_of run) at found in
-      found_with (flat runs) (length (flat (take k runs)) + at) id.0
-      (in_flat runs k run at id.0 there id.1) id.2
-
 -- the ids of the run at an index
 pub ids_at_is : (runs : List Run) (k : ℕ) (run : Run) → slice_get runs k ≡ Some run
     → ids_at runs k ≡ ids_of run
 ids_at_is [] k run is = cc
 ids_at_is (r ∷ runs) zero run is = let same : r ≡ run = cc in ap ids_of same
 ids_at_is (r ∷ runs) (suc k) run is = ids_at_is runs k run is
+
+pub own_len : (runs : List Run) (k : ℕ) (run : Run) → slice_get runs k ≡ Some run
+    → length (ids_at runs k) ≡ length (ids_of run)
+own_len runs k run is = ap length (ids_at_is runs k run is)
 
 -- a run ends where the next one starts
 pub next_start : (runs : List Run) (k : ℕ)
@@ -267,6 +97,144 @@ first_at ids (r ∷ runs) i id have is =
       rw (ids_at_is runs i run.0 run.1) (slice_get_within (ids_of run.0) 0 id run.2),
     )
 
+-- where a text goes among others in order, which its neighbours decide
+gap_between_two : (texts : List (List ℕ)) (text : List ℕ) (at : ℕ)
+    → IsStrictlySortedBy key_order texts → at ≤ length texts
+    → ((i : ℕ) → i + 1 ≡ at → key_order (get_or texts i []) text ≡ Less)
+    → (at < length texts → key_order text (get_or texts at []) ≡ Less) → IsGap texts text at
+gap_between_two texts text at sorted within below above = (
+  within,
+  (λ i less. turned (get_or texts i []) text (elim (cases_lt (i + 1) at) [
+    | inl before ↦ nat_list_cmp_total.trans _ (get_or texts (at - 1) []) text
+        (Less-from_sorted key_order texts i (at - 1) [] sorted (omega arith) (omega arith))
+        (below (at - 1) (omega (arith, less)))
+    | inr last ↦ below i (omega (arith, less, last))
+  ])),
+  λ i le less. elim (cases_lt at i) [
+    | inl after ↦ nat_list_cmp_total.trans text (get_or texts at []) _ (above (omega arith))
+        (Less-from_sorted key_order texts at i [] sorted after less)
+    | inr first ↦ let same : i ≡ at = omega (arith, le, first) in rw same (above (omega arith))
+  ],
+)
+
+-- ids whose texts are in order, beside a text
+module _ (text_of : ℕ → List ℕ) where
+  abbrev pub AreSorted : List ℕ → Type 0
+  AreSorted ids = IsStrictlySortedBy key_order (map text_of ids)
+
+  pub sorted_rest : (ids rest : List ℕ) → AreSorted (ids ++ rest) → AreSorted rest
+  sorted_rest ids rest sorted =
+      (sorted_parts (map text_of ids) (map text_of rest) (rw (← map-append) sorted)).1
+
+  text_read : (ids : List ℕ) (i id : ℕ) → slice_get ids i ≡ Some id
+      → get_or (map text_of ids) i [] ≡ text_of id
+  text_read ids i id is = get_or_from_slice_get (map text_of ids) i (text_of id) []
+      (rw (slice_get-map, is) refl)
+
+  -- an earlier id has a lesser text
+  pub in_order : (ids : List ℕ) (i j x y : ℕ) → AreSorted ids → i < j → slice_get ids i ≡ Some x
+      → slice_get ids j ≡ Some y → key_order (text_of x) (text_of y) ≡ Less
+  in_order ids i j x y sorted less first second =
+      rw (text_read ids i x first, text_read ids j y second)
+      at (Less-from_sorted key_order (map text_of ids) i j [] sorted less
+      (rw length-map (slice_get_within ids j y second)))
+
+  -- the texts of a run are among all
+  pub own_text : (runs : List Run) (k : ℕ) (run : Run) → slice_get runs k ≡ Some run
+      → (i : ℕ) → i < length (ids_of run)
+      → get_or (map text_of (flat runs)) (length (flat (take k runs)) + i) []
+      ≡ get_or (map text_of (ids_of run)) i []
+  own_text runs k run is i less =
+      let here = slice_get-get_or (ids_of run) i 0 less in
+      text_read (flat runs) _ _ (in_flat runs k run i _ is here)
+      ∙ sym (text_read (ids_of run) i _ here)
+
+  pub texts_count : (runs : List Run) (k : ℕ) (run : Run) → slice_get runs k ≡ Some run
+      → length (map text_of (flat runs))
+      ≡ length (flat (take k runs)) + (length (ids_of run) + length (flat (drop (suc k) runs)))
+  texts_count runs k run is =
+      rw (length-map, flat_at runs k run is, length-append, length-append) refl
+
+  module _ (text : List ℕ) where
+    -- a text goes after the first id of each run but the first
+    pub after_first : (ids : List ℕ) (runs : List Run) (k at : ℕ) (run : Run)
+        → HaveFirsts ids (drop 1 runs) → IsGap (map text_of ids) text k
+        → slice_get runs k ≡ Some run → IsGap (map text_of (ids_of run)) text at → 0 < k → 0 < at
+    after_first ids [] k at run have gap is here past = cc
+    after_first ids (r ∷ runs) zero at run have gap is here past = absurd (omega (arith, past))
+    after_first ids (r ∷ runs) (suc k) zero run have gap is here past =
+        let there = slice_get-get_or ids k 0 (rw length-map at gap.0) in
+        let first = run_of_first ids runs k _ have there in
+        let same : first.0 ≡ run = cc in
+        let starts = rw same at first.2 in
+        let above = rw (text_read ids k _ there) at (gap.1 k (omega arith)) in
+        let below = rw (text_read (ids_of run) 0 _ starts) at (here.2 0 (omega arith)
+        (rw length-map (slice_get_within (ids_of run) 0 _ starts))) in
+        cc
+    after_first ids (r ∷ runs) (suc k) (suc at) run have gap is here past = omega arith
+
+    -- what comes after a run is above a text that goes in it
+    next_above : (ids : List ℕ) (runs : List Run) (k : ℕ) (run : Run) → HaveFirsts ids (drop 1 runs)
+        → IsGap (map text_of ids) text k → slice_get runs k ≡ Some run
+        → let end = length (flat (take k runs)) + length (ids_of run) in
+        end < length (map text_of (flat runs))
+        → key_order text (get_or (map text_of (flat runs)) end []) ≡ Less
+    next_above ids runs k run have gap is more = elim (cases_lt k (length ids)) [
+      | inl later ↦
+          let there = slice_get-get_or ids k 0 later in
+          let next = sym (next_start runs k ∙ ap (λ n. length (flat (take k runs)) + n)
+          (own_len runs k run is)) in
+          rw (next, text_read (flat runs) _ _ (first_at ids runs k _ have there).0)
+          (rw (text_read ids k _ there) at (gap.2 k (omega arith) (rw length-map later)))
+      | inr last ↦
+          let none = drop_all (suc k) runs
+          (omega (arith, last, have_length ids (drop 1 runs) have, length-drop 1 runs)) in
+          absurd (omega (arith, more, texts_count runs k run is, ap (λ rs. length (flat rs)) none))
+    ]
+
+    -- where a text goes in the run in which it goes, it goes among all
+    pub gap_in_flat : (ids : List ℕ) (runs : List Run) (k at : ℕ) (run : Run)
+        → AreSorted (flat runs) → HaveFirsts ids (drop 1 runs) → IsGap (map text_of ids) text k
+        → slice_get runs k ≡ Some run → IsGap (map text_of (ids_of run)) text at
+        → IsGap (map text_of (flat runs)) text (length (flat (take k runs)) + at)
+    gap_in_flat ids runs k at run sorted have gap is here =
+        let own = ids_of run in
+        let start = length (flat (take k runs)) in
+        let within = rw length-map at here.0 in
+        gap_between_two (map text_of (flat runs)) text (start + at) sorted
+        (omega (arith, texts_count runs k run is, within)) (λ i next. elim (cases_eq at 0) [
+          | inl none ↦
+              let goes = after_first ids runs k at run have gap is here in
+              let first : k ≡ 0 = grind (arith, none, goes) in
+              let before : start ≡ 0 = rw first refl in
+              absurd (omega (arith, next, none, before))
+          | inr some ↦
+              let place : i ≡ start + (at - 1) = omega (arith, next, some) in
+              rw (place, own_text runs k run is (at - 1) (omega (arith, some, within)))
+              (turned_back text _ (here.1 (at - 1) (omega (arith, some))))
+        ]) (λ more. elim (cases_lt at (length own)) [
+          | inl inside ↦ rw (own_text runs k run is at inside)
+              (here.2 at (omega arith) (rw length-map inside))
+          | inr past ↦
+              let end : at ≡ length own = omega (arith, past, within) in
+              rw end (next_above ids runs k run have gap is (rw end at more))
+        ])
+
+    pub id_of_text : (ids : List ℕ) (k : ℕ) → slice_get (map text_of ids) k ≡ Some text
+        → (id : ℕ) × (slice_get ids k ≡ Some id) × (Some (text_of id) ≡ Some text)
+    id_of_text ids k found =
+        let is = slice_get-get_or ids k 0
+        (rw length-map at (slice_get_within (map text_of ids) k text found)) in
+        (get_or ids k 0, is, rw (slice_get-map, is) at found)
+
+    -- what is found in a run is among all
+    pub text_in_flat : (runs : List Run) (k at : ℕ) (run : Run) → slice_get runs k ≡ Some run
+        → slice_get (map text_of (ids_of run)) at ≡ Some text
+        → slice_get (map text_of (flat runs)) (length (flat (take k runs)) + at) ≡ Some text
+    text_in_flat runs k at run there found =
+        let id = id_of_text (ids_of run) at found in
+        rw (slice_get-map, in_flat runs k run at id.0 there id.1) id.2
+
 -- a run that a text goes in is there
 pub run_within : (text_of : ℕ → List ℕ) (text ids : List ℕ) (runs : List Run) (k : ℕ)
     → HaveFirsts ids runs → IsGap (map text_of ids) text k → k ≤ length runs
@@ -281,10 +249,7 @@ pub record IsReplaced (before after : Index) (at : ℕ) (old new : Run) : Type 0
 -- a later run, by its index among these
 pub later_there : (first : Run) (later : List Run) (k : ℕ) (run : Run) → 0 < k
     → slice_get later (k - 1) ≡ Some run → slice_get (first ∷ later) k ≡ Some run
-later_there first later zero run past is = absurd (omega (arith, past))
-later_there first later (suc k) run past is =
-    let before : suc k - 1 ≡ k = omega arith in
-    subst (λ i. slice_get later i ≡ Some run) before is
+later_there first later k run past is = let next : k ≡ suc (k - 1) = omega arith in rw next is
 
 pub later_set : (first new : Run) (later : List Run) (k : ℕ) → 0 < k
     → first ∷ set later (k - 1) new ≡ set (first ∷ later) k new

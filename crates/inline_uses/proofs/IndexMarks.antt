@@ -1,5 +1,6 @@
 -- How the bytes after a common front, as a number, decide the order of texts.
 use Rattle.inline_uses.proofs.Names.{AllByRecursion, Equal, Fits, Greater, IsMark, Less, List, Mark, Ordering, [], add-mul, ap, arith, drop, exact_bytes, from_be_bytes, get_or, key_order, mark_order, match_ordering, mul-le, nat_cmp, nat_cmp_total, nat_list_cmp_total, one-mul, ordering_reverse, ordering_then, pow-succ', ranked, refl, suc, sym, take, tied_itself, w64, w8, zero, ℕ, ◌*◌, ◌+◌, ◌<◌, ◌^◌, ◌∙◌, ◌∷◌, ◌≡◌, ◌≢◌}
+use Rattle.inline_uses.proofs.Each.{all_drop}
 use Rattle.inline_uses.proofs.Gaps.{turned}
 
 abbrev pub AreBytes : List ℕ → Type 0
@@ -59,20 +60,16 @@ pub past_front : (len : ℕ) (xs ys : List ℕ) → take len xs ≡ take len ys
     → key_order xs ys ≡ key_order (drop len xs) (drop len ys)
 past_front zero xs ys same = refl
 past_front (suc len) [] [] same = refl
-past_front (suc len) [] (y ∷ ys) same = cc
-past_front (suc len) (x ∷ xs) [] same = cc
 past_front (suc len) (x ∷ xs) (y ∷ ys) same =
     let heads : x ≡ y = cc in
-    let tails : take len xs ≡ take len ys = cc in
-    rw (heads, tied_number y) (past_front len xs ys tails)
+    rw (heads, tied_number y) (past_front len xs ys (cc))
+past_front (suc len) xs ys same = cc
 
 -- fronts that differ compare as the texts do
 pub front_decides : (len : ℕ) (xs ys : List ℕ) (o : Ordering)
     → key_order (take len xs) (take len ys) ≡ o → o ≢ Equal → key_order xs ys ≡ o
 front_decides zero xs ys o is differ = absurd (differ (sym is))
 front_decides (suc len) [] [] o is differ = is
-front_decides (suc len) [] (y ∷ ys) o is differ = is
-front_decides (suc len) (x ∷ xs) [] o is differ = is
 front_decides (suc len) (x ∷ xs) (y ∷ ys) o is differ =
     by (nat_cmp x y) is (λ rest. front_decides len xs ys o rest differ)
   where
@@ -82,6 +79,7 @@ front_decides (suc len) (x ∷ xs) (y ∷ ys) o is differ =
     by Less is rest = is
     by Equal is rest = rest is
     by Greater is rest = is
+front_decides (suc len) xs ys o is differ = is
 
 -- a text between two with the same front has it too
 pub between : (len : ℕ) (low text high : List ℕ) → take len low ≡ take len high
@@ -97,17 +95,12 @@ between len low text high same above below = by (key_order (take len low) (take 
     by Equal is = sym (exact_bytes (take len low) (take len text) is)
     by Greater is = let more = front_decides len low text Greater is (λ e. cc) in cc
 
-bytes_past : (len : ℕ) (bs : List ℕ) → AreBytes bs → AreBytes (drop len bs)
-bytes_past zero bs are = are
-bytes_past (suc len) [] are = tt
-bytes_past (suc len) (b ∷ bs) are = bytes_past len bs are.1
-
 -- the bits of texts with the same front decide as the texts do, where they differ
 bits_decide : (len : ℕ) (xs ys : List ℕ) → AreBytes xs → AreBytes ys → take len xs ≡ take len ys
     → from_be_bytes w64 (drop len xs) < from_be_bytes w64 (drop len ys) → key_order xs ys ≡ Less
 bits_decide len xs ys are others same less = past_front len xs ys same
-    ∙ number_decides 8 (drop len xs) (drop len ys) (bytes_past len xs are)
-    (bytes_past len ys others) (rw (is_number, is_number) at less)
+    ∙ number_decides 8 (drop len xs) (drop len ys) (all_drop _ len xs are)
+    (all_drop _ len ys others) (rw (is_number, is_number) at less)
 
 -- a mark compares as its text does to one with the same front
 pub mark_decides : (text_of : ℕ → List ℕ) (len : ℕ) (front text : List ℕ) (mark : Mark)

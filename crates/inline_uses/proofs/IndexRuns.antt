@@ -1,5 +1,7 @@
 -- What a search in a run of an index finds.
+use Rattle.std.proofs.lemmas.List.{nil_from_length}
 use Rattle.inline_uses.proofs.Names.{All-from_recursion, All-get_or, AllByRecursion, Equal, Greater, IsGap, IsMark, IsOrdered, IsStrictlySortedBy, Less, List, Mark, Ordering, Run, Some, [], ap, append-nil, arith, compare_fronts, drop, exact_bytes, first_front, from_be_bytes, get_or, get_or-map, key_order, length, length-map, map, mark_order, match_ordering, nat_cmp, slice_get, slice_get-get_or, subst, sym, take, w64, ℕ, ◌+◌, ◌-◌, ◌/◌, ◌<◌, ◌∙◌, ◌∷◌, ◌≡◌, ◌≢◌, ◌≤◌}
+use Rattle.inline_uses.proofs.Each.{all_weaker}
 use Rattle.inline_uses.proofs.Gaps.{gap_between, turned_back}
 use Rattle.inline_uses.proofs.IndexMarks.{AreBytes, front_decides, mark_decides}
 use Rattle.inline_uses.proofs.Search.{GoesWithin, goes_after, goes_before}
@@ -40,14 +42,10 @@ module _ (text_of : ℕ → List ℕ) (len : ℕ) (text : List ℕ) where
       → compare_fronts len (texts_of text_of marks) text ≡ Greater
       → IsGap (texts_of text_of marks) text 0
   above_all [] are more = cc
-  above_all (m ∷ marks) are more =
-      let texts = texts_of text_of (m ∷ marks) in
-      let above = fronts_decide text_of len _ text Greater (λ e. cc) (m ∷ marks) are more in (
-        omega arith,
-        (λ i less. absurd (omega (arith, less))),
-        λ i le less. turned_back _ text (All-get_or (λ t. key_order t text ≡ Greater) texts i []
-            less (All-from_recursion (λ t. key_order t text ≡ Greater) texts above)),
-      )
+  above_all (m ∷ marks) are more = gap_between text [] (texts_of text_of (m ∷ marks)) tt
+      (all_weaker (λ t. key_order t text ≡ Greater) (λ t. key_order text t ≡ Less)
+      (λ t. turned_back t text) (texts_of text_of (m ∷ marks))
+      (fronts_decide text_of len _ text Greater (λ e. cc) (m ∷ marks) are more))
 
   -- a text that compares as equal has their front
   has_front : (marks : List Mark) → 0 < length marks
@@ -145,11 +143,7 @@ module _ (text_of : ℕ → List ℕ) (text : List ℕ) {run : Run} {start end :
 
 -- where a text goes among none
 pub gap_in_none : (texts : List (List ℕ)) (text : List ℕ) → length texts ≡ 0 → IsGap texts text 0
-gap_in_none texts text none = (
-  omega arith,
-  (λ i less. absurd (omega (arith, less))),
-  λ i le less. absurd (omega (arith, less, none)),
-)
+gap_in_none texts text none = rw (nil_from_length texts none) (gap_between text [] [] tt tt)
 
 -- a run of no id
 pub no_run : (text_of : ℕ → List ℕ) (run : Run) → run.marks.items ≡ [] → IsOrdered text_of run

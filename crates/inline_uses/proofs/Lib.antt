@@ -1,6 +1,7 @@
 pub mod Ascii
 pub mod Cursor
 pub mod Deleted
+pub mod Each
 pub mod Gaps
 pub mod Ids
 pub mod InRuns

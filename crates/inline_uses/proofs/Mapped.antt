@@ -1,8 +1,7 @@
 -- A map from texts, seen as the list of its entries in the order of the keys, and each edit of it.
-use Rattle.inline_uses.proofs.Names.{AllByRecursion, AreInOrder, AreMapped, AreNumbers, Entries, Index, InlinableStringN, IsFound, IsGap, IsIndex, IsStrictlySortedBy, List, None, Some, [], ap, bytes_at, entries_at, entry_of, fun_ext, get_or, get_or_from_slice_get, ids_in, insert, key_order, keys_of, length, length-map, length-set, map, map-set, map-set_same, option_map, set, slice_get, slice_get-get_or, slice_get-map, slice_get_within, subst, suc, sym, text_at, value_of, with_value, without, zero, ℕ, ◌∙◌, ◌∷◌, ◌≡◌}
+use Rattle.inline_uses.proofs.Names.{AreInOrder, AreMapped, AreNumbers, Entries, Index, InlinableStringN, IsFound, IsGap, IsIndex, IsStrictlySortedBy, List, None, Some, ap, bytes_at, entries_at, entry_of, fun_ext, get_or, get_or_from_slice_get, ids_in, insert, key_order, keys_of, length, length-map, length-set, map, map-set, map-set_same, option_map, set, slice_get, slice_get-get_or, slice_get-map, slice_get_within, subst, sym, text_at, value_of, with_value, without, ℕ, ◌∙◌, ◌≡◌}
 use Rattle.inline_uses.proofs.Search.{none, there}
-use Rattle.inline_uses.proofs.Numbered.{Apart, alike, count, differ, entry_seen, keys_seen, other_set, same_entries, seen, this_set}
-use Rattle.inline_uses.proofs.InRuns.{all_weaker}
+use Rattle.inline_uses.proofs.Numbered.{count, entry_seen, keys_seen, once, one_differs, other_set, same_entries, seen, this_set}
 
 -- an element that is read is seen as the entry that is there
 pub read_entry : {V : Type 0} (items : List (InlinableStringN 30 × V)) (id : ℕ)
@@ -85,32 +84,20 @@ module _ {V : Type 0} (items : List (InlinableStringN 30 × V)) {order : Index} 
         subst (λ keys. IsIndex (text_at keys) order) (sym same_keys) are.1,
       )
 
-      others_stay : (ids : List ℕ) → AllByRecursion (λ other. ¬ (other ≡ id)) ids
-          → map (slice_get (set known id (key, v))) ids ≡ map (slice_get known) ids
-      others_stay ids apart = alike (slice_get (set known id (key, v))) (slice_get known) ids
-          (all_weaker (λ other. ¬ (other ≡ id))
-          (λ other. slice_get (set known id (key, v)) other ≡ slice_get known other)
-          (λ other not. other_set known id other (key, v) not) ids apart)
-
-      valued_seen : (ids : List ℕ) (at : ℕ) → slice_get ids at ≡ Some id → Apart ids at id
-          → map (slice_get (set known id (key, v))) ids
-          ≡ set (map (slice_get known) ids) at (Some (key, v))
-      valued_seen [] at is apart = cc
-      valued_seen (x ∷ ids) zero is apart =
-          let here : x ≡ id = cc in
-          let within = slice_get_within known id (key, found.value) found.entry in
-          rw (here, this_set known id (key, v) within)
-          (ap (λ xs. Some (key, v) ∷ xs) (others_stay ids apart.1))
-      valued_seen (x ∷ ids) (suc at) is apart = rw (other_set known id x (key, v) apart.0.0)
-          (ap (λ xs. slice_get known x ∷ xs) (valued_seen ids at is (apart.0.1, apart.1)))
+      valued_seen : map (slice_get (set known id (key, v))) (ids_in order)
+          ≡ set (map (slice_get known) (ids_in order)) at (Some (key, v))
+      valued_seen = one_differs (slice_get known) (slice_get (set known id (key, v)))
+          (ids_in order) at id found.number
+          (once (text_at (keys_of known)) (ids_in order) at id found.number are.1.sorted)
+          (λ other not. other_set known id other (key, v) not) ∙ ap (set _ at)
+          (this_set known id (key, v) (slice_get_within known id _ found.entry))
 
       pub entries_valued : entries_at valued (ids_in order)
           ≡ with_value (entries_at known (ids_in order)) key v
       entries_valued = same_entries valued (ids_in order)
           (set (entries_at known (ids_in order)) at (key, v)) mapped_valued.0.within
           (ap (λ es. map (slice_get es) (ids_in order)) valued_is
-          ∙ valued_seen (ids_in order) at found.number
-          (differ (text_at (keys_of known)) (ids_in order) at id found.number are.1.sorted)
+          ∙ valued_seen
           ∙ ap (λ xs. set xs at (Some (key, v))) (sym (seen known (ids_in order) are.0.within))
           ∙ sym (map-set Some (entries_at known (ids_in order)) at (key, v))) ∙ sym (found.put v)
 

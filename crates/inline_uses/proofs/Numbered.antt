@@ -1,10 +1,11 @@
 -- Entries by their numbers, and lists of these numbers: what an edit does to both.
-use Rattle.inline_uses.proofs.Names.{All-from_recursion, All-map, AllByRecursion, AreNumbers, AreOthers, Entries, Equal, Has, IsGap, IsStrictlySortedBy, Less-from_sorted, List, None, Option, Some, [], ap, arith, cases_eq, cases_lt, common_steps, drop, entries_at, get_or, get_or-drop, get_or-take, get_or_from_slice_get, gets, inl, inr, insert, key_order, keys_of, length, length-drop, length-insert, length-map, length-remove, length-set, length-take, length-take-le, map, map-append, map-id, map-map, map-set, nat_list_cmp_total, recursion_from_All, refl, remove, set, slice_get, slice_get-get_or, slice_get-map, slice_get_within, subst, suc, swap_remove, sym, take, text_at, tied_itself, zero, ℕ, ◌++◌, ◌+◌, ◌-◌, ◌<◌, ◌∙◌, ◌∷◌, ◌≡◌, ◌≤◌, ◌⊎◌}
+use Rattle.std.proofs.lemmas.Bool.Decides.{nat_tests}
+use Rattle.std.proofs.Common.{eqb}
+use Rattle.inline_uses.proofs.Names.{AllByRecursion, AreNumbers, AreOthers, Entries, Equal, Has, IsGap, IsStrictlySortedBy, Less-from_sorted, List, None, Option, Some, [], ap, arith, cases_eq, cases_lt, common_steps, cond, drop, entries_at, get_or, get_or_from_slice_get, gets, inl, inr, insert, key_order, keys_of, length, length-insert, length-map, length-remove, length-set, length-take-le, map, map-append, map-id, map-map, map-set, nat_list_cmp_total, refl, remove, set, slice_get, slice_get-get_or, slice_get-map, slice_get_within, subst, suc, swap_remove, sym, take, text_at, tied_itself, zero, ℕ, ◌++◌, ◌-◌, ◌<◌, ◌∙◌, ◌∷◌, ◌≡◌, ◌≤◌, ◌⊎◌}
 use Rattle.std.proofs.Math.ListN.{get_or-map}
 use Rattle.std.specs.List.{take-map}
-use Rattle.inline_uses.proofs.InRuns.{all_append, all_weaker}
-use Rattle.inline_uses.proofs.RunEdits.{all_drop, all_insert, all_take}
 use Rattle.inline_uses.proofs.Search.{inserted_seen}
+use Rattle.inline_uses.proofs.Each.{all_append, all_drop, all_insert, all_map, all_take, all_weaker}
 use Rattle.inline_uses.proofs.Tables.{at_push, before_append}
 
 -- a list with another element
@@ -19,12 +20,8 @@ module _ {X : Type 0} where
 
   all_some : (xs ys : List X) → map Some xs ≡ map Some ys → xs ≡ ys
   all_some [] [] same = refl
-  all_some [] (y ∷ ys) same = cc
-  all_some (x ∷ xs) [] same = cc
-  all_some (x ∷ xs) (y ∷ ys) same =
-      let head : x ≡ y = cc in
-      let rest : map Some xs ≡ map Some ys = cc in
-      ap (λ x. x ∷ xs) head ∙ ap (λ xs. y ∷ xs) (all_some xs ys rest)
+  all_some (x ∷ xs) (y ∷ ys) same = let rest = all_some xs ys (cc) in cc
+  all_some xs ys same = cc
 
   one : (xs : List X) (i : ℕ) → i < length xs → map Some (take 1 (drop i xs)) ≡ slice_get xs i ∷ []
   one xs i less = grind (arith, common_steps, gets)
@@ -51,9 +48,7 @@ has_with (x ∷ ids) (suc at) new id (inr (inr has)) = inr (has_with ids at new 
 has_without : (ids : List ℕ) (at gone id : ℕ) → slice_get ids at ≡ Some gone → ¬ (id ≡ gone)
     → Has ids id → Has (remove ids at) id
 has_without [] at gone id is not has = absurd has
-has_without (x ∷ ids) zero gone id is not (inl same) =
-    let here : x ≡ gone = cc in
-    absurd (not (sym same ∙ here))
+has_without (x ∷ ids) zero gone id is not (inl same) = absurd (not (cc))
 has_without (x ∷ ids) zero gone id is not (inr has) = has
 has_without (x ∷ ids) (suc at) gone id is not (inl same) = inl same
 has_without (x ∷ ids) (suc at) gone id is not (inr has) =
@@ -63,8 +58,42 @@ has_without (x ∷ ids) (suc at) gone id is not (inr has) =
 pub alike : {Y : Type 0} (f g : ℕ → Y) (ids : List ℕ) → AllByRecursion (λ id. f id ≡ g id) ids
     → map f ids ≡ map g ids
 alike f g [] all = refl
-alike f g (id ∷ ids) all =
-    ap (λ x. x ∷ map f ids) all.0 ∙ ap (λ xs. g id ∷ xs) (alike f g ids all.1)
+alike f g (id ∷ ids) all = rw (all.0, alike f g ids all.1) refl
+
+-- a number is in a list at one index only
+abbrev pub IsOnce : List ℕ → ℕ → ℕ → Type 0
+IsOnce ids at id = (i : ℕ) → slice_get ids i ≡ Some id → i ≡ at
+
+apart : (id : ℕ) (ids : List ℕ) → ((i : ℕ) → slice_get ids i ≡ Some id → ⊥)
+    → AllByRecursion (λ other. ¬ (other ≡ id)) ids
+apart id [] none = tt
+apart id (x ∷ ids) none = ((λ same. none 0 (ap Some same)), apart id ids (λ i. none (suc i)))
+
+-- the others are not it
+left_apart : (ids : List ℕ) (at id : ℕ) → IsOnce ids at id
+    → AllByRecursion (λ other. ¬ (other ≡ id)) (remove ids at)
+left_apart [] zero id once = tt
+left_apart [] (suc at) id once = tt
+left_apart (x ∷ ids) zero id once = apart id ids (λ i is. omega (arith, once (suc i) is))
+left_apart (x ∷ ids) (suc at) id once = (
+  (λ same. omega (arith, once 0 (ap Some same))),
+  left_apart ids at id (λ i is. omega (arith, once (suc i) is)),
+)
+
+-- what differs at a number alone differs at its index alone
+pub one_differs : {Y : Type 0} (f g : ℕ → Y) (ids : List ℕ) (at id : ℕ)
+    → slice_get ids at ≡ Some id → IsOnce ids at id
+    → ((other : ℕ) → ¬ (other ≡ id) → g other ≡ f other)
+    → map g ids ≡ set (map f ids) at (g id)
+one_differs f g [] at id is once same = cc
+one_differs f g (x ∷ ids) zero id is once same =
+    let here : x ≡ id = cc in
+    rw here (ap (λ ys. g id ∷ ys) (alike g f ids (all_weaker (λ other. ¬ (other ≡ id))
+    (λ other. g other ≡ f other) same ids (apart id ids (λ i is. omega (arith, once (suc i) is))))))
+one_differs f g (x ∷ ids) (suc at) id is once same =
+    rw (same x (λ e. omega (arith, once 0 (ap Some e))))
+    (ap (λ ys. f x ∷ ys)
+    (one_differs f g ids at id is (λ i is. omega (arith, once (suc i) is)) same))
 
 -- the entries of numbers that are there
 module _ {V : Type 0} where
@@ -151,19 +180,13 @@ not_among texts text at i gap is =
       | inr after ↦ let less = gap.2 i after (slice_get_within texts i text is) in cc
     ]
 
--- the number at an index is none of the others
-abbrev pub Apart : List ℕ → ℕ → ℕ → Type 0
-Apart ids at id = AllByRecursion (λ other. ¬ (other ≡ id)) (take at ids)
-    × AllByRecursion (λ other. ¬ (other ≡ id)) (drop (suc at) ids)
-
 -- texts in order are at one index each
 not_earlier : (texts : List (List ℕ)) (i j : ℕ) (text : List ℕ) → IsStrictlySortedBy key_order texts
     → slice_get texts i ≡ Some text → slice_get texts j ≡ Some text → ¬ (i < j)
 not_earlier texts i j text sorted is js less =
-    let one = get_or_from_slice_get texts i text [] is in
-    let other = get_or_from_slice_get texts j text [] js in
-    let below = Less-from_sorted key_order texts i j [] sorted less
-    (slice_get_within texts j text js) in
+    let read = λ (k : ℕ). get_or_from_slice_get texts k text [] in
+    let below = rw (read i is, read j js)
+    at (Less-from_sorted key_order texts i j [] sorted less (slice_get_within texts j text js)) in
     let equal = tied_itself nat_list_cmp_total text in
     cc
 
@@ -176,30 +199,11 @@ one_index texts i j text sorted is js = omega (
   not_earlier texts j i text sorted js is,
 )
 
--- of numbers whose texts are in order none is another
-pub differ : (text_of : ℕ → List ℕ) (ids : List ℕ) (at id : ℕ) → slice_get ids at ≡ Some id
-    → IsStrictlySortedBy key_order (map text_of ids) → Apart ids at id
-differ text_of ids at id is sorted = (
-  recursion_from_All (λ other. ¬ (other ≡ id)) (take at ids) (λ k d less same.
-      let part = rw length-take at less in
-      omega (
-        arith,
-        part,
-        here k d (omega (arith, part)) (sym (get_or-take at ids k d (omega (arith, part))) ∙ same),
-      )),
-  recursion_from_All (λ other. ¬ (other ≡ id)) (drop (suc at) ids) (λ k d less same.
-      let part = rw length-drop at less in
-      omega (
-        arith,
-        part,
-        here (suc at + k) d (omega (arith, part)) (sym (get_or-drop (suc at) ids k d) ∙ same),
-      )),
-)
-  where
-    here : (i d : ℕ) → i < length ids → get_or ids i d ≡ id → i ≡ at
-    here i d within same = one_index (map text_of ids) i at (text_of id) sorted
-        (rw (slice_get-map, slice_get-get_or ids i d within, same) refl)
-        (rw (slice_get-map, is) refl)
+-- so is a number whose text is
+pub once : (text_of : ℕ → List ℕ) (ids : List ℕ) (at id : ℕ) → slice_get ids at ≡ Some id
+    → IsStrictlySortedBy key_order (map text_of ids) → IsOnce ids at id
+once text_of ids at id is sorted i also = one_index (map text_of ids) i at (text_of id) sorted
+    (rw (slice_get-map, also) refl) (rw (slice_get-map, is) refl)
 
 pub both : {X : Type 0} (P Q R : X → Type 0) → ((x : X) → P x → Q x → R x) → (xs : List X)
     → AllByRecursion P xs → AllByRecursion Q xs → AllByRecursion R xs
@@ -231,36 +235,27 @@ numbers_with count at ids within are = record {
 }
 
 -- numbers without one of them are the others
-pub others_of : (count at id : ℕ) (ids : List ℕ) → slice_get ids at ≡ Some id → Apart ids at id
+pub others_of : (count at id : ℕ) (ids : List ℕ) → slice_get ids at ≡ Some id → IsOnce ids at id
     → AreNumbers count ids → AreOthers count id (remove ids at)
-others_of count at id ids is apart are = record {
+others_of count at id ids is once are = record {
   within = all_append (λ other. other < count) (take at ids) (drop (suc at) ids)
       (all_take (λ other. other < count) at ids are.within)
       (all_drop (λ other. other < count) (suc at) ids are.within);
-  apart = all_append (λ other. ¬ (other ≡ id)) (take at ids) (drop (suc at) ids) apart.0 apart.1;
+  apart = left_apart ids at id once;
   all = λ other less not. has_without ids at id other is not (are.all other less);
   once = length-remove ids at (slice_get_within ids at id is) ∙ are.once;
 }
 
 -- numbers with another one for the last
 module _ (last id : ℕ) where
-  chosen : (other : ℕ) → (other ≡ last) ⊎ (¬ (other ≡ last)) → ℕ
-  chosen other (inl same) = id
-  chosen other (inr not) = other
+  abbrev pub renamed : ℕ → ℕ
+  renamed other = cond (eqb other last) id other
 
-  pub renamed : ℕ → ℕ
-  renamed other = chosen other (cases_eq other last)
-
-  by_cases : (P : ℕ → Type 0) (other : ℕ) → (other ≡ last → P id) → (¬ (other ≡ last) → P other)
-      → P (renamed other)
-  unfolding chosen renamed
-  by_cases P other same stays = elim (cases_eq other last) as (λ c. P (chosen other c)) [
-    | inl e ↦ same e
-    | inr not ↦ stays not
-  ]
+  moved : renamed last ≡ id
+  moved = grind (arith, nat_tests)
 
   kept : (other : ℕ) → ¬ (other ≡ last) → renamed other ≡ other
-  kept other not = by_cases (λ n. n ≡ other) other (λ e. absurd (not e)) (λ same. refl)
+  kept other not = grind (arith, nat_tests, not)
 
   -- none changes that is not the last one
   pub none_renamed : (ids : List ℕ) → AllByRecursion (λ other. ¬ (other ≡ last)) ids
@@ -268,25 +263,21 @@ module _ (last id : ℕ) where
   none_renamed ids apart = alike renamed (λ n. n) ids
       (all_weaker (λ n. ¬ (n ≡ last)) (λ n. renamed n ≡ n) kept ids apart) ∙ map-id ids
 
-  pub is_renamed : (ids : List ℕ) (at : ℕ) → slice_get ids at ≡ Some last → Apart ids at last
+  pub is_renamed : (ids : List ℕ) (at : ℕ) → slice_get ids at ≡ Some last → IsOnce ids at last
       → set ids at id ≡ map renamed ids
-  is_renamed [] at is apart = cc
-  is_renamed (x ∷ ids) zero is apart =
-      let here : x ≡ last = cc in
-      ap (λ n. n ∷ ids) (by_cases (λ n. id ≡ n) x (λ e. refl) (λ not. absurd (not here)))
-      ∙ ap (λ ns. renamed x ∷ ns) (sym (none_renamed ids apart.1))
-  is_renamed (x ∷ ids) (suc at) is apart = ap (λ n. n ∷ set ids at id) (sym (kept x apart.0.0))
-      ∙ ap (λ ns. renamed x ∷ ns) (is_renamed ids at is (apart.0.1, apart.1))
+  is_renamed ids at is once = sym (one_differs (λ n. n) renamed ids at last is once kept
+      ∙ rw (moved, map-id) refl)
 
   -- the others of numbers, of which there was one more than `last`
   module _ (left : List ℕ) (are : AreOthers (suc last) id left) (within : id < suc last) where
     each : (P : ℕ → ℕ → Type 0) → (id < last → P last id)
         → ((other : ℕ) → other < last → ¬ (other ≡ id) → P other other)
         → AllByRecursion (λ other. P other (renamed other)) left
-    each P moved stays = both (λ n. n < suc last) (λ n. ¬ (n ≡ id)) (λ n. P n (renamed n))
-        (λ n less not. by_cases (P n) n (λ e. subst (λ n. P n id) (sym e)
-        (moved (not_last id last within (λ same. not (e ∙ sym same)))))
-        (λ other. stays n (not_last n last less other) not)) left are.within are.apart
+    each P moves stays = both (λ n. n < suc last) (λ n. ¬ (n ≡ id)) (λ n. P n (renamed n))
+        (λ n less not. elim (cases_eq n last) [
+          | inl same ↦ rw (same, moved) (moves (not_last id last within (λ e. not (same ∙ sym e))))
+          | inr other ↦ rw (kept n other) (stays n (not_last n last less other) not)
+        ]) left are.within are.apart
 
     pub renamed_seen : {Y : Type 0} (f g : ℕ → Y) → (id < last → f id ≡ g last)
         → ((other : ℕ) → other < last → ¬ (other ≡ id) → f other ≡ g other)
@@ -296,12 +287,10 @@ module _ (last id : ℕ) where
 
     pub numbers_renamed : AreNumbers last (map renamed left)
     numbers_renamed = record {
-      within = recursion_from_All (λ n. n < last) (map renamed left)
-          (All-map (λ n. n < last) renamed left (All-from_recursion (λ n. renamed n < last) left
-          (each (λ n m. m < last) (λ less. less) (λ n less not. less))));
+      within = all_map (λ n. n < last) renamed left
+          (each (λ n m. m < last) (λ less. less) (λ n less not. less));
       all = λ other less. elim (cases_eq other id) [
-        | inl same ↦ subst (Has (map renamed left)) (by_cases (λ n. n ≡ other) last
-            (λ e. sym same) (λ not. absurd (not refl))) (has_map renamed left last
+        | inl same ↦ subst (Has (map renamed left)) (moved ∙ sym same) (has_map renamed left last
             (are.all last (omega arith) (λ e. omega (arith, e, same, less))))
         | inr not ↦ subst (Has (map renamed left)) (kept other (λ e. omega (arith, e, less)))
             (has_map renamed left other (are.all other (omega (arith, less)) not))

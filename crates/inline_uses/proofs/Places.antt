@@ -1,6 +1,7 @@
 -- Places among the ids of an index, and the entries between two of them.
-use Rattle.inline_uses.proofs.Names.{AreMapped, AreNumbers, Entries, HaveFirsts, Index, InlinableStringN, IsAt, IsPlace, List, Run, Some, Spot, [], ap, arith, drop, drop-cons, entries_at, entries_between, entries_in, entry_of, false, get_or, get_or-drop, get_or_from_slice_get, ids_at, ids_in, ids_of, index_of, inl, inr, is_gt, key_order, keys_of, length, length-drop, map, not, refl, runs_of, slice_get, slice_get-get_or, slice_get_within, suc, sym, take, take-suc, take_all, text_at, true, zero, ℕ, ◌&&◌, ◌++◌, ◌+◌, ◌-◌, ◌<◌, ◌∙◌, ◌∷◌, ◌≡◌, ◌≤◌, ◌⊎◌}
-use Rattle.inline_uses.proofs.InRuns.{flat, ids_at_is, later_start, next_start}
+use Rattle.std.proofs.lemmas.List.Edits.{between_more}
+use Rattle.inline_uses.proofs.Names.{AreMapped, AreNumbers, Entries, HaveFirsts, Index, InlinableStringN, IsAt, IsPlace, List, Run, Some, Spot, [], ap, arith, drop, drop-cons, entries_at, entries_between, entries_in, entry_of, false, get_or, get_or_from_slice_get, ids_at, ids_in, ids_of, index_of, inl, inr, is_gt, key_order, keys_of, length, map, not, refl, runs_of, slice_get, slice_get-get_or, slice_get_within, suc, sym, take, take_all, text_at, true, zero, ℕ, ◌&&◌, ◌++◌, ◌+◌, ◌-◌, ◌<◌, ◌∙◌, ◌∷◌, ◌≡◌, ◌≤◌, ◌⊎◌}
+use Rattle.inline_uses.proofs.InRuns.{flat, ids_at_is, later_start, next_start, own_len}
 use Rattle.inline_uses.proofs.Mapped.{read_entry}
 use Rattle.inline_uses.proofs.Numbered.{count, entry_seen, keys_seen}
 use Rattle.inline_uses.proofs.Search.{run}
@@ -9,10 +10,10 @@ use Rattle.inline_uses.proofs.Search.{run}
 has_first : (ids : List ℕ) (runs : List Run) (k : ℕ) → HaveFirsts ids runs → k < length runs
     → 0 < length (ids_at runs k)
 has_first ids [] k have less = absurd (omega (arith, less))
-has_first [] (run ∷ runs) k have less = absurd have
 has_first (id ∷ ids) (run ∷ runs) zero have less = slice_get_within (ids_of run) 0 id have.0
 has_first (id ∷ ids) (run ∷ runs) (suc k) have less =
     has_first ids runs k have.1 (omega (arith, less))
+has_first ids runs k have less = absurd have
 
 module _ (index : Index) where
   abbrev runs : List Run
@@ -41,11 +42,9 @@ module _ (index : Index) where
   module _ (from : Spot) (run : Run) (place : IsPlace index from)
       (there : slice_get runs from.run ≡ Some run)
     where
-      own : length (ids_at runs from.run) ≡ length (ids_of run)
-      own = ap length (ids_at_is runs from.run run there)
-
       pub first_here : from.at < length (ids_of run) → IsFirst from from
       first_here less =
+          let own = own_len runs from.run run there in
           record { at = record { run = place.run; within = omega (arith, own, less) }; same = refl }
 
       -- where a run ends the next one starts, and it has an id
@@ -57,7 +56,13 @@ module _ (index : Index) where
           let some = has_first (ids_of index.starts) index.later.items from.run have less in
           rw next (record {
             at = record { run = less; within = some };
-            same = omega (arith, past, place.within, own, next_start runs from.run);
+            same = omega (
+              arith,
+              past,
+              place.within,
+              own_len runs from.run run there,
+              next_start runs from.run,
+            );
           })
 
   pub has_some : (k : ℕ) → HaveFirsts (ids_of index.starts) index.later.items
@@ -65,14 +70,6 @@ module _ (index : Index) where
   has_some zero have within later = absurd (omega (arith, later))
   has_some (suc k) have within later =
       has_first (ids_of index.starts) index.later.items k have within
-
-  -- only the first run may have no ids
-  none_earlier : (k : ℕ) → HaveFirsts (ids_of index.starts) index.later.items
-      → k ≤ length index.later.items → length (ids_at runs k) ≡ 0 → length (flat (take k runs)) ≡ 0
-  none_earlier zero have within none = refl
-  none_earlier (suc k) have within none =
-      let some = has_first (ids_of index.starts) index.later.items k have within in
-      absurd (omega (arith, some, none))
 
   -- the last id before a place
   pub record IsLast (place spot : Spot) : Type 0 where
@@ -84,7 +81,7 @@ module _ (index : Index) where
       (earlier : (1 ≤ place.run) × (k ≡ place.run - 1)) (there : slice_get runs k ≡ Some run)
     where
       full : length (ids_at runs k) ≡ length (ids_of run)
-      full = ap length (ids_at_is runs k run there)
+      full = own_len runs k run there
 
       next : place.run ≡ suc k
       next = omega (arith, earlier)
@@ -99,8 +96,10 @@ module _ (index : Index) where
       pub none_before : HaveFirsts (ids_of index.starts) index.later.items
           → length (ids_of run) ≡ 0 → index_of index place ≡ 0
       none_before have none =
-          let first = none_earlier k have (omega (arith, is.run, next)) (full ∙ none) in
-          rw next (omega (arith, next_start runs k, full, none, first, start))
+          let first : k ≡ 0
+          = grind (arith, none, full, has_some k have (omega (arith, is.run, next))) in
+          let before : length (flat (take k runs)) ≡ 0 = rw first refl in
+          rw next (omega (arith, next_start runs k, full, none, before, start))
 
   -- places are in the order of their runs, and in one run of their indices there
   pub is_before : (a b : Spot) → IsAt index a
@@ -137,23 +136,20 @@ module _ (index : Index) (from end : Spot) (k count : ℕ) (run : Run)
     (is : IsCounted index from end k count) (some : k < end.run)
     (there : slice_get (runs_of index) k ≡ Some run)
   where
-    held : length (ids_at (runs_of index) k) ≡ length (ids_of run)
-    held = ap length (ids_at_is (runs_of index) k run there)
-
     pub counted_more : IsCounted index from end (k + 1) (count + length (ids_of run))
     counted_more =
         let next : k + 1 ≡ suc k = omega arith in
         rw next (
           omega (arith, is.0),
           omega (arith, some),
-          omega (arith, is.2, next_start (runs_of index) k, held),
+          omega (arith, is.2, next_start (runs_of index) k, own_len (runs_of index) k run there),
         )
 
     pub counted_within : IsPlace index end → count + length (ids_of run) ≤ length (ids_in index)
     counted_within place = omega (
       arith,
       is.2,
-      held,
+      own_len (runs_of index) k run there,
       later_start (runs_of index) k end.run some,
       within_all index end place,
     )
@@ -171,12 +167,8 @@ first_between xs i j x less is =
 last_between : {X : Type 0} (xs : List X) (i j : ℕ) (x : X) → i ≤ j → slice_get xs j ≡ Some x
     → take (j + 1 - i) (drop i xs) ≡ take (j - i) (drop i xs) ++ x ∷ []
 last_between xs i j x within is =
-    let next : j + 1 - i ≡ suc (j - i) = omega (arith, within) in
-    let place : i + (j - i) ≡ j = omega (arith, within) in
-    let less = slice_get_within xs j x is in
-    rw next (take-suc (drop i xs) (j - i) x (rw length-drop (omega (arith, within, less)))
-    ∙ ap (λ y. take (j - i) (drop i xs) ++ y ∷ []) (get_or-drop i xs (j - i) x
-    ∙ ap (λ k. get_or xs k x) place ∙ get_or_from_slice_get xs j x x is))
+    rw (get_or_from_slice_get xs j x x is)
+    at (between_more xs i j x within (slice_get_within xs j x is))
 
 -- entries by their numbers, which an index has in the order of the keys
 module _ {V : Type 0} (es : Entries V) (index : Index) (are : AreMapped es index)

@@ -1,28 +1,9 @@
 -- What edits leave of a run: a part of it, and one id more.
-use Rattle.inline_uses.proofs.Names.{All-drop, All-from_recursion, All-take, AllByRecursion, Global, IsGap, IsMark, IsOrdered, IsStrictlySortedBy, Less, List, Mark, Run, Some, Vec, [], ap, arith, drop, first_front, insert, key_order, length, length-map, map-append, recursion_from_All, refl, slice_get, slice_get-map, subst, suc, sym, take, take-append-drop, take-append_seam, zero, ℕ, ◌++◌, ◌-◌, ◌∙◌, ◌∷◌, ◌≡◌}
+use Rattle.inline_uses.proofs.Names.{AllByRecursion, Global, IsGap, IsMark, IsOrdered, IsStrictlySortedBy, Less, List, Mark, Run, Some, Vec, [], ap, arith, drop, first_front, insert, key_order, length, length-map, map-append, refl, slice_get, slice_get-map, subst, suc, sym, take, take-append-drop, zero, ℕ, ◌++◌, ◌-◌, ◌∙◌, ◌∷◌, ◌≡◌}
+use Rattle.inline_uses.proofs.Each.{all_at, all_drop, all_front, all_insert, all_take}
 use Rattle.inline_uses.proofs.Gaps.{parts_of_gap}
 use Rattle.inline_uses.proofs.IndexMarks.{between}
 use Rattle.inline_uses.proofs.IndexRuns.{AreMarks, texts_of}
-
--- a fact of each of some is one of each of a part, and of these with one more
-module _ {X : Type 0} (P : X → Type 0) where
-  pub all_take : (n : ℕ) (xs : List X) → AllByRecursion P xs → AllByRecursion P (take n xs)
-  all_take n xs all =
-      recursion_from_All P (take n xs) (All-take P n xs (All-from_recursion P xs all))
-
-  pub all_drop : (n : ℕ) (xs : List X) → AllByRecursion P xs → AllByRecursion P (drop n xs)
-  all_drop n xs all =
-      recursion_from_All P (drop n xs) (All-drop P n xs (All-from_recursion P xs all))
-
-  pub all_front : (xs ys : List X) → AllByRecursion P (xs ++ ys) → AllByRecursion P xs
-  all_front xs ys all =
-      subst (AllByRecursion P) (take-append_seam xs ys) (all_take (length xs) (xs ++ ys) all)
-
-  pub all_insert : (at : ℕ) (xs : List X) (new : X) → AllByRecursion P xs → P new
-      → AllByRecursion P (insert xs at new)
-  all_insert zero xs new all is = (is, all)
-  all_insert (suc at) [] new all is = (is, tt)
-  all_insert (suc at) (x ∷ xs) new all is = (all.0, all_insert at xs new all.1 is)
 
 -- parts of texts in order are in order, and so are these with one more where it goes
 pub sorted_parts : (front rest : List (List ℕ)) → IsStrictlySortedBy key_order (front ++ rest)
@@ -59,12 +40,6 @@ pub with_own_front : (text_of : ℕ → List ℕ) (len : ℕ) (front : List ℕ)
 with_own_front text_of len front [] are = tt
 with_own_front text_of len front (m ∷ marks) are =
     subst (λ f. AllByRecursion (IsMark text_of len f) (m ∷ marks)) (sym are.0.begins) are
-
-pub all_at : {X : Type 0} (P : X → Type 0) (xs : List X) (i : ℕ) (x : X) → AllByRecursion P xs
-    → Some x ≡ slice_get xs i → P x
-all_at P [] i x all is = cc
-all_at P (y ∷ xs) zero x all is = let same : y ≡ x = cc in subst P same all.0
-all_at P (y ∷ xs) (suc i) x all is = all_at P xs i x all.1 is
 
 -- what the first and the last of texts in order begin with, each begins with
 all_begin : (n : ℕ) (first last : List ℕ) (ts : List (List ℕ))

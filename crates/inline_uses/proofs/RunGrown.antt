@@ -1,9 +1,9 @@
 -- A run with one id more, where its text goes.
 use Rattle.inline_uses.proofs.Names.{AllByRecursion, IsGap, IsMark, IsOrdered, IsShared, IsStrictlySortedBy, List, Mark, Run, Some, [], ap, arith, drop, first_front, from_be_bytes, insert, key_order, map, slice_get, subst, sym, take, take-take, w64, ℕ, ◌∙◌, ◌∷◌, ◌≡◌, ◌≤◌}
 use Rattle.inline_uses.proofs.IndexMarks.{AreBytes}
-use Rattle.inline_uses.proofs.InRuns.{all_weaker}
 use Rattle.inline_uses.proofs.RunEdits.{sorted_insert, with_own_front}
 use Rattle.inline_uses.proofs.IndexRuns.{AreMarks, texts_of}
+use Rattle.inline_uses.proofs.Each.{all_map, all_weaker}
 use Rattle.inline_uses.proofs.Search.{inserted_seen}
 
 -- a text that begins as that of the first mark shares as much with all
@@ -12,17 +12,14 @@ pub shared_with_first : (text_of : ℕ → List ℕ) (len : ℕ) (text : List �
     → IsShared len text (texts_of text_of marks)
 shared_with_first text_of len text [] first is same = tt
 shared_with_first text_of len text (m ∷ marks) first is same =
-    let it : first ≡ m = cc in
-    subst (λ mark. take len (text_of mark.id) ≡ take len text) it same
+    let it : m ≡ first = cc in
+    rw it same
 
 -- the first id is that of the first mark
 pub first_id : (marks : List Mark) (first : Mark) (id : ℕ) → Some first ≡ slice_get marks 0
     → slice_get (map (λ m. m.id) marks) 0 ≡ Some id → first.id ≡ id
 first_id [] first id is there = cc
-first_id (m ∷ marks) first id is there =
-    let it : first ≡ m = cc in
-    let same : m.id ≡ id = cc in
-    ap (λ m. m.id) it ∙ same
+first_id (m ∷ marks) first id is there = cc
 
 -- a text with the front of marks has what they begin with
 begin_all : (text_of : ℕ → List ℕ) (n len : ℕ) (text : List ℕ) (marks : List Mark) → n ≤ len
@@ -43,12 +40,7 @@ begin_first : (text_of : ℕ → List ℕ) (n : ℕ) (front : List ℕ) (marks :
 begin_first text_of n front [] all = tt
 begin_first text_of n front (m ∷ marks) all =
     subst (λ f. AllByRecursion (λ t. take n t ≡ f) (texts_of text_of (m ∷ marks))) (sym all.0)
-    (of_texts (m ∷ marks) all)
-  where
-    of_texts : (marks : List Mark) → AllByRecursion (λ m. take n (text_of m.id) ≡ front) marks
-        → AllByRecursion (λ t. take n t ≡ front) (texts_of text_of marks)
-    of_texts [] all = tt
-    of_texts (m ∷ marks) all = (all.0, of_texts marks all.1)
+    (all_map _ text_of (map (λ m. m.id) (m ∷ marks)) (all_map _ (λ m. m.id) (m ∷ marks) all))
 
 -- marks with the front of their first text have that of any text that has it
 own_front : (text_of : ℕ → List ℕ) (len : ℕ) (text : List ℕ) (marks : List Mark)

@@ -2,9 +2,10 @@
 use Rattle.inline_uses.proofs.Names.{Global, Index, IsIndex, IsOrdered, IsStrictlySortedBy, List, Run, Some, Vec, [], ap, append_assoc, get_or, ids_at, ids_of, insert, key_order, length, length-append, map, map-append, refl, remove, runs_of, set, slice_get, slice_get_read, suc, sym, with_run, zero, ℕ, ◌++◌, ◌+◌, ◌<◌, ◌∙◌, ◌∷◌, ◌≡◌, ◌≤◌}
 use Rattle.inline_uses.proofs.InRuns.{flat, ids_at_is, sorted_rest}
 use Rattle.inline_uses.proofs.RunEdits.{sorted_parts}
-use Rattle.inline_uses.proofs.RunRemovals.{all_remove, have_removed}
-use Rattle.inline_uses.proofs.RunSets.{IsShort, all_set, index_of_runs, other_firsts_set}
+use Rattle.inline_uses.proofs.RunRemovals.{have_removed}
+use Rattle.inline_uses.proofs.RunSets.{IsShort, index_of_runs, other_firsts_set}
 use Rattle.inline_uses.proofs.Spots.{runs_with}
+use Rattle.inline_uses.proofs.Each.{all_remove, all_set}
 use Rattle.inline_uses.proofs.Tables.{before_append}
 
 -- a run is there without the next one
@@ -47,7 +48,7 @@ module _ (old next : Run) where
       (map text_of (flat later)) (rw (← map-append, append_assoc) sorted)).0
   both_in_order text_of r (n ∷ later) (suc k) is then sorted =
       both_in_order text_of n later k is then
-      (sorted_rest text_of [] (ids_of r) (flat (n ∷ later)) sorted)
+      (sorted_rest text_of (ids_of r) (flat (n ∷ later)) sorted)
 
   module _ (new : Run) where
     -- with another run and the next one in their places the runs are those with that one alone

@@ -1,18 +1,12 @@
 -- What has one id less: a run, and an index.
-use Rattle.inline_uses.proofs.Names.{AllByRecursion, HaveFirsts, Index, IsAt, IsIndex, IsOrdered, IsStrictlySortedBy, Less, List, Run, Some, Spot, [], ap, arith, common_steps, drop, drop-append_seam, get_or, get_or-map, gets, ids_at, ids_of, index_of, key_order, length, length-append, length-map, length-remove, map, nat_list_cmp_total, remove, remove-append_left, remove-append_right, runs_of, set, slice_get, slice_get-get_or, sorted_from_all_adjacent, subst, suc, sym, take, with_run, zero, ℕ, ◌++◌, ◌+◌, ◌-◌, ◌<◌, ◌∙◌, ◌∷◌, ◌≡◌, ◌≤◌}
-use Rattle.inline_uses.proofs.InRuns.{all_append, first_at, flat, ids_at_is, later_set, later_start}
+use Rattle.inline_uses.proofs.Names.{HaveFirsts, Index, IsAt, IsIndex, IsOrdered, IsStrictlySortedBy, Less, List, Run, Some, Spot, [], ap, arith, common_steps, drop, drop-append_seam, get_or, get_or-map, gets, ids_at, ids_of, index_of, key_order, length, length-append, length-map, length-remove, map, nat_list_cmp_total, remove, remove-append_left, remove-append_right, runs_of, set, slice_get, slice_get-get_or, sorted_from_all_adjacent, subst, suc, sym, take, with_run, zero, ℕ, ◌++◌, ◌+◌, ◌-◌, ◌<◌, ◌∙◌, ◌∷◌, ◌≡◌, ◌≤◌}
+use Rattle.inline_uses.proofs.InRuns.{first_at, flat, ids_at_is, in_order, later_set, later_start}
 use Rattle.inline_uses.proofs.IndexRuns.{texts_of}
-use Rattle.inline_uses.proofs.RunEdits.{all_at, all_drop, all_take, run_of_some}
-use Rattle.inline_uses.proofs.RunSets.{IsShort, all_set, changed, edit_past, flat_edit, index_of_runs}
-use Rattle.inline_uses.proofs.RunSplits.{in_order}
+use Rattle.inline_uses.proofs.RunEdits.{run_of_some}
+use Rattle.inline_uses.proofs.RunSets.{IsShort, changed, edit_past, flat_edit, index_of_runs}
 use Rattle.inline_uses.proofs.Search.{removed_seen}
+use Rattle.inline_uses.proofs.Each.{all_at, all_remove, all_set}
 use Rattle.inline_uses.proofs.Spots.{firsts_renamed, runs_with, starts_with}
-
--- a fact of each of some is one of the others if one is removed
-pub all_remove : {X : Type 0} (P : X → Type 0) (at : ℕ) (xs : List X) → AllByRecursion P xs
-    → AllByRecursion P (remove xs at)
-all_remove P at xs all = all_append P (take at xs) (drop (suc at) xs) (all_take P at xs all)
-    (all_drop P (suc at) xs all)
 
 -- the others stay in order
 pub sorted_remove : (at : ℕ) (ts : List (List ℕ)) → IsStrictlySortedBy key_order ts

@@ -1,7 +1,8 @@
 -- An index in which one run is changed.
-use Rattle.inline_uses.proofs.Names.{All-from_recursion, All-set, AllByRecursion, HaveFirsts, Index, IsGap, IsIndex, IsOrdered, IsStrictlySortedBy, List, Run, Some, [], ap, arith, common_steps, drop, flat_map-append, get_or, get_or-append-add, get_or_append_left, gets, ids_of, insert, insert-append_left, insert-append_right, key_order, length, length-append, length-insert, length-map, map, map-append, recursion_from_All, refl, runs_of, set, slice_get, subst, suc, sym, take, zero, ℕ, ◌++◌, ◌+◌, ◌-◌, ◌<◌, ◌∙◌, ◌∷◌, ◌≡◌, ◌≤◌}
-use Rattle.inline_uses.proofs.InRuns.{flat, flat_at, set_around}
-use Rattle.inline_uses.proofs.RunEdits.{all_at, sorted_insert}
+use Rattle.inline_uses.proofs.Names.{AllByRecursion, HaveFirsts, Index, IsGap, IsIndex, IsOrdered, IsStrictlySortedBy, List, Run, Some, [], ap, arith, common_steps, drop, flat_map-append, gets, ids_of, insert, insert-append_left, insert-append_right, key_order, length, length-insert, length-map, map, refl, runs_of, set, slice_get, subst, suc, sym, take, zero, ℕ, ◌++◌, ◌+◌, ◌-◌, ◌<◌, ◌∙◌, ◌∷◌, ◌≡◌, ◌≤◌}
+use Rattle.inline_uses.proofs.InRuns.{flat, flat_at, own_text, set_around, texts_count}
+use Rattle.inline_uses.proofs.RunEdits.{sorted_insert}
+use Rattle.inline_uses.proofs.Each.{all_at, all_set}
 use Rattle.inline_uses.proofs.Search.{inserted_seen}
 
 -- where a text goes among all, it goes in its run
@@ -10,24 +11,15 @@ pub gap_in_run : (text_of : ℕ → List ℕ) (text : List ℕ) (runs : List Run
     → IsGap (map text_of (flat runs)) text (length (flat (take k runs)) + at)
     → IsGap (map text_of (ids_of run)) text at
 gap_in_run text_of text runs k at run is within gap =
-    let before = map text_of (flat (take k runs)) in
-    let own = map text_of (ids_of run) in
-    let after = map text_of (flat (drop (suc k) runs)) in
     let start = length (flat (take k runs)) in
-    let whole : map text_of (flat runs) ≡ before ++ (own ++ after)
-    = ap (map text_of) (flat_at runs k run is) ∙ rw (map-append, map-append) refl in
-    let count : length before ≡ start = length-map (flat (take k runs)) text_of in
-    let all : length (map text_of (flat runs)) ≡ start + (length own + length after)
-    = rw (whole, length-append, length-append, count) refl in
-    let seen : (i : ℕ) → i < length own
-    → get_or (map text_of (flat runs)) (start + i) [] ≡ get_or own i []
-    = λ i less. rw (whole, ← count) (get_or-append-add before (own ++ after) i []
-    ∙ get_or_append_left own after [] i less) in (
+    let seen = own_text text_of runs k run is in
+    let all = texts_count text_of runs k run is in (
       rw length-map within,
-      (λ i less. rw (← seen i (rw length-map (omega (arith, less, within))))
+      (λ i less. rw (← seen i (omega (arith, less, within)))
           (gap.1 (start + i) (omega (arith, less)))),
       λ i le less.
-          rw (← seen i less) (gap.2 (start + i) (omega (arith, le)) (omega (arith, all, less))),
+          let inside = rw length-map at less in
+          rw (← seen i inside) (gap.2 (start + i) (omega (arith, le)) (omega (arith, all, inside))),
     )
 
 -- an edit of a list with others before it is one of that list
@@ -66,11 +58,6 @@ pub flat_same : (runs : List Run) (k : ℕ) (old new : Run) → slice_get runs k
     → ids_of new ≡ ids_of old → flat (set runs k new) ≡ flat runs
 flat_same runs k old new is same = flat_edit (λ ids i. ids) (λ front rest n at count past. refl)
     runs k 0 old new is (λ rest. refl) same
-
-pub all_set : {X : Type 0} (P : X → Type 0) (xs : List X) (k : ℕ) (new : X) → AllByRecursion P xs
-    → P new → AllByRecursion P (set xs k new)
-all_set P xs k new all is =
-    recursion_from_All P (set xs k new) (All-set P xs k new is (All-from_recursion P xs all))
 
 -- a run has the first id of another, if that has one
 abbrev KeepsFirst : Run → Run → Type 0

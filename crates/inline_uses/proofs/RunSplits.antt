@@ -1,19 +1,18 @@
 -- An index in which a run is split.
-use Rattle.inline_uses.proofs.Names.{AllByRecursion, AllocError, Err, HaveFirsts, IfOk, Index, IsChanged, IsGap, IsIndex, IsOrdered, IsSplit, IsSpot, IsStrictlySortedBy, Less, Less-from_sorted, List, Ok, OnErr, OnOk, Result, Run, Some, Spot, [], add-one, ap, append-nil, append_assoc, arith, cases_lt, common_steps, drop, get_or, get_or-map, get_or_from_slice_get, gets, ids_at, ids_in, ids_of, index_of, inl, inr, insert, key_order, length, length-append, length-drop, length-map, length-take-le, map, refl, runs_of, set, slice_get, slice_get-get_or, slice_get-map, slice_get_within, subst, suc, sym, take, take-append-drop, zero, ℕ, ◌++◌, ◌+◌, ◌-◌, ◌<◌, ◌∙◌, ◌∷◌, ◌≡◌, ◌≤◌}
+use Rattle.inline_uses.proofs.Names.{AllByRecursion, AllocError, Err, HaveFirsts, IfOk, Index, IsChanged, IsGap, IsIndex, IsOrdered, IsSplit, IsSpot, IsStrictlySortedBy, List, Ok, OnErr, OnOk, Result, Run, Some, Spot, [], add-one, ap, append_assoc, arith, cases_lt, common_steps, drop, get_or, get_or-map, gets, ids_at, ids_in, ids_of, index_of, inl, inr, insert, key_order, length, length-drop, length-map, length-take-le, map, refl, runs_of, set, slice_get, slice_get-get_or, slice_get_within, subst, suc, sym, take, take-append-drop, zero, ℕ, ◌++◌, ◌+◌, ◌-◌, ◌<◌, ◌∙◌, ◌∷◌, ◌≡◌, ◌≤◌}
 use Rattle.inline_uses.proofs.Gaps.{turned}
-use Rattle.inline_uses.proofs.InRuns.{IsReplaced, first_at, flat, have_length, ids_at_is, in_flat, later_start, next_start}
-use Rattle.inline_uses.proofs.RunEdits.{all_insert}
-use Rattle.inline_uses.proofs.RunSets.{IsShort, all_set, other_firsts_set, with_same}
+use Rattle.inline_uses.proofs.InRuns.{IsReplaced, first_at, flat, have_length, ids_at_is, in_flat, in_order, later_start, next_start}
+use Rattle.inline_uses.proofs.Each.{all_insert, all_set}
+use Rattle.inline_uses.proofs.RunSets.{IsShort, other_firsts_set, with_same}
 
 -- a run more has its first id among the first ids
 firsts_insert : (ids : List ℕ) (runs : List Run) (k first : ℕ) (new : Run) → HaveFirsts ids runs
     → slice_get (ids_of new) 0 ≡ Some first → HaveFirsts (insert ids k first) (insert runs k new)
 firsts_insert ids runs zero first new have next = (next, have)
 firsts_insert [] [] (suc k) first new have next = (next, tt)
-firsts_insert [] (r ∷ runs) (suc k) first new have next = absurd have
-firsts_insert (id ∷ ids) [] (suc k) first new have next = absurd have
 firsts_insert (id ∷ ids) (r ∷ runs) (suc k) first new have next =
     (have.0, firsts_insert ids runs k first new have.1 next)
+firsts_insert ids runs (suc k) first new have next = absurd have
 
 first_of_front : (ids : List ℕ) (h : ℕ) → 0 < h → slice_get (take h ids) 0 ≡ slice_get ids 0
 first_of_front ids h some = grind (arith, common_steps, gets, some)
@@ -23,20 +22,6 @@ first_of_rest ids h = grind (arith, common_steps, gets)
 
 -- where the first id of the upper part goes among the others
 module _ (text_of : ℕ → List ℕ) where
-  -- an earlier id has a lesser text
-  pub in_order : (ids : List ℕ) (i j x y : ℕ) → IsStrictlySortedBy key_order (map text_of ids)
-      → i < j → slice_get ids i ≡ Some x → slice_get ids j ≡ Some y
-      → key_order (text_of x) (text_of y) ≡ Less
-  in_order ids i j x y sorted less first second =
-      let texts = map text_of ids in
-      let one : slice_get texts i ≡ Some (text_of x) = rw (slice_get-map, first) refl in
-      let other : slice_get texts j ≡ Some (text_of y) = rw (slice_get-map, second) refl in
-      rw (
-        get_or_from_slice_get texts i (text_of x) [] one,
-        get_or_from_slice_get texts j (text_of y) [] other,
-      ) at (Less-from_sorted key_order texts i j
-      [] sorted less (slice_get_within texts j (text_of y) other))
-
   -- an id of a run that is not its first goes among the first ids where its run is
   start_gap : (x at : ℕ) (ids : List ℕ) (runs : List Run) (k : ℕ) (old : Run)
       → IsStrictlySortedBy key_order (map text_of (flat runs)) → HaveFirsts ids (drop 1 runs)
@@ -51,13 +36,14 @@ module _ (text_of : ℕ → List ℕ) where
         (λ i less.
             let within : i < length ids = omega (arith, less, most) in
             rw (get_or-map text_of ids i 0 [] within) (turned (text_of (get_or ids i 0)) (text_of x)
-            (in_order (flat runs) _ _ (get_or ids i 0) x sorted
+            (in_order text_of (flat runs) _ _ (get_or ids i 0) x sorted
             (omega (arith, past, next_start runs i, later_start runs i k less)) (first i within)
             here))),
         λ i le less.
             let within : i < length ids = rw length-map at less in
-            rw (get_or-map text_of ids i 0 [] within) (in_order (flat runs) _ _ x (get_or ids i 0)
-            sorted (omega (arith, own, later_start runs k (suc i) (omega (arith, le)))) here
+            rw (get_or-map text_of ids i 0 [] within) (in_order text_of (flat runs) _ _ x
+            (get_or ids i 0) sorted
+            (omega (arith, own, later_start runs k (suc i) (omega (arith, le)))) here
             (first i within)),
       )
 
@@ -164,10 +150,9 @@ module _ {text_of : ℕ → List ℕ} {index roomy parted : Index}
             ready.index.firsts to.there (λ past id here. ap (λ ids. slice_get ids 0)
             split.lower.changed ∙ first_of_front (ids_of old) kept some ∙ here)))
 
-        -- where the ids of runs are after the one at k is split
+        -- runs, of which the one at k was split
         abbrev Parts : List Run → ℕ → List Run → Type 0
-        Parts runs k rs = (flat rs ≡ flat runs) × (flat (take k rs) ≡ flat (take k runs))
-            × (length (flat (take (suc k) rs)) ≡ length (flat (take k runs)) + kept)
+        Parts runs k rs = (flat rs ≡ flat runs) × (take k rs ≡ take k runs)
             × (ids_at rs k ≡ ids_of lower) × (ids_at rs (suc k) ≡ ids_of upper)
             × (length rs ≡ suc (length runs))
 
@@ -181,7 +166,6 @@ module _ {text_of : ℕ → List ℕ} {index roomy parted : Index}
               sym (append_assoc (ids_of lower) (ids_of upper) (flat runs))
                   ∙ ap (λ ids. ids ++ flat runs) whole,
               refl,
-              rw (append-nil, lower_count) (omega arith),
               refl,
               refl,
               refl,
@@ -189,11 +173,10 @@ module _ {text_of : ℕ → List ℕ} {index roomy parted : Index}
         parts_are (r ∷ runs) (suc k) is =
             let rest = parts_are runs k is in (
               ap (λ ids. ids_of r ++ ids) rest.0,
-              ap (λ ids. ids_of r ++ ids) rest.1,
-              rw (length-append, length-append) (omega (arith, rest.2)),
+              ap (λ rs. r ∷ rs) rest.1,
+              rest.2,
               rest.3,
-              rest.4,
-              ap suc rest.5,
+              ap suc rest.4,
             )
 
         -- with the upper part as a run, the spot is in one of the parts
@@ -227,22 +210,24 @@ module _ {text_of : ℕ → List ℕ} {index roomy parted : Index}
                       let by = moves past in
                       let run = by.0 ∙ add-one spot.run in
                       let part : length (ids_at (runs_of after) moved.run) ≡ 256 - kept
-                      = rw (run, parts.4) upper_count in (
+                      = rw (run, parts.3) upper_count in
+                      let start = rw (parts.1, parts.2) at (next_start (runs_of after) spot.run)
+                      in (
                         omega (arith, part, some),
                         record {
-                          run = omega (arith, within, run, parts.5);
+                          run = omega (arith, within, run, parts.4);
                           within = rw part (omega (arith, by.1, spot_is.within, full));
                           after = λ later. omega (arith, past, by.1);
                         },
-                        rw (run, parts.2) (omega (arith, by.1)),
+                        rw run (omega (arith, by.1, start, lower_count)),
                       )
                   | inr le ↦
                       let part : length (ids_at (runs_of after) spot.run) ≡ kept
-                      = rw parts.3 lower_count in
+                      = rw parts.2 lower_count in
                       rw (stays le) (
                         omega (arith, part, less),
                         record {
-                          run = omega (arith, within, parts.5);
+                          run = omega (arith, within, parts.4);
                           within = rw part le;
                           after = spot_is.after;
                         },

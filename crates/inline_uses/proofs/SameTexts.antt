@@ -1,7 +1,7 @@
 -- An index over other texts, or with other ids, whose ids have the texts that its ids had.
-use Rattle.inline_uses.proofs.Names.{AllByRecursion, Global, HaveFirsts, Index, IsIndex, IsMark, IsOrdered, IsStrictlySortedBy, List, Mark, Run, Some, Vec, [], ap, arith, drop, first_front, from_be_bytes, ids_in, ids_of, key_order, length, map, option_map, refl, runs_of, set, slice_get, slice_get-map, subst, suc, sym, take, w64, zero, ℕ, ⊤, ◌++◌, ◌∙◌, ◌∷◌, ◌≡◌, ◌≤◌}
+use Rattle.std.specs.List.{AllZip}
+use Rattle.inline_uses.proofs.Names.{AllByRecursion, Global, HaveFirsts, Index, IsIndex, IsMark, IsOrdered, IsStrictlySortedBy, List, Mark, Run, Some, Vec, [], ap, arith, drop, first_front, ids_in, ids_of, key_order, length, map, refl, runs_of, set, slice_get, slice_get-map, subst, suc, sym, zero, ℕ, ◌++◌, ◌∙◌, ◌∷◌, ◌≡◌}
 use Rattle.inline_uses.proofs.InRuns.{flat}
-use Rattle.inline_uses.proofs.IndexMarks.{AreBytes}
 use Rattle.inline_uses.proofs.RunSets.{IsShort}
 
 module _ (f g : ℕ → List ℕ) where
@@ -16,12 +16,12 @@ module _ (f g : ℕ → List ℕ) where
   renamed_marks len front olds [] bits same are = tt
   renamed_marks len front [] (n ∷ news) bits same are = cc
   renamed_marks len front (m ∷ olds) (n ∷ news) bits same are =
-      let text : f m.id ≡ g n.id = cc in
+      let text : g n.id ≡ f m.id = cc in
       let number : n.bits ≡ m.bits = cc in (
         record {
-          begins = subst (λ t. take len t ≡ front) text are.0.begins;
-          bits = number ∙ subst (λ t. m.bits ≡ from_be_bytes w64 (drop len t)) text are.0.bits;
-          bytes = subst AreBytes text are.0.bytes;
+          begins = rw text are.0.begins;
+          bits = rw text (number ∙ are.0.bits);
+          bytes = rw text are.0.bytes;
         },
         renamed_marks len front olds news (ap (drop 1) bits) (ap (drop 1) same) are.1,
       )
@@ -46,9 +46,7 @@ module _ (f g : ℕ → List ℕ) where
   IsRenamed old new = (length (ids_of new) ≡ length (ids_of old)) × StaysOrdered old new
 
   abbrev pub AreRenamed : List Run → List Run → Type 0
-  AreRenamed [] [] = ⊤
-  AreRenamed (old ∷ olds) (new ∷ news) = IsRenamed old new × AreRenamed olds news
-  AreRenamed _ _ = ⊥
+  AreRenamed = AllZip IsRenamed
 
   pub same_run : (run : Run) → IsRenamed run run
   same_run run = (refl, renamed_run run run.marks refl)
@@ -70,44 +68,38 @@ module _ (f g : ℕ → List ℕ) where
   parted : (olds news xs ys : List ℕ) → length news ≡ length olds
       → HaveTexts (olds ++ xs) (news ++ ys) → HaveTexts olds news × HaveTexts xs ys
   parted [] [] xs ys as_many same = (refl, same)
-  parted [] (n ∷ news) xs ys as_many same = cc
-  parted (m ∷ olds) [] xs ys as_many same = cc
   parted (m ∷ olds) (n ∷ news) xs ys as_many same =
-      let head : g n ≡ f m = cc in
       let rest = parted olds news xs ys (omega (arith, as_many)) (ap (drop 1) same) in
-      (ap (λ t. t ∷ map g news) head ∙ ap (λ ts. f m ∷ ts) rest.0, rest.1)
+      (cc, rest.1)
+  parted olds news xs ys as_many same = cc
 
   runs_renamed : (olds news : List Run) → AreRenamed olds news → HaveTexts (flat olds) (flat news)
       → AllByRecursion (IsOrdered f) olds → AllByRecursion IsShort olds
       → AllByRecursion (IsOrdered g) news × AllByRecursion IsShort news
   runs_renamed [] [] are same ordered short = (tt, tt)
-  runs_renamed [] (n ∷ news) are same ordered short = absurd are
-  runs_renamed (m ∷ olds) [] are same ordered short = absurd are
   runs_renamed (m ∷ olds) (n ∷ news) are same ordered short =
       let parts = parted (ids_of m) (ids_of n) (flat olds) (flat news) are.0.0 same in
       let rest = runs_renamed olds news are.1 parts.1 ordered.1 short.1 in (
         (are.0.1 ordered.0 parts.0, rest.0),
-        (subst (λ count. count ≤ 256) (sym are.0.0) short.0, rest.1),
+        (omega (arith, are.0.0, short.0), rest.1),
       )
+  runs_renamed olds news are same ordered short = absurd are
 
   firsts_renamed : (ms ns : List ℕ) (olds news : List Run) → AreRenamed olds news
       → HaveTexts (flat olds) (flat news) → HaveFirsts ms olds → HaveFirsts ns news
       → HaveTexts ms ns
   firsts_renamed [] [] olds news are same have now = refl
-  firsts_renamed [] (n ∷ ns) [] [] are same have now = absurd now
-  firsts_renamed [] (n ∷ ns) [] (new ∷ news) are same have now = absurd are
-  firsts_renamed ms ns (old ∷ olds) [] are same have now = absurd are
-  firsts_renamed [] ns (old ∷ olds) (new ∷ news) are same have now = absurd have
-  firsts_renamed (m ∷ ms) ns [] news are same have now = absurd have
-  firsts_renamed (m ∷ ms) [] (old ∷ olds) (new ∷ news) are same have now = absurd now
   firsts_renamed (m ∷ ms) (n ∷ ns) (old ∷ olds) (new ∷ news) are same have now =
       let parts = parted (ids_of old) (ids_of new) (flat olds) (flat news) are.0.0 same in
       let rest = firsts_renamed ms ns olds news are.1 parts.1 have.1 now.1 in
       let head : Some (g n) ≡ Some (f m)
-      = sym (slice_get-map g (ids_of new) 0 ∙ ap (option_map g) now.0)
-      ∙ ap (λ ts. slice_get ts 0) parts.0 ∙ slice_get-map f (ids_of old) 0
-      ∙ ap (option_map f) have.0 in
+      = rw (slice_get-map, now.0, slice_get-map, have.0) at (ap (λ ts. slice_get ts 0) parts.0) in
       cc
+  firsts_renamed ms ns (old ∷ olds) [] are same have now = absurd are
+  firsts_renamed ms ns [] (new ∷ news) are same have now = absurd are
+  firsts_renamed [] ns (old ∷ olds) news are same have now = absurd have
+  firsts_renamed (m ∷ ms) ns [] [] are same have now = absurd have
+  firsts_renamed ms ns olds news are same have now = absurd now
 
   -- an index stays one if its runs, and the run of the first ids, have other ids
   pub renamed_index : (before after : Index) → AreRenamed (runs_of before) (runs_of after)

@@ -1,6 +1,6 @@
 -- Spots of ids: where they are among all ids, and other ids there.
-use Rattle.inline_uses.proofs.Names.{AllocError, Err, HaveFirsts, Index, IsAt, IsGap, IsIndex, IsOrdered, IsSpot, List, Ok, OnErr, OnOk, Result, Run, Some, Spot, [], ap, arith, common_steps, drop, gets, ids_at, ids_in, ids_of, index_of, insert, length, length-map, length-set, map, refl, runs_of, set, set-append_left, set-append_right, slice_get, slice_get_within, subst, suc, sym, with_item, with_run, zero, ℕ, ⊤, ◌+◌, ◌-◌, ◌<◌, ◌∙◌, ◌∷◌, ◌≡◌}
-use Rattle.inline_uses.proofs.InRuns.{after_first, flat, found_with, gap_in_flat, id_of_text, ids_at_is, later_set, later_there, run_of_first, run_within, text_in_flat}
+use Rattle.inline_uses.proofs.Names.{AllocError, Err, HaveFirsts, Index, IsAt, IsGap, IsIndex, IsOrdered, IsSpot, List, Ok, OnErr, OnOk, Result, Run, Some, Spot, [], ap, arith, common_steps, drop, gets, ids_at, ids_in, ids_of, index_of, insert, length, length-map, length-set, map, refl, runs_of, set, set-append_left, set-append_right, slice_get, slice_get-map, slice_get_within, subst, suc, sym, with_item, with_run, zero, ℕ, ⊤, ◌+◌, ◌-◌, ◌<◌, ◌∙◌, ◌∷◌, ◌≡◌}
+use Rattle.inline_uses.proofs.InRuns.{after_first, flat, gap_in_flat, id_of_text, ids_at_is, later_set, later_there, run_of_first, run_within, text_in_flat}
 use Rattle.inline_uses.proofs.RunSets.{flat_edit, gap_in_run, other_firsts_set, with_more, with_same}
 use Rattle.inline_uses.proofs.SameTexts.{AreRenamed, HaveTexts, IsRenamed, StaysOrdered, one_renamed, renamed_index, same_run}
 
@@ -37,7 +37,7 @@ module _ (text_of : ℕ → List ℕ) (text : List ℕ) (index : Index) where
       found_spot (record { run = at + 1; at = 0 }) first.0
       (later_there index.first index.later.items (at + 1) first.0 (omega arith)
       (ap (slice_get index.later.items) before ∙ first.1))
-      (found_with text_of text (ids_of first.0) 0 id.0 first.2 id.2)
+      (rw (slice_get-map, first.2) id.2)
 
   -- where a text goes in the run in which it goes is a spot, and there it goes among all
   pub gap_spot : (spot : Spot) (run : Run) → slice_get (runs_of index) spot.run ≡ Some run

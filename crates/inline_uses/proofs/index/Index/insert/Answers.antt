@@ -1,6 +1,6 @@
 use Rattle.inline_uses.proofs.Names.{arith, runs_of, sym}
 use Rattle.inline_uses.proofs.InRuns.{ids_at_is}
-use Rattle.inline_uses.proofs.RunEdits.{all_at}
+use Rattle.inline_uses.proofs.Each.{all_at}
 use Rattle.inline_uses.proofs.RunSets.{IsShort}
 use Rattle.inline_uses.proofs.index.Index.insert.Goals as goal
 

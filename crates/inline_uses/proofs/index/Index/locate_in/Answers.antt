@@ -1,6 +1,6 @@
 use Rattle.inline_uses.proofs.Names.{IsOrdered, ids_of, runs_of, sym}
 use Rattle.inline_uses.proofs.InRuns.{run_within}
-use Rattle.inline_uses.proofs.RunEdits.{all_at}
+use Rattle.inline_uses.proofs.Each.{all_at}
 use Rattle.inline_uses.proofs.Spots.{found_spot, gap_spot}
 use Rattle.inline_uses.proofs.index.Index.locate_in.Goals as goal
 

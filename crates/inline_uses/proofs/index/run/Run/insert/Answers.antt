@@ -1,5 +1,5 @@
 use Rattle.inline_uses.proofs.Names.{AllByRecursion, subst, sym, ◌∙◌}
-use Rattle.inline_uses.proofs.RunEdits.{all_insert}
+use Rattle.inline_uses.proofs.Each.{all_insert}
 use Rattle.inline_uses.proofs.RunGrown.{ids_grown, run_shared, run_with, sorted_grown}
 use Rattle.inline_uses.proofs.index.run.Run.insert.Goals as goal
 

@@ -1,6 +1,6 @@
 use Rattle.inline_uses.proofs.Names.{map-set, refl, ◌∙◌}
+use Rattle.inline_uses.proofs.Each.{all_set}
 use Rattle.inline_uses.proofs.RunGrown.{run_shared, run_with}
-use Rattle.inline_uses.proofs.RunSets.{all_set}
 use Rattle.inline_uses.proofs.index.run.Run.replace.Goals as goal
 
 pub mark_after-requires-clause-sorted : goal.mark_after-requires-clause-sorted
