@@ -4,6 +4,7 @@ use Rattle.inline_uses.proofs.Names.{HaveFirsts, Index, inl, inr, subst, IsGap, 
 use Rattle.inline_uses.proofs.Gaps.{turned, turned_back}
 use Rattle.inline_uses.proofs.RunEdits.{sorted_parts}
 use Rattle.inline_uses.proofs.Tables.{before_append}
+use Rattle.inline_uses.proofs.Owned.{have_length, ids_at_got, ids_got}
 
 -- the ids of runs
 abbrev pub flat : List Run → List ℕ
@@ -23,11 +24,6 @@ module _ {X : Type 0} where
       → xs ≡ take at xs ++ x ∷ drop (suc at) xs
   around xs at x is = sym (set-get_or xs at x)
       ∙ ap (set xs at) (get_or_from_slice_get xs at x x is) ∙ set_around xs at x x is
-
-pub have_length : (ids : List ℕ) (runs : List Run) → HaveFirsts ids runs → length ids ≡ length runs
-have_length [] [] have = refl
-have_length (id ∷ ids) (run ∷ runs) have = ap suc (have_length ids runs have.1)
-have_length ids runs have = absurd have
 
 -- the ids are those before a run, its own, and those after it
 pub flat_at : (runs : List Run) (k : ℕ) (run : Run) → slice_get runs k ≡ Some run
@@ -57,9 +53,7 @@ run_of_first (i ∷ ids) (run ∷ runs) (suc k) id have is = run_of_first ids ru
 -- the ids of the run at an index
 pub ids_at_is : (runs : List Run) (k : ℕ) (run : Run) → slice_get runs k ≡ Some run
     → ids_at runs k ≡ ids_of run
-ids_at_is [] k run is = cc
-ids_at_is (r ∷ runs) zero run is = let same : r ≡ run = cc in ap ids_of same
-ids_at_is (r ∷ runs) (suc k) run is = ids_at_is runs k run is
+ids_at_is runs k run is = ids_at_got runs k ∙ ap ids_got is
 
 pub own_len : (runs : List Run) (k : ℕ) (run : Run) → slice_get runs k ≡ Some run
     → length (ids_at runs k) ≡ length (ids_of run)

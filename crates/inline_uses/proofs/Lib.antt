@@ -14,6 +14,7 @@ pub mod MapTexts
 pub mod Mapped
 pub mod Members
 pub mod Names
+pub mod Owned
 pub mod Numbered
 pub mod Places
 pub mod Pushed

@@ -6,7 +6,8 @@ use Rattle.inline_uses.proofs.RunEdits.{run_of_some}
 use Rattle.inline_uses.proofs.RunSets.{IsShort, changed, edit_past, flat_edit, index_of_runs}
 use Rattle.inline_uses.proofs.Search.{removed_seen}
 use Rattle.inline_uses.proofs.Each.{all_at, all_remove, all_set}
-use Rattle.inline_uses.proofs.Spots.{firsts_renamed, runs_with, starts_with}
+use Rattle.inline_uses.proofs.Owned.{starts_with}
+use Rattle.inline_uses.proofs.Spots.{firsts_renamed, runs_with}
 
 -- the others stay in order
 pub sorted_remove : (at : ℕ) (ts : List (List ℕ)) → IsStrictlySortedBy key_order ts
@@ -37,12 +38,6 @@ flat_gone (r ∷ runs) (suc k) one = ap (λ ids. ids_of r ++ ids) (flat_gone run
     ∙ sym (edit_past remove remove-append_right (ids_of r) (flat runs)
     (length (flat (take k runs))))
     ∙ ap (remove (ids_of r ++ flat runs)) (sym (length-append (ids_of r) (flat (take k runs))))
-
--- a run that has ids is there
-pub run_there : (runs : List Run) (k : ℕ) → 0 < length (ids_at runs k) → k < length runs
-run_there [] k some = absurd (omega (arith, some))
-run_there (r ∷ runs) zero some = omega arith
-run_there (r ∷ runs) (suc k) some = omega (arith, run_there runs k some)
 
 first_left : (ids : List ℕ) (at : ℕ) → 0 < at → slice_get (remove ids at) 0 ≡ slice_get ids 0
 first_left ids at past = grind (arith, common_steps, gets, past)

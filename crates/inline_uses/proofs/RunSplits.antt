@@ -1,8 +1,9 @@
 -- An index in which a run is split.
 use Rattle.inline_uses.proofs.Names.{AllByRecursion, AllocError, Err, HaveFirsts, IfOk, Index, IsChanged, IsGap, IsIndex, IsOrdered, IsSplit, IsSpot, IsStrictlySortedBy, List, Ok, OnErr, OnOk, Result, Run, Some, Spot, [], add-one, ap, append_assoc, arith, cases_lt, common_steps, drop, get_or, get_or-map, gets, ids_at, ids_in, ids_of, index_of, inl, inr, insert, key_order, length, length-drop, length-map, length-take-le, map, refl, runs_of, set, slice_get, slice_get-get_or, slice_get_within, subst, suc, sym, take, take-append-drop, zero, ℕ, ◌++◌, ◌+◌, ◌-◌, ◌<◌, ◌∙◌, ◌∷◌, ◌≡◌, ◌≤◌}
 use Rattle.inline_uses.proofs.Gaps.{turned}
-use Rattle.inline_uses.proofs.InRuns.{IsReplaced, first_at, flat, have_length, ids_at_is, in_flat, in_order, later_start, next_start}
+use Rattle.inline_uses.proofs.InRuns.{IsReplaced, first_at, flat, ids_at_is, in_flat, in_order, later_start, next_start}
 use Rattle.inline_uses.proofs.Each.{all_insert, all_set}
+use Rattle.inline_uses.proofs.Owned.{have_length}
 use Rattle.inline_uses.proofs.RunSets.{IsShort, other_firsts_set, with_same}
 
 -- a run more has its first id among the first ids

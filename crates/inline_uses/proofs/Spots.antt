@@ -1,8 +1,9 @@
 -- Spots of ids: where they are among all ids, and other ids there.
 use Rattle.inline_uses.proofs.Names.{AllocError, Err, HaveFirsts, Index, IsAt, IsGap, IsIndex, IsOrdered, IsSpot, List, Ok, OnErr, OnOk, Result, Run, Some, Spot, [], ap, arith, common_steps, drop, gets, ids_at, ids_in, ids_of, index_of, insert, length, length-map, length-set, map, refl, runs_of, set, set-append_left, set-append_right, slice_get, slice_get-map, slice_get_within, subst, suc, sym, with_item, with_run, zero, ℕ, ⊤, ◌+◌, ◌-◌, ◌<◌, ◌∙◌, ◌∷◌, ◌≡◌}
-use Rattle.inline_uses.proofs.InRuns.{after_first, flat, gap_in_flat, id_of_text, ids_at_is, later_set, later_there, run_of_first, run_within, text_in_flat}
+use Rattle.inline_uses.proofs.InRuns.{IsReplaced, after_first, flat, gap_in_flat, id_of_text, ids_at_is, later_set, later_there, run_of_first, run_within, text_in_flat}
 use Rattle.inline_uses.proofs.RunSets.{flat_edit, gap_in_run, other_firsts_set, with_more, with_same}
 use Rattle.inline_uses.proofs.SameTexts.{AreRenamed, HaveTexts, IsRenamed, StaysOrdered, one_renamed, renamed_index, same_run}
+use Rattle.inline_uses.proofs.Owned.{starts_with}
 
 -- a text beside an index
 module _ (text_of : ℕ → List ℕ) (text : List ℕ) (index : Index) where
@@ -69,9 +70,9 @@ pub runs_with : (index : Index) (k : ℕ) (run : Run)
 runs_with index zero run = refl
 runs_with index (suc k) run = refl
 
-pub starts_with : (index : Index) (k : ℕ) (run : Run) → (with_run index k run).starts ≡ index.starts
-starts_with index zero run = refl
-starts_with index (suc k) run = refl
+pub run_replaced : (index : Index) (k : ℕ) (old new : Run) → slice_get (runs_of index) k ≡ Some old
+    → IsReplaced index (with_run index k new) k old new
+run_replaced index k old new there = record { there = there; runs = runs_with index k new }
 
 -- where a text goes among all
 module _ (text_of : ℕ → List ℕ) (index : Index) (spot : Spot) (id : ℕ) (old : Run)

@@ -55,6 +55,7 @@ pub(crate) struct Spot {
     at: usize,
 }
 
+#[tactic(auto, using(crate::proofs::Owned::runs_known))]
 impl Index {
     /// Returns the index of no text.
     pub(crate) fn new(alloc: Global) -> Self

@@ -8,6 +8,7 @@ use super::mark::compare_texts;
 use super::{Index, Spot, Texts};
 use std::cmp::Ordering;
 
+#[tactic(auto, using(crate::proofs::Owned::runs_known))]
 impl Index {
     /// Returns the place before all ids.
     pub(crate) fn start(&self) -> Spot

@@ -8,6 +8,7 @@ use super::{HALF, Index, Spot, Texts, insert_run};
 /// A run with fewer ids than this joins a neighbour, if both together have at most `HALF`.
 const SHORT: usize = 64;
 
+#[tactic(auto, using(crate::proofs::Owned::runs_known))]
 impl Index {
     /// Removes the id at a spot. Cannot fail: where runs that have become short can be joined, and
     /// memory for it can't be had, they stay apart.

@@ -5,6 +5,7 @@ ghost use Rattle.inline_uses.specs.Index.{HaveFirsts, IsAt, IsIndex, IsSpot, ids
 
 use super::{Index, Spot, Texts};
 
+#[tactic(auto, using(crate::proofs::Owned::runs_known))]
 impl Index {
     /// Returns the spot of a text's id, or else the one where its id goes.
     #[inline]
@@ -26,7 +27,7 @@ impl Index {
 
     /// Locates a text in an index of several runs.
     #[inline(never)]
-    #[tactic(auto, using(crate::proofs::Spots::first_spot))]
+    #[tactic(auto, using(crate::proofs::Spots::first_spot, crate::proofs::Owned::runs_known))]
     pub(super) fn locate_among_runs<T: Texts>(&self, texts: &T, text: &str) -> Result<Spot, Spot>
         requires { IsIndex (T.text_of texts.now) self.now }
         ensures at { IfOk result (IsAt self.now) }
@@ -72,7 +73,7 @@ impl Index {
     }
 
     /// Puts another id in place of the one at a spot, for the same text.
-    #[tactic(auto, using(crate::proofs::Spots::ids_renamed))]
+    #[tactic(auto, using(crate::proofs::Spots::ids_renamed, crate::proofs::Owned::runs_known))]
     pub(crate) fn rename(&mut self, spot: Spot, id: usize)
         requires firsts { HaveFirsts (ids_of self.old.starts) self.old.later.items }
         requires at { IsAt self.old spot }

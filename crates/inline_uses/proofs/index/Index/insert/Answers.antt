@@ -4,11 +4,6 @@ use Rattle.inline_uses.proofs.Each.{all_at}
 use Rattle.inline_uses.proofs.RunSets.{IsShort}
 use Rattle.inline_uses.proofs.index.Index.insert.Goals as goal
 
-pub insert_at-requires-clause-room : goal.insert_at-requires-clause-room
-insert_at-requires-clause-room g c =
-    rw (ids_at_is (runs_of c.args.self.now) c.args.spot.run c.run.result.now c.run.ensures)
-    (omega (arith, c.if-len-lt-FULL.true, c.len.ensures))
-
 pub split-requires-clause-full : goal.split-requires-clause-full
 split-requires-clause-full g c =
     let short = all_at IsShort (runs_of c.args.self.now) c.args.spot.run c.run.result.now

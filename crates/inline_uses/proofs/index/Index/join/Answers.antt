@@ -1,8 +1,8 @@
 use Rattle.inline_uses.proofs.Names.{add-one, ap, arith, ids_at, ids_of, insert, length, runs_of, suc, with_run, ◌+◌, ◌∙◌, ◌∷◌, ◌≤◌}
-use Rattle.inline_uses.proofs.InRuns.{have_length, ids_at_is}
+use Rattle.inline_uses.proofs.InRuns.{ids_at_is}
 use Rattle.inline_uses.proofs.RunSets.{with_same}
+use Rattle.inline_uses.proofs.Owned.{starts_with}
 use Rattle.inline_uses.proofs.RunJoins.{both_in_order, joined, lent_among, put_back, were_there}
-use Rattle.inline_uses.proofs.Spots.{starts_with}
 use Rattle.inline_uses.proofs.index.Index.join.Goals as goal
 
 pub append-requires-clause-sorted : goal.append-requires-clause-sorted
@@ -12,9 +12,6 @@ append-requires-clause-sorted g c =
     both_in_order c.run_mut.result.now c.remove-next.result (g.T.Texts.text_of c.args.texts.now)
     c.args.self.now.first c.args.self.now.later.items c.args.at were.0 were.1
     c.requires.index.sorted
-
-pub remove-requires : goal.remove-requires
-remove-requires g c = rw (starts_with, have_length _ _ c.requires.index.firsts) c.requires.within
 
 pub returns-in-Ok : goal.returns-in-Ok
 returns-in-Ok g c =

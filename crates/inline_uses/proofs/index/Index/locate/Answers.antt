@@ -1,5 +1,5 @@
 use Rattle.inline_uses.proofs.Names.{ids_of, length-map, map, rules}
-use Rattle.inline_uses.proofs.InRuns.{have_length}
+use Rattle.inline_uses.proofs.Owned.{have_length}
 use Rattle.inline_uses.proofs.IndexRuns.{gap_in_none}
 use Rattle.inline_uses.proofs.index.Index.locate.Goals as goal
 

@@ -1,12 +1,7 @@
-use Rattle.inline_uses.proofs.Names.{arith, rules, runs_of}
-use Rattle.inline_uses.proofs.InRuns.{have_length, ids_at_is}
+use Rattle.inline_uses.proofs.Names.{arith, rules}
+use Rattle.inline_uses.proofs.Owned.{starts_with}
 use Rattle.inline_uses.proofs.RunRemovals.{next_in_order, some_left, with_less, with_next}
-use Rattle.inline_uses.proofs.Spots.{starts_with}
 use Rattle.inline_uses.proofs.index.Index.remove_from_run.Goals as goal
-
-pub remove-requires : goal.remove-requires
-remove-requires g c = rw (ids_at_is (runs_of c.args.self.now) c.args.spot.run
-    c.run_mut-run.result.now c.run_mut-run.ensures.value) at c.requires.at.within
 
 pub returns-then-spot-eq0 : goal.returns-then-spot-eq0
 returns-then-spot-eq0 g c =
@@ -19,13 +14,6 @@ pub id-first-requires : goal.id-first-requires
 id-first-requires g c = some_left c.requires.index c.requires.at c.run_mut-run.ensures.value
     (c.remove.ensures.run (g.T.Texts.text_of c.args.texts.now)) c.remove.ensures.ids
     (c.requires.more (search rules))
-
-pub replace-requires-clause-within : goal.replace-requires-clause-within
-replace-requires-clause-within g c = rw starts_with
-    (omega (arith, c.requires.at.run, have_length _ _ c.requires.index.firsts))
-
-pub replace-requires-clause-run : goal.replace-requires-clause-run
-replace-requires-clause-run g c = rw starts_with c.requires.index.starts
 
 pub replace-requires-clause-sorted : goal.replace-requires-clause-sorted
 replace-requires-clause-sorted g c = rw starts_with

@@ -1,17 +1,6 @@
-use Rattle.inline_uses.proofs.Names.{ap, arith, runs_of, suc, ◌∷◌}
-use Rattle.inline_uses.proofs.InRuns.{have_length}
-use Rattle.inline_uses.proofs.RunRemovals.{flat_gone, run_there, without_run}
+use Rattle.inline_uses.proofs.Names.{ap, runs_of, suc, ◌∷◌}
+use Rattle.inline_uses.proofs.RunRemovals.{flat_gone, without_run}
 use Rattle.inline_uses.proofs.index.Index.remove_run.Goals as goal
-
-pub remove-requires : goal.remove-requires
-remove-requires c = omega (
-  arith,
-  run_there c.args.self.now.later.items c.args.at (omega (arith, c.requires.one)),
-)
-
-pub remove-requires-2 : goal.remove-requires-2
-remove-requires-2 c = rw (have_length _ _ c.requires.firsts)
-    (run_there c.args.self.now.later.items c.args.at (omega (arith, c.requires.one)))
 
 pub returns-clause-ids : goal.returns-clause-ids
 returns-clause-ids c = rw c.remove.ensures.items
