@@ -47,6 +47,14 @@ module _ {V : Type 0} (es : Entries V) (index : Index) (are : AreMapped es index
       × ((v : V) → with_value view key v ≡ insert view at (key, v))
   missing key at gap = none key view at (rw (keys_seen es (ids_in index) are.0.within) gap)
 
+pub items_seen : {V : Type 0} (items : List (InlinableStringN 30 × V)) (index : Index)
+    → AreMapped (map entry_of items) index
+    → length (entries_at (map entry_of items) (ids_in index)) ≡ length items
+items_seen items index are =
+    sym (len_seen (map entry_of items) index are) ∙ length-map items entry_of
+
+pub ruleset map_known = (in_order, items_seen)
+
 -- the entry of a key is read by its number
 module _ {V : Type 0} (items : List (InlinableStringN 30 × V)) {order : Index} {key : List ℕ}
     {at id : ℕ} (found : IsFound (map entry_of items) order key at id)

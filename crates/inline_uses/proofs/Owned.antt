@@ -1,5 +1,6 @@
 -- The runs of an index, as code reads and changes them.
-use Rattle.inline_uses.proofs.Names.{HaveFirsts, Index, List, None, Option, Run, Some, [], ap, arith, ids_at, ids_of, length, refl, runs_of, slice_get, suc, with_run, zero, ℕ, ◌<◌, ◌∷◌, ◌≡◌}
+use Rattle.inline_uses.proofs.Names.{HaveFirsts, Index, List, None, Option, Run, Some, [], ap, arith, drop-map, ids_at, ids_of, length, map-set, refl, runs_of, slice_get, suc, take-map, with_run, zero, ℕ, ◌<◌, ◌∷◌, ◌≡◌}
+use Rattle.inline_uses.proofs.Search.{inserted_seen, removed_seen}
 
 abbrev pub ids_got : Option Run → List ℕ
 ids_got None = []
@@ -35,3 +36,6 @@ starts_with index (suc k) run = refl
 
 -- what the check is to know of the runs of an index
 pub ruleset runs_known = (own_ids, starts_count, run_there, starts_with)
+
+-- and of the ids of marks
+pub ruleset marks_known = (drop-map, inserted_seen, map-set, removed_seen, take-map)

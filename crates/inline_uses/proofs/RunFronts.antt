@@ -59,6 +59,8 @@ common_within (x ∷ xs) (y ∷ ys) =
     (grind (arith, nat_tests), grind (arith, nat_tests))
 common_within xs ys = (omega arith, omega arith)
 
+pub ruleset common_known = (common_least, common_most, common_within)
+
 -- the first and the last text of marks have their front
 pub ends_share : {text_of : ℕ → List ℕ} {marks : List Mark} {one other : List ℕ} (len : ℕ)
     → AreEnds text_of marks one other → AreMarks text_of len marks → take len one ≡ take len other

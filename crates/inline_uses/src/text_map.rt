@@ -45,6 +45,7 @@ impl<V> Model for TextMap<V> {
     ghost invariant = { IsMapped };
 }
 
+#[tactic(auto, using(crate::proofs::Mapped::map_known))]
 impl<V> TextMap<V> {
     ghost use Rattle.std.specs.Borrow.{sem};
     ghost use Rattle.inline_uses.specs.Lending.{LendsValue};

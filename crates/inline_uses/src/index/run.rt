@@ -32,6 +32,7 @@ pub(super) struct Run {
     marks: Vec<Mark>,
 }
 
+#[tactic(auto, using(crate::proofs::Owned::marks_known))]
 impl Run {
     /// Returns the run of no id.
     pub(super) fn new(alloc: Global) -> Self
@@ -325,6 +326,7 @@ fn front_of(bytes: &[u8], len: usize) -> &[u8]
 
 /// Returns how many bytes both have in common at the front, at most `most`, if they have the first
 /// `known` in common.
+#[tactic(auto, using(crate::proofs::RunFronts::common_known))]
 fn shared_len(one: &[u8], other: &[u8], known: usize, most: usize) -> usize
     requires { take known one.now ≡ take known other.now }
     ensures shared { take result one.now ≡ take result other.now }

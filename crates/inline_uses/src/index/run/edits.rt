@@ -11,6 +11,7 @@ use super::super::mark::{Mark, bits_after};
 use super::Run;
 use std::alloc::AllocError;
 
+#[tactic(auto, using(crate::proofs::Owned::marks_known))]
 impl Run {
     /// Removes the id at an index.
     pub(in crate::index) fn remove(&mut self, at: usize)

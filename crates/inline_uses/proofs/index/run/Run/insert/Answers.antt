@@ -1,6 +1,6 @@
 use Rattle.inline_uses.proofs.Names.{AllByRecursion, subst, sym, ◌∙◌}
 use Rattle.inline_uses.proofs.Each.{all_insert}
-use Rattle.inline_uses.proofs.RunGrown.{ids_grown, run_shared, run_with, sorted_grown}
+use Rattle.inline_uses.proofs.RunGrown.{run_shared, run_with, sorted_grown}
 use Rattle.inline_uses.proofs.index.run.Run.insert.Goals as goal
 
 pub mark_after-requires-clause-sorted : goal.mark_after-requires-clause-sorted
@@ -14,15 +14,6 @@ mark_after-requires-clause-shared g c = run_shared (g.T.Texts.text_of c.args.tex
     (λ P all is. subst (AllByRecursion P) (sym c.insert_mark.ensures.marks)
     (all_insert P c.args.at c.args.self.now.marks.items _ all is)) c.shared_front-front.result
     c.shared_front-front.ensures.most c.shared_front-front.ensures.shared
-
-pub returns-then-front-self-clause-ids : goal.returns-then-front-self-clause-ids
-returns-then-front-self-clause-ids g c = c.mark_after.ensures.ids
-    ∙ ids_grown (g.T.Texts.text_of c.args.texts.now) c.args.self.now.marks.items _ _ c.args.at
-    c.insert_mark.ensures.marks
-
-pub returns-else-front-self-clause-ids : goal.returns-else-front-self-clause-ids
-returns-else-front-self-clause-ids g c = ids_grown (g.T.Texts.text_of c.args.texts.now)
-    c.args.self.now.marks.items _ _ c.args.at c.insert_mark.ensures.marks
 
 pub returns-else-front-self-clause-run : goal.returns-else-front-self-clause-run
 returns-else-front-self-clause-run g c = run_with (g.T.Texts.text_of c.args.texts.now)

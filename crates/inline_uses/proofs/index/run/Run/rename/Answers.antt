@@ -1,9 +1,6 @@
-use Rattle.inline_uses.proofs.Names.{ap, map-set, map-set_same, with_item}
+use Rattle.inline_uses.proofs.Names.{ap, map-set_same, with_item}
 use Rattle.inline_uses.proofs.SameTexts.{renamed_run}
 use Rattle.inline_uses.proofs.index.run.Run.rename.Goals as goal
-
-pub returns-clause-ids : goal.returns-clause-ids
-returns-clause-ids c = map-set (λ m. m.id) c.args.self.now.marks.items c.args.at _
 
 pub returns-clause-run : goal.returns-clause-run
 returns-clause-run c = λ before after. renamed_run before after c.args.self.now

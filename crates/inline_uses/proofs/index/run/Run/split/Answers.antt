@@ -1,4 +1,3 @@
-use Rattle.inline_uses.proofs.Names.{drop-map, refl, take-map}
 use Rattle.inline_uses.proofs.RunEdits.{lower_run, upper_run}
 use Rattle.inline_uses.proofs.index.run.Run.split.Goals as goal
 
@@ -9,11 +8,3 @@ lengthen_front-requires g c = lower_run (g.T.Texts.text_of c.args.texts.now) c.a
 pub lengthen_front-requires-2 : goal.lengthen_front-requires-2
 lengthen_front-requires-2 g c = upper_run (g.T.Texts.text_of c.args.texts.now) c.args.self.now
     c.args.at c.in_ok-marks.marks c.requires.run c.in_ok-marks.ensures.tail
-
-pub returns-clause-lower : goal.returns-clause-lower
-returns-clause-lower g c =
-    rw (c.lengthen_front.ensures.ids, c.in_ok-marks.ensures.items, take-map) refl
-
-pub returns-clause-upper : goal.returns-clause-upper
-returns-clause-upper g c =
-    rw (c.lengthen_front-2.ensures.ids, c.in_ok-marks.ensures.tail, drop-map) refl
