@@ -1,5 +1,5 @@
 -- The runs of an index, as code reads and changes them.
-use Rattle.inline_uses.proofs.Names.{HaveFirsts, Index, List, None, Option, Run, Some, [], ap, arith, drop-map, ids_at, ids_of, length, map-set, refl, runs_of, slice_get, suc, take-map, with_run, zero, ℕ, ◌<◌, ◌∷◌, ◌≡◌}
+use Rattle.inline_uses.proofs.Names.{AllByRecursion, HaveFirsts, Index, List, None, Option, Run, Some, [], ap, append-nil, append_assoc, arith, drop-map, flat_map_more, ids_at, ids_of, length, map-set, map_more, refl, runs_of, slice_get, suc, take-map, take_all, take_more, with_run, zero, ℕ, ◌<◌, ◌∷◌, ◌≡◌, ◌≤◌}
 use Rattle.inline_uses.proofs.Search.{inserted_seen, removed_seen}
 
 abbrev pub ids_got : Option Run → List ℕ
@@ -34,8 +34,21 @@ pub starts_with : (index : Index) (k : ℕ) (run : Run) → (with_run index k ru
 starts_with index zero run = refl
 starts_with index (suc k) run = refl
 
+short_at : (runs : List Run) (k : ℕ) → AllByRecursion (λ run. length (ids_of run) ≤ 256) runs
+    → length (ids_at runs k) ≤ 256
+short_at [] k short = omega arith
+short_at (r ∷ runs) zero short = short.0
+short_at (r ∷ runs) (suc k) short = short_at runs k short.1
+
+pub short_run : (index : Index) (k : ℕ)
+    → AllByRecursion (λ run. length (ids_of run) ≤ 256) (runs_of index)
+    → length (ids_at (runs_of index) k) ≤ 256
+short_run index k short = short_at (runs_of index) k short
+
 -- what the check is to know of the runs of an index
-pub ruleset runs_known = (own_ids, starts_count, run_there, starts_with)
+pub ruleset runs_known = (own_ids, run_there, short_run, starts_count, starts_with)
 
 -- and of the ids of marks
 pub ruleset marks_known = (drop-map, inserted_seen, map-set, removed_seen, take-map)
+
+pub ruleset appended = (append-nil, append_assoc, flat_map_more, map_more, take_all, take_more)

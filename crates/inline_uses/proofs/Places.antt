@@ -1,7 +1,7 @@
 -- Places among the ids of an index, and the entries between two of them.
 use Rattle.std.proofs.lemmas.List.Edits.{between_more}
-use Rattle.inline_uses.proofs.Names.{AreMapped, AreNumbers, Entries, HaveFirsts, Index, InlinableStringN, IsAt, IsPlace, List, Run, Some, Spot, [], ap, arith, drop, drop-cons, entries_at, entries_between, entries_in, entry_of, false, get_or, get_or_from_slice_get, ids_at, ids_in, ids_of, index_of, inl, inr, is_gt, key_order, keys_of, length, map, not, refl, runs_of, slice_get, slice_get-get_or, slice_get_within, suc, sym, take, take_all, text_at, true, zero, ℕ, ◌&&◌, ◌++◌, ◌+◌, ◌-◌, ◌<◌, ◌∙◌, ◌∷◌, ◌≡◌, ◌≤◌, ◌⊎◌}
-use Rattle.inline_uses.proofs.InRuns.{flat, ids_at_is, later_start, next_start, own_len}
+use Rattle.inline_uses.proofs.Names.{AreMapped, AreNumbers, Entries, HaveFirsts, Index, InlinableStringN, IsAt, IsPlace, List, Run, Some, Spot, [], add-one, ap, arith, drop, drop-cons, entries_at, entries_between, entries_in, entry_of, false, get_or, get_or_from_slice_get, ids_at, ids_in, ids_of, index_of, inl, inr, is_gt, key_order, keys_of, length, map, not, refl, runs_of, slice_get, slice_get-get_or, slice_get_within, suc, sym, take, take_all, text_at, true, zero, ℕ, ◌&&◌, ◌++◌, ◌+◌, ◌-◌, ◌<◌, ◌∙◌, ◌∷◌, ◌≡◌, ◌≤◌, ◌⊎◌}
+use Rattle.inline_uses.proofs.InRuns.{flat, later_start, next_start}
 use Rattle.inline_uses.proofs.Mapped.{read_entry}
 use Rattle.inline_uses.proofs.Numbered.{count, entry_seen, keys_seen}
 use Rattle.inline_uses.proofs.Search.{run}
@@ -28,78 +28,11 @@ module _ (index : Index) where
       let end = later_start runs a.run (length runs) (omega (arith, place.run)) in
       omega (arith, place.within, all_taken, end)
 
-  -- the place after the ids of the last run is after all
-  pub last_end : (k : ℕ) (run : Run) → k ≡ length index.later.items → slice_get runs k ≡ Some run
-      → length (flat (take k runs)) + length (ids_of run) ≡ length (ids_in index)
-  last_end k run last there = rw (← ids_at_is runs k run there, last)
-      (sym (next_start runs (length index.later.items)) ∙ all_taken)
-
-  -- the first id from a place on
-  pub record IsFirst (from spot : Spot) : Type 0 where
-    pub at : IsAt index spot
-    pub same : index_of index spot ≡ index_of index from
-
-  module _ (from : Spot) (run : Run) (place : IsPlace index from)
-      (there : slice_get runs from.run ≡ Some run)
-    where
-      pub first_here : from.at < length (ids_of run) → IsFirst from from
-      first_here less =
-          let own = own_len runs from.run run there in
-          record { at = record { run = place.run; within = omega (arith, own, less) }; same = refl }
-
-      -- where a run ends the next one starts, and it has an id
-      pub first_next : HaveFirsts (ids_of index.starts) index.later.items
-          → from.run < length index.later.items → length (ids_of run) ≤ from.at
-          → IsFirst from (record { run = from.run + 1; at = 0 })
-      first_next have less past =
-          let next : from.run + 1 ≡ suc from.run = omega arith in
-          let some = has_first (ids_of index.starts) index.later.items from.run have less in
-          rw next (record {
-            at = record { run = less; within = some };
-            same = omega (
-              arith,
-              past,
-              place.within,
-              own_len runs from.run run there,
-              next_start runs from.run,
-            );
-          })
-
   pub has_some : (k : ℕ) → HaveFirsts (ids_of index.starts) index.later.items
       → k ≤ length index.later.items → 0 < k → 0 < length (ids_at runs k)
   has_some zero have within later = absurd (omega (arith, later))
   has_some (suc k) have within later =
       has_first (ids_of index.starts) index.later.items k have within
-
-  -- the last id before a place
-  pub record IsLast (place spot : Spot) : Type 0 where
-    pub at : IsAt index spot
-    pub same : index_of index spot + 1 ≡ index_of index place
-
-  -- a place where a run starts is after the last id of the run before it
-  module _ (place : Spot) (k : ℕ) (run : Run) (is : IsPlace index place) (start : place.at ≤ 0)
-      (earlier : (1 ≤ place.run) × (k ≡ place.run - 1)) (there : slice_get runs k ≡ Some run)
-    where
-      full : length (ids_at runs k) ≡ length (ids_of run)
-      full = own_len runs k run there
-
-      next : place.run ≡ suc k
-      next = omega (arith, earlier)
-
-      pub last_at : (at : ℕ) → length (ids_of run) ≡ at + 1
-          → IsLast place (record { run = k; at = at })
-      last_at at some = record {
-        at = record { run = omega (arith, is.run, next); within = omega (arith, full, some) };
-        same = rw next (omega (arith, next_start runs k, full, some, start));
-      }
-
-      pub none_before : HaveFirsts (ids_of index.starts) index.later.items
-          → length (ids_of run) ≡ 0 → index_of index place ≡ 0
-      none_before have none =
-          let first : k ≡ 0
-          = grind (arith, none, full, has_some k have (omega (arith, is.run, next))) in
-          let before : length (flat (take k runs)) ≡ 0 = rw first refl in
-          rw next (omega (arith, next_start runs k, full, none, before, start))
 
   -- places are in the order of their runs, and in one run of their indices there
   pub is_before : (a b : Spot) → IsAt index a
@@ -118,41 +51,26 @@ module _ (index : Index) where
     later_start runs b.run a.run (grind (arith, earlier.0, earlier.1)),
   )
 
--- the number of ids in the runs from that of one place on up to another, and before an end
-abbrev pub IsCounted : Index → Spot → Spot → ℕ → ℕ → Type 0
-IsCounted index from end k count = (from.run ≤ k) × (k ≤ end.run)
-    × (count + length (flat (take from.run (runs_of index)))
-    ≡ end.at + length (flat (take k (runs_of index))))
+-- where a run starts, and where the last one ends
+module _ (index : Index) (k : ℕ) where
+  pub next_place : length (flat (take (k + 1) (runs_of index)))
+      ≡ length (flat (take k (runs_of index))) + length (ids_at (runs_of index) k)
+  next_place = rw add-one (next_start (runs_of index) k)
 
--- in all of these runs it is the number between the places
-pub counted_all : (index : Index) (from end : Spot) (k count : ℕ) → IsCounted index from end k count
-    → end.run ≤ k → count - from.at ≡ index_of index end - index_of index from
-counted_all index from end k count is all =
-    let last : k ≡ end.run = omega (arith, is.1, all) in
-    let sum = rw last at is.2 in
-    omega (arith, sum)
+  pub place_before : 0 < k → length (flat (take k (runs_of index)))
+      ≡ length (flat (take (k - 1) (runs_of index))) + length (ids_at (runs_of index) (k - 1))
+  place_before past =
+      let next : k ≡ suc (k - 1) = omega (arith, past) in
+      ap (λ k. length (flat (take k (runs_of index)))) next ∙ next_start (runs_of index) (k - 1)
 
-module _ (index : Index) (from end : Spot) (k count : ℕ) (run : Run)
-    (is : IsCounted index from end k count) (some : k < end.run)
-    (there : slice_get (runs_of index) k ≡ Some run)
-  where
-    pub counted_more : IsCounted index from end (k + 1) (count + length (ids_of run))
-    counted_more =
-        let next : k + 1 ≡ suc k = omega arith in
-        rw next (
-          omega (arith, is.0),
-          omega (arith, some),
-          omega (arith, is.2, next_start (runs_of index) k, own_len (runs_of index) k run there),
-        )
+  pub last_place : k ≡ length index.later.items
+      → length (flat (take k (runs_of index))) + length (ids_at (runs_of index) k)
+      ≡ length (ids_in index)
+  last_place last = rw last (sym (next_start (runs_of index) (length index.later.items))
+      ∙ all_taken index)
 
-    pub counted_within : IsPlace index end → count + length (ids_of run) ≤ length (ids_in index)
-    counted_within place = omega (
-      arith,
-      is.2,
-      own_len (runs_of index) k run there,
-      later_start (runs_of index) k end.run some,
-      within_all index end place,
-    )
+pub ruleset places_known =
+    (has_some, is_before, last_place, next_place, not_before, place_before, within_all)
 
 -- what is between two indices of a list begins with what is at the first
 first_between : {X : Type 0} (xs : List X) (i j : ℕ) (x : X) → i < j → slice_get xs i ≡ Some x

@@ -224,6 +224,7 @@ impl Index {
 
     /// Returns the ids in the order of their texts, in a row with room for this many. Fails only if
     /// an allocation does.
+    #[tactic(auto, using(crate::proofs::Owned::appended))]
     pub(crate) fn ids(&self, alloc: Global, count: usize) -> Result<Vec<usize>, AllocError>
         ensures { IfOk result (λ ids. ids.items ≡ ids_in self.now) }
     {

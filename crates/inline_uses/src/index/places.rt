@@ -19,6 +19,7 @@ impl Index {
     }
 
     /// Returns the place after all ids.
+    #[tactic(auto, using(crate::proofs::Owned::runs_known, crate::proofs::Places::places_known))]
     pub(crate) fn end(&self) -> Spot
         ensures place { IsPlace self.now result }
         ensures at { index_of self.now result ≡ length (ids_in self.now) }
@@ -33,6 +34,7 @@ impl Index {
 
     /// Returns the spot after all ids, if a text goes there. This takes a single comparison. Where
     /// there are no ids there is none.
+    #[tactic(auto, using(crate::proofs::Owned::runs_known, crate::proofs::Places::places_known))]
     pub(crate) fn end_for<T: Texts>(&self, texts: &T, text: &str) -> Option<Spot>
         requires { IsIndex (T.text_of texts.now) self.now }
         ensures spot { IfSome result (IsSpot self.now) }
@@ -64,6 +66,7 @@ impl Index {
     }
 
     /// Returns the spot of the first id from a place on, if that is before an end.
+    #[tactic(auto, using(crate::proofs::Owned::runs_known, crate::proofs::Places::places_known))]
     pub(crate) fn first_in(&self, from: Spot, end: Spot) -> Option<Spot>
         requires firsts { HaveFirsts (ids_of self.now.starts) self.now.later.items }
         requires from { IsPlace self.now from }
@@ -91,6 +94,7 @@ impl Index {
     }
 
     /// Returns the spot of the last id before an end, if that is not before a place.
+    #[tactic(auto, using(crate::proofs::Owned::runs_known, crate::proofs::Places::places_known))]
     pub(crate) fn last_in(&self, from: Spot, end: Spot) -> Option<Spot>
         requires firsts { HaveFirsts (ids_of self.now.starts) self.now.later.items }
         requires from { IsPlace self.now from }
@@ -109,6 +113,7 @@ impl Index {
     }
 
     /// Returns the spot of the id before a place, if one is before it.
+    #[tactic(auto, using(crate::proofs::Owned::runs_known, crate::proofs::Places::places_known))]
     fn before(&self, place: Spot) -> Option<Spot>
         requires firsts { HaveFirsts (ids_of self.now.starts) self.now.later.items }
         requires place { IsPlace self.now place }
@@ -143,6 +148,7 @@ impl Index {
     }
 
     /// Returns the number of ids from a place on up to another, 0 if that is not after it.
+    #[tactic(auto, using(crate::proofs::Owned::runs_known, crate::proofs::Places::places_known))]
     pub(crate) fn count_between(&self, from: Spot, end: Spot) -> usize
         requires from { IsPlace self.now from }
         requires end { IsPlace self.now end }

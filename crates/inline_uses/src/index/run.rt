@@ -307,6 +307,7 @@ impl Run {
     }
 
     /// Appends the ids in the order of their texts. Fails only if an allocation does.
+    #[tactic(auto, using(crate::proofs::Owned::appended))]
     pub(super) fn append_to(&self, ids: &mut Vec<usize>) -> Result<(), AllocError>
         ensures { OnOk result (ids.new.items ≡ ids.old.items ++ ids_of self.now) }
     {

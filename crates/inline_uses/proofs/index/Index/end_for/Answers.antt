@@ -1,18 +1,7 @@
 use Rattle.std.proofs.Common.{sym, ◌∙◌}
 use Rattle.inline_uses.specs.Index.{ids_in, index_of}
-use Rattle.inline_uses.proofs.Places.{has_some}
 use Rattle.inline_uses.proofs.Search.{past_all}
 use Rattle.inline_uses.proofs.index.Index.end_for.Goals as goal
-
-pub returns-in-Less-clause-spot : goal.returns-in-Less-clause-spot
-returns-in-Less-clause-spot g c =
-    let place = c.end-end.ensures.place in
-    record {
-      run = place.run;
-      within = place.within;
-      after = λ later. rw c.end-end.ensures.last
-          (has_some c.args.self.now c.end-end.result.run c.requires.firsts place.run later);
-    }
 
 pub returns-in-Less-clause-gap : goal.returns-in-Less-clause-gap
 returns-in-Less-clause-gap g c = rw c.end-end.ensures.at (past_all
