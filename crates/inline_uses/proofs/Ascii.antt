@@ -1,8 +1,5 @@
 -- The table of the ASCII characters with which tokens go on, and a text that begins with some.
-use Rattle.std.proofs.Common.{None, ◌≢◌, ◌≡◌, ℕ, suc, ◌+◌, ◌<◌, ◌≤◌, List, [], ◌∷◌, ◌++◌, length, take, drop, get_or, Bool, true, false, ◌&&◌, not, cond, nat_eq, nat_lt, bit_and, inl, inr, refl, sym, ap, ◌∙◌, arith, lit<, take-add}
-use Rattle.std.proofs.UnicodeAscii.{is_alphabetic_ascii, is_numeric_ascii}
-use Rattle.std.proofs.lemmas.Bool.Decides.{nat_tests}
-use Rattle.std.specs.Char.{is_ascii_digit}
+use Rattle.std.proofs.Common.{◌≡◌, ℕ, suc, ◌+◌, ◌<◌, ◌≤◌, List, [], ◌∷◌, ◌++◌, length, take, drop, get_or, Bool, true, false, ◌&&◌, not, cond, nat_eq, nat_lt, bit_and, inl, inr, refl, sym, ap, ◌∙◌, arith, lit<, take-add}
 use Rattle.std.specs.List.{prefix_len, take_while}
 use Rattle.std.specs.Str.{chars, IsUtf8, IsAscii, IsCharBoundary}
 use Rattle.std.proofs.Math.Seq.{drop-cons}
@@ -14,8 +11,6 @@ use Rattle.std.proofs.str.Laws.{order}
 use Rattle.inline_uses.specs.declared.tokens.Kind.{Kind}
 use Rattle.inline_uses.specs.declared.tokens.ascii.TheConstants.{CLASSES}
 use Rattle.inline_uses.specs.Ascii.{class_of, goes_on_in_ascii}
-use Rattle.inline_uses.specs.declared.tokens.Kind.TheVariants.{Space, Word, Mark}
-use Rattle.inline_uses.specs.Tokens.{kind_of}
 
 abbrev has_flag : ℕ → ℕ → Bool
 has_flag flag b = not (nat_eq (bit_and (get_or CLASSES b 0) flag) 0)
@@ -98,21 +93,3 @@ module _ (t : ℕ → Bool) (s : List ℕ) {n : ℕ} (is : n ≡ prefix_len (in_
       → chars (take (n + m) s) ≡ take_while t (chars s)
   ends_later m after = ap chars (take-add n m s) ∙ chars_after_it (take m (drop n s))
       ∙ ap (λ l. take n s ++ l) after ∙ sym taken_after
-
--- what the classes of a character say of the token that it is alone
-pub space_begins : (b : ℕ) → b < 128 → goes_on_in_ascii Space b ≡ true
-    → kind_of b None ≡ Space
-space_begins b low is =
-    let letter = is_alphabetic_ascii b low in grind (arith, nat_tests, letter)
-
-pub word_begins : (b : ℕ) → b < 128 → goes_on_in_ascii Word b ≡ true
-    → is_ascii_digit b ≡ false → kind_of b None ≡ Word
-word_begins b low is none =
-    let letter = is_alphabetic_ascii b low in
-    let number = is_numeric_ascii b low in grind (arith, nat_tests, letter, number)
-
-pub mark_begins : (b : ℕ) → b < 128 → goes_on_in_ascii Space b ≡ false
-    → goes_on_in_ascii Word b ≡ false → b ≢ 34 → kind_of b None ≡ Mark b
-mark_begins b low space word quote =
-    let letter = is_alphabetic_ascii b low in
-    let number = is_numeric_ascii b low in grind (arith, nat_tests, letter, number)
