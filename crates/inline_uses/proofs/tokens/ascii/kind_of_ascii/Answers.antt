@@ -1,7 +1,7 @@
 use Rattle.std.proofs.Common.{◌∙◌, sym, refl, arith}
 use Rattle.std.proofs.UnicodeAscii.{is_alphabetic_ascii, is_numeric_ascii}
 use Rattle.std.proofs.lemmas.Bool.Decides.{nat_tests}
-use Rattle.inline_uses.specs.declared.tokens.Kind.TheVariants.{Space, Word, Mark}
+use Rattle.inline_uses.specs.declared.tokens.Kind.TheVariants.{Space, Word}
 use Rattle.inline_uses.proofs.tokens.ascii.kind_of_ascii.Goals as goal
 
 pub returns-then-is_of_class : goal.returns-then-is_of_class
