@@ -17,7 +17,6 @@ pub(super) struct Mark {
 
 /// Returns the eight bytes after the first `skipped` as a number, of which the first byte counts
 /// most, with zeros for those past the end.
-#[tactic(auto, using(crate::proofs::IndexMarks::are_bytes))]
 #[inline]
 pub(super) fn bits_after(bytes: &[u8], skipped: usize) -> u64
     ensures value { result ≡ from_be_bytes w64 (drop skipped bytes.now) }
