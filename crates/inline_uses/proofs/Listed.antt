@@ -1,20 +1,19 @@
--- The nodes that the members of a JSON object add to a tree, in the order of their keys.
-use Rattle.std.proofs.Common.{◌≡◌, ◌⊎◌, ◌<◌, ◌≤◌, ◌+◌, inl, inr, ℕ, zero, suc, List, [], ◌∷◌, ◌++◌, length, Option, Some, Ordering, Less, String, string_bytes, refl, ap, subst, arith}
-use Rattle.std.specs.Prelude.{slice_get, ⊤}
+-- The nodes that the members of a JSON object add to a tree.
+use Rattle.std.proofs.Common.{◌≡◌, ◌<◌, ◌≤◌, ◌+◌, inl, inr, ℕ, suc, List, [], ◌∷◌, ◌++◌, length, Option, Some, None, Ordering, Less, String, string_bytes, refl, ap, subst, arith}
+use Rattle.std.specs.Prelude.{slice_get}
 use Rattle.std.specs.List.{All, AllByRecursion}
 use Rattle.std.specs.Map.{keys_of}
 use Rattle.std.specs.Cmp.Lexicographic.{slice_cmp}
 use Rattle.std.specs.Ordering.{nat_cmp}
 use Rattle.std.specs.Str.{chars}
 use Rattle.std.specs.declared.alloc.Global.{Global}
-use Rattle.std.proofs.lemmas.Cmp.{tied_itself, nat_list_cmp_total}
-use Rattle.std.proofs.lemmas.List.Elements.{All-append, All-cons, All-get_or, All-nil}
-use Rattle.std.proofs.lemmas.Option.{get_or_from_slice_get, slice_get_within}
-use Rattle.inlinable_string.specs.Text.{bytes_of}
+use Rattle.std.proofs.lemmas.List.{append_assoc, length-append}
+use Rattle.std.proofs.lemmas.List.Elements.{All-append, All-cons, All-nil}
+use Rattle.std.proofs.lemmas.Option.{slice_get_within}
 use Rattle.serde_json.specs.Data.{Data, null, boolean, number, string, array, object, Members, no_members, member}
+use Rattle.serde_json.specs.Find.{get_member}
 use Rattle.serde_json.specs.View.{members_view}
 use Rattle.serde_json.specs.declared.value.Value.{Value}
-use Rattle.inline_uses.specs.Symbols.{key_order}
 use Rattle.inline_uses.specs.Tree.{node_at, IsPlaceOf, IsTree, listed, listed_members}
 use Rattle.inline_uses.specs.declared.tree.Node.{Node}
 use Rattle.inline_uses.proofs.Tables.{from_push}
@@ -42,41 +41,40 @@ mutual
       (All-append (IsUnderLate m) own _ (all_late m (suc n) n d (omega arith) h)
       (members_late m (suc n + length own) p ms (omega arith) k))
 
-pub from_append : {X : Type 0} (P : X → Type 0) (xs ys : List X) (i : ℕ) (x : X)
-    → All P ys → slice_get (xs ++ ys) i ≡ Some x → (slice_get xs i ≡ Some x) ⊎ P x
-from_append P [] ys i x all is = inr (subst P (get_or_from_slice_get ys i x x is)
-    (All-get_or P ys i x (slice_get_within ys i x is) all))
-from_append P (z ∷ xs) ys zero x all is = inl is
-from_append P (z ∷ xs) ys (suc i) x all is = from_append P xs ys i x all is
-
--- the key is below those of all members
-abbrev pub IsBelow : List ℕ → Members → Type 0
-IsBelow key no_members = ⊤
-IsBelow key (member k d ms) = (key_order key k ≡ Less) × IsBelow key ms
-
--- what is under the place has keys that are below those of the members
-abbrev pub AreBefore : List Node → Option ℕ → Members → Type 0
-AreBefore nodes place ms = (id : ℕ) (key : List ℕ)
-    → slice_get nodes id ≡ Some (node_at place key) → IsBelow (bytes_of key) ms
-
 abbrev pub string_order : String Global → String Global → Ordering
 string_order a b = slice_cmp nat_cmp (string_bytes a) (string_bytes b)
 
-pub below_all : (key : String Global) (es : List (String Global × Value))
+-- a key that is below those of all members is not among them
+pub absent : (key : String Global) (es : List (String Global × Value))
     → AllByRecursion (λ k. string_order key k ≡ Less) (keys_of es)
-    → IsBelow (string_bytes key) (members_view es)
-below_all key [] all = tt
-below_all key (e ∷ es) all = (all.0, below_all key es all.1)
+    → get_member (string_bytes key) (members_view es) ≡ None
+absent key [] all = refl
+absent key (e ∷ es) all = rw all.0 (absent key es all.1)
 
--- the key of the next member is not taken
-pub not_taken : (nodes : List Node) (place : Option ℕ) (k : List ℕ) (d : Data) (rest : Members)
-    → bytes_of (chars k) ≡ k → AreBefore nodes place (member k d rest) → (id : ℕ)
-    → ¬ (slice_get nodes id ≡ Some (node_at place (chars k)))
-not_taken nodes place k d rest bytes before id is =
-    let less : key_order k k ≡ Less
-    = subst (λ b. key_order b k ≡ Less) bytes (before id (chars k) is).0 in
-    let tied = tied_itself nat_list_cmp_total k in
-    cc
+-- the nodes with one more under the place, and after it those of its value
+abbrev pub with_member : List Node → Option ℕ → List ℕ → Data → List Node
+with_member nodes place key d = nodes
+    ++ node_at place (chars key) ∷ listed (suc (length nodes)) (Some (length nodes)) d
+
+-- they come in two steps
+pub in_steps : (old new after : List Node) (place : Option ℕ) (k key : List ℕ) (d : Data) (n : ℕ)
+    → new ≡ old ++ node_at place (chars k) ∷ [] → k ≡ key → n ≡ length old
+    → after ≡ new ++ listed (length new) (Some n) d → after ≡ with_member old place key d
+in_steps old new after place k key d n is_new same count is_after =
+    let more : length (old ++ node_at place (chars key) ∷ []) ≡ suc (length old)
+    = rw length-append (omega arith) in
+    rw (is_after, is_new, same, count, more, append_assoc) refl
+
+-- and then those of the members after it
+pub one_more : (nodes : List Node) (place : Option ℕ) (key : List ℕ) (d : Data) (ms : Members)
+    → let after = with_member nodes place key d in
+    after ++ listed_members (length after) place ms
+    ≡ nodes ++ listed_members (length nodes) place (member key d ms)
+one_more nodes place key d ms =
+    let own = listed (suc (length nodes)) (Some (length nodes)) d in
+    let count : length (with_member nodes place key d) ≡ suc (length nodes) + length own
+    = rw length-append (omega arith) in
+    rw (count, append_assoc nodes) refl
 
 -- nothing is under a node that was just added
 pub none_under : (nodes : List Node) (place : Option ℕ) (k : List ℕ) → IsTree nodes

@@ -1,5 +1,5 @@
 -- JSON values from which trees can be read, member by member.
-use Rattle.std.proofs.Common.{◌≡◌, ◌↔◌, ◌<◌, ◌≤◌, ◌-◌, ℕ, suc, List, length, Ordering, Less, Equal, Greater, refl, arith, rules}
+use Rattle.std.proofs.Common.{◌≡◌, ◌↔◌, ◌<◌, ◌≤◌, ◌-◌, ℕ, suc, List, length, Result, Err, Ordering, Less, Equal, Greater, arith, rules}
 use Rattle.std.specs.Ordering.{match_ordering}
 use Rattle.serde_json.specs.Data.{Data, object, Members, no_members, member, put, depth, members_depth}
 use Rattle.inline_uses.specs.Tree.{IsNested, AreNested, HasShortKeys, HaveShortKeys, IsReadable, IsFaultOf}
@@ -24,16 +24,18 @@ one_read levels d k e rest (nested, short, deep) key (is_nested, has_short, shal
   ((λ h. deep.0 (omega arith)), λ h. let less = deep.1 h in omega arith),
 )
 
+-- why the next member was not added
 pub not_added : (levels : ℕ) (d : Data) (k : List ℕ) (e : Data) (rest : Members) (f : Fault)
-    → Decide levels d (member k e rest) → (f ≡ LongKey → 16 < length k) → ¬ (f ≡ NoNode)
-    → ¬ (f ≡ Taken) → ¬ (f ≡ NotObject) → ¬ (f ≡ TooDeep) → IsFaultOf levels d f
-not_added levels d k e rest LongKey (nested, short, deep) long _ _ _ _ =
-    λ h. let (first, _, _) = short.1 h in absurd (omega (arith, long refl, first))
-not_added levels d k e rest NoNode decide long node taken nested deep = node refl
-not_added levels d k e rest Taken decide long node taken nested deep = taken refl
-not_added levels d k e rest NotObject decide long node taken nested deep = absurd (nested refl)
-not_added levels d k e rest TooDeep decide long node taken nested deep = absurd (deep refl)
-not_added levels d k e rest NoMemory decide long node taken nested deep = search rules
+    → (r : Result ℕ Fault) → Decide levels d (member k e rest) → r ≡ Err f
+    → (r ≡ Err LongKey → 16 < length k) → ¬ (r ≡ Err NoNode) → ¬ (r ≡ Err Taken)
+    → ¬ (r ≡ Err NotObject) → ¬ (r ≡ Err TooDeep) → IsFaultOf levels d f
+not_added levels d k e rest LongKey r (nested, short, deep) is long _ _ _ _ =
+    λ h. let (first, _, _) = short.1 h in absurd (omega (arith, long is, first))
+not_added levels d k e rest NoNode r decide is _ node _ _ _ = node is
+not_added levels d k e rest Taken r decide is _ _ taken _ _ = taken is
+not_added levels d k e rest NotObject r decide is _ _ _ nested _ = absurd (nested is)
+not_added levels d k e rest TooDeep r decide is _ _ _ _ deep = absurd (deep is)
+not_added levels d k e rest NoMemory r decide is _ _ _ _ _ = search rules
 
 any_order : (P : Members → Type 0) (o : Ordering) (a b c : Members) → P a → P b → P c
     → P (match_ordering o a b c)

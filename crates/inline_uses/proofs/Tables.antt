@@ -1,6 +1,9 @@
 -- What is found by its index in a list with more at its end.
-use Rattle.std.proofs.Common.{◌≡◌, ◌⊎◌, inl, inr, ℕ, zero, suc, List, [], ◌∷◌, ◌++◌, length, Some, refl, sym, ap, ◌∙◌}
+use Rattle.std.proofs.Common.{◌≡◌, ◌⊎◌, inl, inr, ℕ, zero, suc, List, [], ◌∷◌, ◌++◌, length, Some, refl, sym, ap, subst, ◌∙◌}
 use Rattle.std.specs.Prelude.{slice_get}
+use Rattle.std.specs.List.{All}
+use Rattle.std.proofs.lemmas.List.Elements.{All-get_or, All-nil}
+use Rattle.std.proofs.lemmas.Option.{get_or_from_slice_get, slice_get_within}
 use Rattle.inline_uses.specs.Symbols.{HaveOneId}
 
 pub before_append : {X : Type 0} (xs ys : List X) (i : ℕ) (x : X) → slice_get xs i ≡ Some x
@@ -9,19 +12,30 @@ before_append [] ys i x is = cc
 before_append (z ∷ xs) ys zero x is = is
 before_append (z ∷ xs) ys (suc i) x is = before_append xs ys i x is
 
-pub at_push : {X : Type 0} (xs : List X) (y : X) → slice_get (xs ++ y ∷ []) (length xs) ≡ Some y
-at_push [] y = refl
-at_push (z ∷ xs) y = at_push xs y
+pub at_seam : {X : Type 0} (xs : List X) (y : X) (ys : List X)
+    → slice_get (xs ++ y ∷ ys) (length xs) ≡ Some y
+at_seam [] y ys = refl
+at_seam (x ∷ xs) y ys = at_seam xs y ys
 
-pub from_push : {X : Type 0} (xs : List X) (x y : X) (i : ℕ) → slice_get (xs ++ y ∷ []) i ≡ Some x
+pub at_push : {X : Type 0} (xs : List X) (y : X) → slice_get (xs ++ y ∷ []) (length xs) ≡ Some y
+at_push xs y = at_seam xs y []
+
+-- one that is not among those after the seam
+pub from_seam : {X : Type 0} (P : X → Type 0) (xs : List X) (y : X) (ys : List X) (i : ℕ) (x : X)
+    → All P ys → ¬ (P x) → slice_get (xs ++ y ∷ ys) i ≡ Some x
     → (slice_get xs i ≡ Some x) ⊎ ((i ≡ length xs) × (y ≡ x))
-from_push [] x y zero is = inr (refl, cc)
-from_push [] x y (suc i) is = cc
-from_push (z ∷ xs) x y zero is = inl is
-from_push (z ∷ xs) x y (suc i) is = elim (from_push xs x y i is) [
+from_seam P [] y ys zero x all not is = inr (refl, cc)
+from_seam P [] y ys (suc i) x all not is = absurd (not (subst P (get_or_from_slice_get ys i x x is)
+    (All-get_or P ys i x (slice_get_within ys i x is) all)))
+from_seam P (z ∷ xs) y ys zero x all not is = inl is
+from_seam P (z ∷ xs) y ys (suc i) x all not is = elim (from_seam P xs y ys i x all not is) [
   | inl old ↦ inl old
   | inr new ↦ inr (ap suc new.0, new.1)
 ]
+
+pub from_push : {X : Type 0} (xs : List X) (x y : X) (i : ℕ) → slice_get (xs ++ y ∷ []) i ≡ Some x
+    → (slice_get xs i ≡ Some x) ⊎ ((i ≡ length xs) × (y ≡ x))
+from_push xs x y i is = from_seam (λ _. ⊥) xs y [] i x (All-nil _) (λ none. none) is
 
 -- a text that has no id gets one
 pub one_id_pushed : {X : Type 0} (texts : List X) (text : X)

@@ -1,21 +1,23 @@
 -- A tree with one more node at the end of its list.
-use Rattle.std.proofs.Common.{◌≡◌, ◌<◌, ◌≤◌, ◌↔◌, suc, inl, inr, ℕ, List, [], ◌∷◌, ◌++◌, length, Bool, true, false, cond, Option, Some, None, IsSome, Ordering, Less, Equal, Greater, is_eq, refl, ap, subst, sym, ◌∙◌, arith, rules}
+use Rattle.std.proofs.Common.{◌≡◌, ◌<◌, ◌≤◌, ◌↔◌, inl, inr, ℕ, List, [], ◌∷◌, ◌++◌, length, Bool, true, false, cond, Option, Some, None, IsSome, Equal, is_eq, refl, ap, subst, sym, ◌∙◌, arith, rules}
 use Rattle.std.specs.Prelude.{slice_get}
 use denote.Ref.{Bor}
 use Rattle.std.specs.BTreeMap.{BTreeMap, get, is_at}
 use Rattle.std.specs.Bool.{Decides}
+use Rattle.std.specs.Cmp.{Equal-is}
 use Rattle.std.specs.Cmp.Lexicographic.{slice_cmp}
+use Rattle.std.specs.List.{fold}
 use Rattle.std.specs.Map.{lookup}
 use Rattle.std.specs.Option.{option_cmp}
 use Rattle.std.specs.Ordering.{nat_cmp, ordering_then}
 use Rattle.std.specs.Str.{chars}
 use Rattle.inlinable_string.specs.Text.{bytes_of, size}
-use Rattle.std.proofs.lemmas.Cmp.{ranked, tied_itself, nat_cmp_total, nat_list_cmp_total}
-use Rattle.std.proofs.lemmas.List.{append_assoc, length-append}
-use Rattle.std.proofs.lemmas.Map.Lookups.{exact_bytes}
+use Rattle.std.proofs.lemmas.Cmp.{ranked, tied_itself}
+use Rattle.std.proofs.lemmas.List.{length-append}
+use Rattle.std.proofs.lemmas.Map.Lookups.{exact_bytes, exact_pairs}
 use Rattle.std.proofs.lemmas.Option.{slice_get_within}
-use Rattle.serde_json.specs.Data.{Data, Members, member}
-use Rattle.inline_uses.specs.Tree.{node_at, IsPlaceOf, IsTree, place_order, AreFound, Leads, listed, listed_members}
+use Rattle.inline_uses.specs.PlacedKeys.{place_order_total}
+use Rattle.inline_uses.specs.Tree.{node_at, IsPlaceOf, IsTree, place_order, AreFound, Leads}
 use Rattle.inline_uses.specs.declared.tree.Node.{Node}
 use Rattle.inline_uses.proofs.Tables.{at_push, before_append, from_push, one_id_pushed}
 
@@ -27,8 +29,8 @@ grown nodes place key tree has none short = record {
   later = λ id parent k is. elim (from_push nodes (node_at (Some parent) k) _ id is) [
     | inl old ↦ tree.later id parent k old
     | inr new ↦ let here : parent < length nodes
-        = subst (IsPlaceOf nodes) (ap (λ (node : Node). node.parent) new.1) has in
-        subst (λ n. parent < n) (sym new.0) here
+        = subst (λ (node : Node). IsPlaceOf nodes node.parent) new.1 has in
+        rw new.0 here
   ];
   short = λ id node is. elim (from_push nodes node _ id is) [
     | inl old ↦ tree.short id node old
@@ -36,36 +38,27 @@ grown nodes place key tree has none short = record {
   ];
 }
 
--- places that compare equal are one place
-pub same_place : (p q : Option ℕ) → option_cmp nat_cmp p q ≡ Equal → p ≡ q
+same_place : (p q : Option ℕ) → option_cmp nat_cmp p q ≡ Equal → p ≡ q
 same_place None None e = refl
 same_place None (Some y) e = cc
 same_place (Some x) None e = cc
 same_place (Some x) (Some y) e = ap Some (ranked x y Equal (sym e))
 
-pub place_tied : (p : Option ℕ) → option_cmp nat_cmp p p ≡ Equal
-place_tied None = refl
-place_tied (Some x) = tied_itself nat_cmp_total x
-
-pub both_tied : (o r : Ordering) → is_eq (ordering_then o r) ≡ true → (o ≡ Equal) × (r ≡ Equal)
-both_tied Less r e = cc
-both_tied Equal Less e = cc
-both_tied Equal Equal e = (refl, refl)
-both_tied Equal Greater e = cc
-both_tied Greater r e = cc
+-- places with bytes that compare equal are the same
+pub exact_places : (p q : Option ℕ) (b c : List ℕ)
+    → is_eq (ordering_then (option_cmp nat_cmp p q) (slice_cmp nat_cmp b c)) ≡ true
+    → ◌≡◌ {A = Option ℕ × List ℕ} (p, b) (q, c)
+exact_places p q b c e = exact_pairs (option_cmp nat_cmp) (slice_cmp nat_cmp) same_place exact_bytes
+    (p, b) (q, c) ((Equal-is _).0 e)
 
 -- by the order, two keys with their places are the same or not
 same_key : (p q : Option ℕ) (k l : List ℕ) → chars (bytes_of k) ≡ k → chars (bytes_of l) ≡ l
     → Decides (is_eq (place_order (p, k) (q, l))) (node_at p k ≡ node_at q l)
 same_key p q k l text other = (
-  (λ e. let tied = both_tied (option_cmp nat_cmp p q)
-      (slice_cmp nat_cmp (bytes_of k) (bytes_of l)) e in
-      let bytes = exact_bytes (bytes_of k) (bytes_of l) tied.1 in
-      let keys : k ≡ l = sym text ∙ ap chars bytes ∙ other in
-      rw (same_place p q tied.0, keys) refl),
-  λ e. let places : q ≡ p = ap (λ (node : Node). node.parent) (sym e) in
-      let keys : l ≡ k = ap (λ (node : Node). node.key) (sym e) in
-      rw (places, keys, place_tied p, tied_itself nat_list_cmp_total (bytes_of k)) refl,
+  (λ e. let same = exact_places p q (bytes_of k) (bytes_of l) e in
+      rw (text, other) at (ap (λ (x : Option ℕ × List ℕ). node_at x.0 (chars x.1)) same)),
+  λ e. subst (λ (node : Node). is_eq (place_order (p, k) (node.parent, node.key)) ≡ true) e
+      (ap is_eq (tied_itself place_order_total (p, k))),
 )
 
 -- a node that is not there is found once it is put in
@@ -77,14 +70,14 @@ pub found : (nodes : List Node) (parent : Option ℕ) (key : List ℕ)
     ≡ cond (is_eq (place_order (parent, key) q)) (Some n) (get place_order old q))
     → AreFound (nodes ++ node_at parent key ∷ []) new
 found nodes parent key old new n count none text was sets place k id is_text =
-    by_test (is_eq (place_order (parent, key) (place, k)))
+    by (is_eq (place_order (parent, key) (place, k)))
     (same_key parent place key k text is_text) (sets (place, k))
   where
-    by_test : (b : Bool) → Decides b (node_at parent key ≡ node_at place k)
+    by : (b : Bool) → Decides b (node_at parent key ≡ node_at place k)
         → get place_order new (place, k) ≡ cond b (Some n) (get place_order old (place, k))
         → (get place_order new (place, k) ≡ Some id)
         ↔ (slice_get (nodes ++ node_at parent key ∷ []) id ≡ Some (node_at place k))
-    by_test true told is = (
+    by true told is = (
       (λ h. let e : id ≡ length nodes = cc in
           rw e (at_push nodes (node_at parent key) ∙ ap Some (told.0 refl))),
       λ h. elim (from_push nodes (node_at place k) (node_at parent key) id h) [
@@ -92,7 +85,7 @@ found nodes parent key old new n count none text was sets place k id is_text =
         | inr newer ↦ is ∙ ap Some (count ∙ sym newer.0)
       ],
     )
-    by_test false told is = (
+    by false told is = (
       (λ h. before_append nodes (_ ∷ []) id _ ((was place k id is_text).0 (sym is ∙ h))),
       λ h. elim (from_push nodes (node_at place k) (node_at parent key) id h) [
         | inl older ↦ is ∙ (was place k id is_text).1 older
@@ -108,25 +101,24 @@ pub found_in : (nodes : List Node) (ids : BTreeMap (Option ℕ × List ℕ) ℕ)
     ↔ (slice_get nodes id ≡ Some (node_at place key))
 found_in nodes ids es same found = rw (← same) found
 
--- a key that the map has not is of no node
-pub no_node : (nodes : List Node) (place : Option ℕ) (key : List ℕ)
-    → (ids : BTreeMap (Option ℕ × List ℕ) ℕ) → AreFound nodes ids → chars (bytes_of key) ≡ key
-    → get place_order ids (place, key) ≡ None
-    → (id : ℕ) → ¬ (slice_get nodes id ≡ Some (node_at place key))
-no_node nodes place key ids found text none id is =
-    let some : get place_order ids (place, key) ≡ Some id = (found place key id text).1 is in cc
-
--- and one that it has is of a node
-pub some_node : (nodes : List Node) (place : Option ℕ) (key : List ℕ)
-    → (ids : BTreeMap (Option ℕ × List ℕ) ℕ) → AreFound nodes ids → chars (bytes_of key) ≡ key
-    → IsSome (get place_order ids (place, key))
-    → (id : ℕ) × (slice_get nodes id ≡ Some (node_at place key))
-some_node nodes place key ids found text some = by (get place_order ids (place, key)) refl some
+-- a key that the map has not is of no node, and one that it has is of a node
+module _ (nodes : List Node) (place : Option ℕ) (key : List ℕ)
+    (ids : BTreeMap (Option ℕ × List ℕ) ℕ) (found : AreFound nodes ids)
+    (text : chars (bytes_of key) ≡ key)
   where
-    by : (o : Option ℕ) → get place_order ids (place, key) ≡ o → IsSome o
+    pub no_node : get place_order ids (place, key) ≡ None → (id : ℕ)
+        → ¬ (slice_get nodes id ≡ Some (node_at place key))
+    no_node none id is =
+        let some : get place_order ids (place, key) ≡ Some id = (found place key id text).1 is in cc
+
+    pub some_node : IsSome (get place_order ids (place, key))
         → (id : ℕ) × (slice_get nodes id ≡ Some (node_at place key))
-    by None is h = cc
-    by (Some id) is h = (id, (found place key id text).0 is)
+    some_node some = by (get place_order ids (place, key)) refl some
+      where
+        by : (o : Option ℕ) → get place_order ids (place, key) ≡ o → IsSome o
+            → (id : ℕ) × (slice_get nodes id ≡ Some (node_at place key))
+        by None is h = cc
+        by (Some id) is h = (id, (found place key id text).0 is)
 
 -- what a node is under is a place
 pub is_place : (nodes : List Node) (place : Option ℕ) (key : List ℕ) (id : ℕ) → IsTree nodes
@@ -139,39 +131,16 @@ is_place nodes (Some p) key id tree is =
 
 -- the keys from a place down, with the key of the node at the place before them
 pub above : (nodes : List Node) (at id : ℕ) (node : Node) (keys : List (List ℕ)) → IsTree nodes
-    → at < length nodes → slice_get nodes at ≡ Some node → Leads nodes (Some at) keys id
+    → slice_get nodes at ≡ Some node → Leads nodes (Some at) keys id
     → IsPlaceOf nodes node.parent × Leads nodes node.parent (node.key ∷ keys) id
-above nodes at id node keys tree within is leads = (has node.parent refl, (at, is, leads))
-  where
-    has : (place : Option ℕ) → node.parent ≡ place → IsPlaceOf nodes place
-    has None e = search rules
-    has (Some p) e =
-        let under = ap (λ q. Some (node_at q node.key)) e in
-        let earlier : p < at = tree.later at p node.key (is ∙ under) in
-        omega arith
+above nodes at id node keys tree is leads =
+    (is_place nodes node.parent node.key at tree is, (at, is, leads))
 
--- the keys of nodes, that of the last first, and then others
-abbrev pub with_keys : List (List ℕ) → List (Bor Node) → List (List ℕ)
-with_keys keys [] = keys
-with_keys keys (node ∷ nodes) = with_keys (node.now.key ∷ keys) nodes
-
-pub with_keys-push : (keys : List (List ℕ)) (nodes : List (Bor Node)) (node : Bor Node)
-    → with_keys keys (nodes ++ node ∷ []) ≡ node.now.key ∷ with_keys keys nodes
-with_keys-push keys [] node = refl
-with_keys-push keys (n ∷ nodes) node = with_keys-push (n.now.key ∷ keys) nodes node
+-- the keys of nodes, that of the last first
+abbrev pub keys_up : List (Bor Node) → List (List ℕ)
+keys_up nodes = fold (λ keys (node : Bor Node). node.now.key ∷ keys) [] nodes
 
 pub wider : (nodes more : List Node) (place : Option ℕ) → IsPlaceOf nodes place
     → IsPlaceOf (nodes ++ more) place
 wider nodes more None h = h
 wider nodes more (Some id) h = rw length-append (omega arith)
-
--- the nodes of one member, and then those of the members after it
-pub one_more : (nodes : List Node) (place : Option ℕ) (key : List ℕ) (d : Data) (ms : Members)
-    → let new = nodes ++ node_at place (chars key) ∷ [] in
-    let after = new ++ listed (length new) (Some (length nodes)) d in
-    after ++ listed_members (length after) place ms
-    ≡ nodes ++ listed_members (length nodes) place (member key d ms)
-one_more nodes place key d ms =
-    let new = nodes ++ node_at place (chars key) ∷ [] in
-    let count : length new ≡ suc (length nodes) = rw length-append (omega arith) in
-    rw (length-append new, count, append_assoc new, append_assoc nodes) refl

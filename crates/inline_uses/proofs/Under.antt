@@ -4,7 +4,7 @@ use Rattle.std.specs.Prelude.{slice_get}
 use Rattle.std.specs.BTreeMap.{BTreeMap, is_at}
 use Rattle.std.specs.BTreeMap.Range.{IsInRange, IsEntryInRange, range_contains, entries_between}
 use Rattle.std.specs.Cmp.{nat_cmp_is}
-use Rattle.std.specs.Cmp.Lexicographic.{slice_cmp}
+use Rattle.std.specs.Cmp.Lexicographic.{slice_cmp, options_total}
 use Rattle.std.specs.List.{All, AllByRecursion}
 use Rattle.std.specs.Map.{lookup}
 use Rattle.std.specs.Option.{option_cmp}
@@ -12,14 +12,13 @@ use Rattle.std.specs.Ordering.{nat_cmp, ordering_then, is_gt, is_le}
 use Rattle.std.specs.Str.{chars}
 use Rattle.std.specs.declared.ops.Bound.{Bound}
 use Rattle.std.specs.declared.ops.Bound.TheVariants.{Included, Excluded}
-use Rattle.std.proofs.lemmas.Cmp.{ranked}
+use Rattle.std.proofs.lemmas.Cmp.{nat_cmp_total, ranked, tied_itself}
 use Rattle.std.proofs.lemmas.List.Elements.{All-weaker, recursion_from_All}
 use Rattle.std.proofs.lemmas.Map.Entries.{lookup-filter-keys, place_from_lookup}
-use Rattle.std.proofs.lemmas.Map.Lookups.{exact_bytes}
 use Rattle.inlinable_string.specs.Text.{bytes_of}
 use Rattle.inline_uses.specs.Tree.{node_at, place_order, AreFound}
 use Rattle.inline_uses.specs.declared.tree.Node.{Node}
-use Rattle.inline_uses.proofs.Trees.{same_place, place_tied, both_tied}
+use Rattle.inline_uses.proofs.Trees.{exact_places}
 
 abbrev pub Entry : Type 0
 Entry = (Option ℕ × List ℕ) × ℕ
@@ -51,26 +50,24 @@ IsUnder nodes place e =
 abbrev pub AreUnder : List Node → Option ℕ → List Entry → Type 0
 AreUnder nodes place es = AllByRecursion (IsUnder nodes place) es
 
-place_before : (place : Option ℕ) → option_cmp nat_cmp place (Some (next_of place)) ≡ Less
-place_before None = refl
-place_before (Some q) = sym (nat_cmp_is q (suc q) Less (omega arith))
-
 place_after : (place : Option ℕ) → option_cmp nat_cmp (Some (next_of place)) place ≡ Greater
 place_after None = refl
 place_after (Some q) = sym (nat_cmp_is (suc q) q Greater (omega arith))
 
-least : (bs : List ℕ) → is_le (slice_cmp nat_cmp [] bs) ≡ true
-least [] = refl
-least (b ∷ bs) = refl
-
-not_below : (bs : List ℕ) → ¬ (slice_cmp nat_cmp bs [] ≡ Less)
-not_below [] e = cc
-not_below (b ∷ bs) e = cc
+-- no key is below the empty one
+least : (bs : List ℕ) → (is_le (slice_cmp nat_cmp [] bs) ≡ true) × ¬ (slice_cmp nat_cmp bs [] ≡ Less)
+least [] = (refl, λ e. cc)
+least (b ∷ bs) = (refl, λ e. cc)
 
 -- the keys of a place are in its range
 contained : (place p : Option ℕ) (k : List ℕ) → place ≡ p
     → range_contains place_order (first_key place) (end_key place) (p, k) ≡ true
-contained place p k e = rw (← e, place_tied place, place_after place, least (bytes_of k)) refl
+contained place p k e = rw (
+  ← e,
+  tied_itself (options_total nat_cmp_total) place,
+  place_after place,
+  (least (bytes_of k)).0,
+) refl
 
 less_first : (o r : Ordering) → ordering_then o r ≡ Less → ¬ (r ≡ Less) → o ≡ Less
 less_first Less r e not = refl
@@ -82,12 +79,12 @@ in_place : (place p : Option ℕ) (k : List ℕ)
     → IsInRange place_order (first_key place) (end_key place) (p, k) → p ≡ place
 in_place None None k h = refl
 in_place None (Some x) k h =
-    let o = less_first (nat_cmp x 0) _ h.1 (not_below (bytes_of k)) in
+    let o = less_first (nat_cmp x 0) _ h.1 (least (bytes_of k)).1 in
     let less : x < 0 = ranked x 0 Less (sym o) in
     absurd (omega (arith, less))
 in_place (Some q) None k h = let e : true ≡ false = h.0 in cc
 in_place (Some q) (Some x) k h =
-    let o = less_first (nat_cmp x (suc q)) _ h.1 (not_below (bytes_of k)) in
+    let o = less_first (nat_cmp x (suc q)) _ h.1 (least (bytes_of k)).1 in
     let less : x < suc q = ranked x (suc q) Less (sym o) in
     let not_less : ¬ (x < q) = λ below.
     let e : Greater ≡ nat_cmp q x = nat_cmp_is q x Greater below in
@@ -119,14 +116,14 @@ pub found_left : (place : Option ℕ) (key : List ℕ) (es : List Entry) (id : �
     → IsLeft (under place es) key
 found_left place key es id bytes is =
     let test = is_at (place_order (place, chars key)) in
-    let tied = λ (q : Option ℕ × List ℕ) (same : test q ≡ true). both_tied
-    (option_cmp nat_cmp place q.0) (slice_cmp nat_cmp (bytes_of (chars key)) (bytes_of q.1)) same in
+    let same = λ (q : Option ℕ × List ℕ) (e : test q ≡ true).
+    exact_places place q.0 (bytes_of (chars key)) (bytes_of q.1) e in
     let kept = lookup-filter-keys test
     (range_contains place_order (first_key place) (end_key place)) true
-    (λ q same. contained place q.0 q.1 (same_place place q.0 (tied q same).0)) es in
-    let (i, q, here, same) = place_from_lookup test (under place es) id (kept ∙ is) in
+    (λ q e. contained place q.0 q.1 (ap (λ (x : Option ℕ × List ℕ). x.0) (same q e))) es in
+    let (i, q, here, e) = place_from_lookup test (under place es) id (kept ∙ is) in
     left_at (under place es) i (q, id) key here
-    (sym (exact_bytes (bytes_of (chars key)) (bytes_of q.1) (tied q same).1) ∙ bytes)
+    (sym (ap (λ (x : Option ℕ × List ℕ). x.1) (same q e)) ∙ bytes)
 
 -- what a range with these bounds gives
 pub range_is : (place : Option ℕ) (a b : Bound (Option ℕ × List ℕ))

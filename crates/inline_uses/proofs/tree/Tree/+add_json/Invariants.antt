@@ -3,7 +3,7 @@ use Rattle.std.specs.List.Sorted.{IsStrictlySortedBy}
 use Rattle.std.specs.Map.{keys_of}
 use Rattle.serde_json.specs.View.{view, members_view}
 use Rattle.inline_uses.specs.Tree.{IsPlaceOf, listed, listed_members}
-use Rattle.inline_uses.proofs.Listed.{string_order, AreBefore}
+use Rattle.inline_uses.proofs.Listed.{string_order}
 use Rattle.inline_uses.proofs.ReadBack.{IsReadBut}
 use Rattle.inline_uses.proofs.Readable.{Decide}
 use Rattle.inline_uses.proofs.tree.Tree.+add_json.Given as goal
@@ -16,7 +16,6 @@ invariant-loop-key l = record {
   adds : l.self ++ listed_members (length l.self) l.place (members_view l.key-iterator)
       ≡ l.fn.self ++ listed (length l.fn.self) l.place (view l.fn.value);
   ordered : IsStrictlySortedBy string_order (keys_of l.key-iterator);
-  before : AreBefore l.self l.place (members_view l.key-iterator);
   read : IsReadBut l.self l.place (view l.fn.value) (members_view l.key-iterator);
 }
 

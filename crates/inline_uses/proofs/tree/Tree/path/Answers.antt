@@ -1,10 +1,11 @@
 use Rattle.std.proofs.Common.{rules, refl, ◌≡◌, ◌∷◌, ◌++◌, [], Some, ap, sym, ◌∙◌}
 use Rattle.std.specs.Prelude.{slice_get}
+use Rattle.std.proofs.lemmas.Grind.{fold-append}
 use Rattle.std.proofs.lemmas.List.{append_assoc}
 use Rattle.std.proofs.lemmas.Option.{slice_get-get_or}
 use Rattle.inlinable_string.specs.Values.{inlinable_state}
 use Rattle.inline_uses.specs.Tree.{joined}
-use Rattle.inline_uses.proofs.Trees.{above, with_keys, with_keys-push}
+use Rattle.inline_uses.proofs.Trees.{above, keys_up}
 use Rattle.inline_uses.proofs.tree.Tree.path.Goals as goal
 
 pub up-preserved : goal.up-preserved
@@ -16,19 +17,19 @@ up-preserved c =
     let is : slice_get nodes at ≡ Some node.now
     = slice_get-get_or nodes at node.now within ∙ ap Some (sym c.index-node.ensures) in
     let pushed : c.push.new.self.items ≡ c.up.nodes.items ++ node ∷ [] = search rules in
-    rw (pushed, with_keys-push) (above nodes at c.args.id node.now (with_keys [] c.up.nodes.items)
-    c.self.invariant.0 within is leads)
+    rw (pushed, fold-append) (above nodes at c.args.id node.now (keys_up c.up.nodes.items)
+    c.self.invariant.0 is leads)
 
 pub down-preserved : goal.down-preserved
 down-preserved c =
     let key = c.in-Some-pop.node.now.key in
-    let left = with_keys [] c.pop.new.self.items in
+    let left = keys_up c.pop.new.self.items in
     let old = (inlinable_state 30 c.down.path).text in
     let popped : c.down.nodes.items ≡ c.pop.new.self.items ++ c.in-Some-pop.node ∷ []
     = search rules in
     let (keys, leads, text) = c.down.invariant in
     let before : old ++ joined (key ∷ left) ≡ joined keys
-    = rw (popped, with_keys-push) at text in
+    = rw (popped, fold-append) at text in
     let written : (inlinable_state 30 c.push_str.new.self).text ≡ (old ++ 47 ∷ []) ++ key
     = c.in_ok-push_str.ensures.text
     ∙ rw (c.in_ok-push.ensures.text, c.as_str.ensures.text) refl in (

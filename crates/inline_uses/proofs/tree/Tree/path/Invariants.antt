@@ -1,12 +1,12 @@
-use Rattle.std.proofs.Common.{◌≡◌, ℕ, suc, List, [], ◌++◌, None, length, unwrap_or, option_map}
+use Rattle.std.proofs.Common.{◌≡◌, ℕ, suc, List, ◌++◌, None, length, unwrap_or, option_map}
 use Rattle.inlinable_string.specs.Values.{inlinable_state}
 use Rattle.inline_uses.specs.Tree.{IsPlaceOf, Leads, joined}
-use Rattle.inline_uses.proofs.Trees.{with_keys}
+use Rattle.inline_uses.proofs.Trees.{keys_up}
 use Rattle.inline_uses.proofs.tree.Tree.path.Given as goal
 
 abbrev pub invariant-up : goal.invariant-up
 invariant-up l = IsPlaceOf l.self-inside.nodes.items l.place
-    × Leads l.self-inside.nodes.items l.place (with_keys [] l.nodes.items) l.id
+    × Leads l.self-inside.nodes.items l.place (keys_up l.nodes.items) l.id
 
 abbrev pub decreases-up : goal.decreases-up
 decreases-up l = unwrap_or (option_map suc l.place) 0
@@ -14,7 +14,7 @@ decreases-up l = unwrap_or (option_map suc l.place) 0
 -- with the keys that are left, the path is that of the keys
 abbrev pub invariant-down : goal.invariant-down
 invariant-down l = (keys : List (List ℕ)) × Leads l.self None keys l.id
-    × ((inlinable_state 30 l.path).text ++ joined (with_keys [] l.nodes.items) ≡ joined keys)
+    × ((inlinable_state 30 l.path).text ++ joined (keys_up l.nodes.items) ≡ joined keys)
 
 abbrev pub decreases-down : goal.decreases-down
 decreases-down l = length l.nodes.items

@@ -1,43 +1,41 @@
-use Rattle.std.proofs.Common.{rules, ◌≡◌, ℕ, Some, None, true, refl}
+use Rattle.std.proofs.Common.{rules, ◌≡◌, ◌↔◌, ℕ, Some, None, true, refl}
 use Rattle.std.specs.Prelude.{slice_get}
 use Rattle.std.specs.Result.{is_ok}
 use Rattle.std.specs.BTreeMap.{get}
 use Rattle.std.specs.BTreeMap.Entry.{map_with_value}
 use Rattle.inline_uses.specs.Tree.{node_at, place_order}
 use Rattle.inline_uses.proofs.Trees.{grown, found, found_in, no_node, some_node}
-use Rattle.inline_uses.proofs.tree.Tree.put.Goals.{In-Vacant}
+use Rattle.inline_uses.proofs.tree.Tree.put.Goals.{After-new, In-Vacant}
 use Rattle.inline_uses.proofs.tree.Tree.put.Goals as goal
 
--- where the map has room for the key, there is no node with it
-is_free : (c : In-Vacant) → (id : ℕ)
-    → ¬ (slice_get c.self.inside.nodes.items id ≡ Some (node_at c.args.parent c.args.key))
-is_free c =
-    let none : get place_order c.self.inside.ids (c.args.parent, c.args.key) ≡ None
-    = rw (c.in-Vacant.is, c.new.ensures) at c.in-Ok.ensures.found in
-    no_node c.self.inside.nodes.items c.args.parent c.args.key c.self.inside.ids
-    c.self.invariant.1 c.requires.text none
+-- where the map has no such key, there is no node with it
+untaken : (c : After-new) → get place_order c.self.inside.ids c.new.result ≡ None → {A : Type 0}
+    → ¬ A → A ↔ ((id : ℕ) × (slice_get c.args.self.now id ≡ Some (node_at c.args.parent c.args.key)))
+untaken c none never = (
+  (λ a. absurd (never a)),
+  λ (id, is). absurd (no_node c.self.inside.nodes.items c.args.parent c.args.key
+      c.self.inside.ids c.self.invariant.1 c.requires.text (rw c.new.ensures at none) id
+      (rw c.self.view_is is)),
+)
+
+-- so where it has room for the key
+absent : (c : In-Vacant) → get place_order c.self.inside.ids c.new.result ≡ None
+absent c = rw c.in-Vacant.is at c.in-Ok.ensures.found
 
 pub returns-in_default-clause-taken : goal.returns-in_default-clause-taken
 returns-in_default-clause-taken c =
-    let none : get place_order c.self.inside.ids (c.args.parent, c.args.key) ≡ None
-    = rw c.new.ensures at c.in_default.ensures.absent in
-    rw (← c.self.view_is) (
-      (λ e. cc),
-      λ (id, is). absurd (no_node c.self.inside.nodes.items c.args.parent c.args.key
-          c.self.inside.ids c.self.invariant.1 c.requires.text none id is),
-    )
+    untaken (goal.at.returns-in_default-clause-taken c).After-new c.in_default.ensures.absent
+    (λ e. cc)
 
 pub returns-then-is_err-clause-taken : goal.returns-then-is_err-clause-taken
 returns-then-is_err-clause-taken c =
-    let none = is_free (goal.at.returns-then-is_err-clause-taken c).In-Vacant in
-    rw (← c.self.view_is) ((λ e. cc), λ (id, is). absurd (none id is))
+    let at = goal.at.returns-then-is_err-clause-taken c in
+    untaken at.After-new (absent at.In-Vacant) (λ e. cc)
 
 pub invariant_of-self-in-Vacant : goal.invariant_of-self-in-Vacant
 invariant_of-self-in-Vacant c =
     let nodes = c.self.inside.nodes.items in
-    let place = rw (← c.self.view_is) at c.requires.place in
-    let absent : get place_order c.self.inside.ids (c.args.parent, c.args.key) ≡ None
-    = rw (c.in-Vacant.is, c.new.ensures) at c.in-Ok.ensures.found in
+    let absent = rw c.new.ensures at (absent (goal.at.invariant_of-self-in-Vacant c).In-Vacant) in
     let none = no_node nodes c.args.parent c.args.key c.self.inside.ids c.self.invariant.1
     c.requires.text absent in
     let new = map_with_value c.in-Ok.entry c.len-id.result in
@@ -47,7 +45,8 @@ invariant_of-self-in-Vacant c =
     (search rules) none c.requires.text c.self.invariant.1
     (rw c.new.ensures at (c.in-Ok.ensures.update.0 c.len-id.result).0) in
     rw (c.push.ensures.items, pushed, copied) (
-      grown nodes c.args.parent c.args.key c.self.invariant.0 place none c.requires.short,
+      grown nodes c.args.parent c.args.key c.self.invariant.0
+          (rw (← c.self.view_is) at c.requires.place) none c.requires.short,
       found_in _ new _ (search rules) is,
     )
 
@@ -62,5 +61,5 @@ returns-in-Occupied-clause-taken c =
 
 pub returns-else-is_err-clause-taken : goal.returns-else-is_err-clause-taken
 returns-else-is_err-clause-taken c =
-    let none = is_free (goal.at.returns-else-is_err-clause-taken c).In-Vacant in
-    rw (← c.self.view_is) ((λ e. cc), λ (id, is). absurd (none id is))
+    let at = goal.at.returns-else-is_err-clause-taken c in
+    untaken at.After-new (absent at.In-Vacant) (λ e. cc)
