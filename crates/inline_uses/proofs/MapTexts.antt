@@ -8,6 +8,10 @@ use Rattle.inline_uses.specs.Symbols.{bytes_at, key_order}
 use Rattle.inline_uses.specs.TextMap.{AreInOrder, Entries, texts_of, with_value}
 use Rattle.inline_uses.proofs.Members.{by_order}
 
+-- a key, and its value as bytes
+abbrev pub with_bytes : List ℕ × InlinableStringN 30 → List ℕ × List ℕ
+with_bytes e = (e.0, bytes_at e.1)
+
 -- they are in the order of the same keys
 pub texts_in_order : (entries : Entries (InlinableStringN 30)) → AreInOrder entries
     → store.AreInOrder (texts_of entries)

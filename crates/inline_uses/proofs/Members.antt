@@ -22,11 +22,6 @@ abbrev pub members_of : Entries → Members
 members_of [] = no_members
 members_of (e ∷ entries) = member e.0 (string e.1) (members_of entries)
 
--- the entries with others put in one after another
-abbrev pub with_all : Entries → Entries → Entries
-with_all entries [] = entries
-with_all entries (e ∷ more) = with_all (with_value entries e.0 e.1) more
-
 -- a key that is below all that follow it is below one of them
 below : (key : List ℕ) (done : Entries) (e : List ℕ × List ℕ) (more : Entries)
     → AllByRecursion (λ k. key_order key k ≡ Less) (keys_of (done ++ e ∷ more))
@@ -44,12 +39,13 @@ goes_last (d ∷ done) e more h =
     nat_list_cmp_total.antisymm e.0 d.0 ∙ ap ordering_reverse (below d.0 done e more h.0) in
     rw above (ap (λ rest. d ∷ rest) (goes_last done e more h.1))
 
--- entries that go on in order are put in at the end
-in_turn : (done more : Entries) → AreInOrder (done ++ more) → with_all done more ≡ done ++ more
-in_turn done [] h = sym (append-nil done)
-in_turn done (e ∷ more) h =
-    rw (goes_last done e more h)
-    (in_turn (done ++ e ∷ []) more (rw append_assoc h) ∙ append_assoc done (e ∷ []) more)
+-- members are read as entries, where these go on in order
+read_on : (done more : Entries) → AreInOrder (done ++ more)
+    → with_members done (members_of more) ≡ Some (done ++ more)
+read_on done [] order = ap Some (sym (append-nil done))
+read_on done (e ∷ more) order =
+    rw (goes_last done e more order) (read_on (done ++ e ∷ []) more (rw append_assoc order)
+    ∙ ap Some (append_assoc done (e ∷ []) more))
 
 -- a key that is below those after it goes first
 goes_first : (before : Entries) (e : List ℕ × List ℕ) (after : Entries)
@@ -59,10 +55,6 @@ goes_first [] e [] h = refl
 goes_first [] e (d ∷ after) h = rw h.0.0 refl
 goes_first (b ∷ before) e after h = goes_first before e after h.1
 
--- entries in order, put in one after another, are themselves
-pub all_in_turn : (entries : Entries) → AreInOrder entries → with_all [] entries ≡ entries
-all_in_turn entries h = in_turn [] entries h
-
 -- a value that is put in is a member that is put in
 put_in : (entries : Entries) (key value : List ℕ)
     → put key (string value) (members_of entries) ≡ members_of (with_value entries key value)
@@ -70,28 +62,37 @@ put_in [] key value = refl
 put_in (e ∷ entries) key value = sym (by_order members_of (key_order key e.0) _ _ _ _
     (ap (λ rest. member e.0 (string e.1) rest) (sym (put_in entries key value))))
 
--- the last of the entries that are left is put in before those after it
-module _ {X : Type 0} (view : X → List ℕ × List ℕ) (rest left : List X) (e : X)
-    (done all : Entries) (last : rest ≡ left ++ e ∷ []) (parts : map view rest ++ done ≡ all)
-  where
-    pub left_parts : map view left ++ view e ∷ done ≡ all
-    left_parts =
-        let same : map view left ++ view e ∷ done ≡ map view rest ++ done
-        = rw (last, map-append, append_assoc) refl in
-        same ∙ parts
-
-    pub put_first : AreInOrder all → put (view e).0 (string (view e).1) (members_of done)
-        ≡ members_of (view e ∷ done)
-    put_first order = put_in done (view e).0 (view e).1 ∙ ap members_of
-        (goes_first (map view left) (view e) done (subst AreInOrder (sym left_parts) order))
-
--- members are read as entries that are put in one after another
-pub read_back : (entries more : Entries)
-    → with_members entries (members_of more) ≡ Some (with_all entries more)
-read_back entries [] = refl
-read_back entries (e ∷ more) = read_back (with_value entries e.0 e.1) more
-
--- strings have nothing in them
-pub flat : (entries : Entries) → members_depth (members_of entries) ≡ 0
+flat : (entries : Entries) → members_depth (members_of entries) ≡ 0
 flat [] = refl
 flat (e ∷ entries) = rw (flat entries) refl
+
+-- the members have those entries that are not seen of the rest
+abbrev pub ArePut : {X : Type 0} → (X → List ℕ × List ℕ) → List X → Entries → Members → Type 0
+ArePut view rest all ms = (done : Entries) × (ms ≡ members_of done) × (map view rest ++ done ≡ all)
+
+module _ {X : Type 0} (view : X → List ℕ × List ℕ) (rest : List X) (all : Entries) (ms : Members)
+  where
+    pub none_put : map view rest ≡ all → ms ≡ no_members → ArePut view rest all ms
+    none_put seen none = ([], none, append-nil (map view rest) ∙ seen)
+
+    -- the last of the rest is put in before those after it
+    pub one_put : (left : List X) (e : X) → rest ≡ left ++ e ∷ [] → AreInOrder all
+        → ArePut view rest all ms → ArePut view left all (put (view e).0 (string (view e).1) ms)
+    one_put left e last order (done, is, parts) =
+        let more : map view left ++ view e ∷ done ≡ all
+        = rw (last, map-append, append_assoc) at parts in (
+          view e ∷ done,
+          rw is (put_in done (view e).0 (view e).1 ∙ ap members_of
+              (goes_first (map view left) (view e) done (subst AreInOrder (sym more) order))),
+          more,
+        )
+
+    pub all_put : rest ≡ [] → AreInOrder all → ArePut view rest all ms
+        → with_members [] ms ≡ Some all
+    all_put end order (done, is, parts) =
+        let same : done ≡ all = rw end at parts in
+        rw (is, same) (read_on [] all order)
+
+    -- strings have nothing in them
+    pub flat_put : ArePut view rest all ms → members_depth ms ≡ 0
+    flat_put (done, is, _) = rw is (flat done)
