@@ -1,6 +1,8 @@
 -- Where a key goes among others that are below it and above it.
-use Rattle.std.proofs.Common.{arith, ◌≡◌, ℕ, zero, suc, ◌<◌, ◌≤◌, List, [], ◌∷◌, ◌++◌, length, take, drop, get_or, Less, Greater, ap, ◌∙◌}
+use Rattle.std.proofs.Common.{arith, ◌≡◌, ℕ, ◌+◌, ◌-◌, List, [], ◌++◌, length, take, drop, Less, Greater, refl, ap, ◌∙◌}
 use Rattle.std.proofs.lemmas.Cmp.{nat_list_cmp_total}
+use Rattle.std.proofs.lemmas.List.{get_or-append_right, get_or_append_left, get_or-drop, get_or-take, length-append, length-drop, length-take-le}
+use Rattle.std.proofs.lemmas.List.Elements.{All-from_get_or, All-from_recursion, All-get_or, recursion_from_All}
 use Rattle.std.specs.List.{AllByRecursion}
 use Rattle.std.specs.Ordering.{ordering_reverse}
 use Rattle.inline_uses.specs.Symbols.{key_order, IsGap}
@@ -18,59 +20,30 @@ turned a b less = nat_list_cmp_total.antisymm b a ∙ ap ordering_reverse less
 pub turned_back : (a b : List ℕ) → key_order a b ≡ Greater → key_order b a ≡ Less
 turned_back a b more = nat_list_cmp_total.antisymm b a ∙ ap ordering_reverse more
 
--- a key goes before those above it
-gap_before_all : (key : List ℕ) (high : List (List ℕ)) → AreAbove key high → IsGap high key 0
-gap_before_all key [] above = (
-  omega arith,
-  (λ i less. absurd (omega arith)),
-  λ i le less. absurd (omega arith),
-)
-gap_before_all key (h ∷ high) above =
-    let rest = gap_before_all key high above.1 in (
-      omega arith,
-      (λ i less. absurd (omega arith)),
-      λ i le less. elim i as (λ i. i < suc (length high)
-          → key_order key (get_or (h ∷ high) i []) ≡ Less) [
-            | zero ↦ λ less. above.0
-            | suc i ↦ λ less. rest.2 i (omega arith) (omega (arith, less))
-          ] less,
-    )
-
 -- a key goes between those below it and those above it
 pub gap_between : (key : List ℕ) (low high : List (List ℕ)) → AreBelow key low → AreAbove key high
     → IsGap (low ++ high) key (length low)
-gap_between key [] high below above = gap_before_all key high above
-gap_between key (l ∷ low) high below above =
-    let rest = gap_between key low high below.1 above in (
-      omega (arith, rest.0),
-      (λ i less. elim i as (λ i. i < suc (length low)
-          → key_order key (get_or (l ∷ low ++ high) i []) ≡ Greater) [
-            | zero ↦ λ less. turned l key below.0
-            | suc i ↦ λ less. rest.1 i (omega (arith, less))
-          ] less),
-      λ i le less. elim i as (λ i. suc (length low) ≤ i → i < suc (length (low ++ high))
-          → key_order key (get_or (l ∷ low ++ high) i []) ≡ Less) [
-            | zero ↦ λ le less. absurd (omega (arith, le))
-            | suc i ↦ λ le less. rest.2 i (omega (arith, le)) (omega (arith, less))
-          ] le less,
+gap_between key low high below above =
+    let count = length-append low high in (
+      omega arith,
+      (λ i less. rw (get_or_append_left low high [] i less) (turned _ key (All-get_or
+          (λ k. key_order k key ≡ Less) low i [] less (All-from_recursion _ low below)))),
+      λ i le less. rw (get_or-append_right low high (length low) i [] refl le) (All-get_or
+          (λ k. key_order key k ≡ Less) high (i - length low) [] (omega (arith, count))
+          (All-from_recursion _ high above)),
     )
 
 -- those before the index of a key are below it, and the others above it
 pub parts_of_gap : (key : List ℕ) (keys : List (List ℕ)) (at : ℕ) → IsGap keys key at
     → AreBelow key (take at keys) × AreAbove key (drop at keys)
-parts_of_gap key [] zero gap = (tt, tt)
-parts_of_gap key [] (suc at) gap = absurd (omega (arith, gap.0))
-parts_of_gap key (k ∷ keys) zero gap =
-    let rest = parts_of_gap key keys zero (
-      omega arith,
-      (λ i less. absurd (omega arith)),
-      λ i le less. gap.2 (suc i) (omega arith) (omega arith),
-    ) in
-    (tt, (gap.2 0 (omega arith) (omega arith), rest.1))
-parts_of_gap key (k ∷ keys) (suc at) gap =
-    let rest = parts_of_gap key keys at (
-      omega (arith, gap.0),
-      (λ i less. gap.1 (suc i) (omega arith)),
-      λ i le less. gap.2 (suc i) (omega arith) (omega arith),
-    ) in
-    ((turned_back key k (gap.1 0 (omega arith)), rest.0), rest.1)
+parts_of_gap key keys at gap =
+    let count = length-take-le at keys gap.0 in
+    let left = length-drop at keys in (
+      recursion_from_All (λ k. key_order k key ≡ Less) (take at keys)
+          (All-from_get_or (λ k. key_order k key ≡ Less) (take at keys) []
+          (λ i less. rw (get_or-take at keys i [] (omega (arith, count)))
+          (turned_back key _ (gap.1 i (omega (arith, count)))))),
+      recursion_from_All (λ k. key_order key k ≡ Less) (drop at keys)
+          (All-from_get_or (λ k. key_order key k ≡ Less) (drop at keys) []
+          (λ i less. rw get_or-drop (gap.2 (at + i) (omega arith) (omega (arith, left))))),
+    )

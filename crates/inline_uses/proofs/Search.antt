@@ -1,24 +1,23 @@
 -- What a search among keys in order finds, and what an edit there does to the entries.
-use Rattle.std.proofs.Common.{arith, ◌≡◌, ℕ, zero, suc, ◌+◌, ◌-◌, ◌/◌, ◌<◌, ◌≤◌, List, [], ◌∷◌, map, length, get_or, set, Some, None, Bool, true, false, cond, Ordering, Less, Equal, Greater, refl, sym, ap, ◌∙◌, take, drop, option_map}
+use Rattle.std.proofs.Common.{arith, ◌≡◌, ℕ, zero, suc, ◌+◌, ◌-◌, ◌/◌, ◌<◌, ◌≤◌, List, [], ◌∷◌, map, length, get_or, set, Some, None, Bool, true, false, Ordering, Less, Equal, Greater, refl, sym, ap, ◌∙◌, take, drop, option_map}
 use Rattle.std.specs.Prelude.{slice_get}
 use Rattle.std.proofs.Math.Seq.{drop-nil, take-nil}
+use Rattle.std.proofs.lemmas.Bool.{cond_both}
 use Rattle.std.proofs.lemmas.Cmp.{nat_list_cmp_total, tied_itself}
-use Rattle.std.proofs.lemmas.List.{get_or-map, length-map, map-append, map-set, take-map, drop-map}
-use Rattle.std.proofs.lemmas.List.Elements.{All-from_recursion, All-get_or, recursion_from_All, All-weaker}
-use Rattle.std.proofs.lemmas.Map.Keys.{Less-from_sorted}
+use Rattle.std.proofs.lemmas.List.{get_or_default, get_or-map, length-map, map-append, map-set, take-map, drop-map}
+use Rattle.std.proofs.lemmas.List.Elements.{All-from_recursion, recursion_from_All, All-weaker}
+use Rattle.std.proofs.lemmas.Map.Entries.{length-keys_of}
+use Rattle.std.proofs.lemmas.Map.Keys.{Less-from_sorted, sorted_tail}
 use Rattle.std.proofs.lemmas.Map.Lookups.{exact_bytes}
 use Rattle.std.proofs.lemmas.Map.Views.{All-keys-insert_entry, All-map-remove_entry}
 use Rattle.std.proofs.lemmas.Option.{slice_get-get_or, slice_get-map, slice_get_within, get_or_from_slice_get}
-use Rattle.std.specs.List.{AllByRecursion, insert, remove, filter}
+use Rattle.std.specs.List.{All, insert, remove, filter}
 use Rattle.std.specs.List.Sorted.{IsStrictlySortedBy}
 use Rattle.std.specs.Map.{keys_of, lookup, remove_entry}
 use Rattle.std.specs.BTreeMap.{is_at, insert_entry}
-use Rattle.std.specs.Ordering.{ordering_reverse, match_ordering, is_gt}
+use Rattle.std.specs.Ordering.{match_ordering, is_gt}
 use Rattle.inline_uses.specs.Symbols.{key_order, IsGap}
-
--- a key is above one that is below it
-turned : (a b : List ℕ) (o : Ordering) → key_order a b ≡ o → key_order b a ≡ ordering_reverse o
-turned a b o h = nat_list_cmp_total.antisymm b a ∙ ap ordering_reverse h
+use Rattle.inline_uses.proofs.Gaps.{AreAbove, AreBelow, parts_of_gap, turned, turned_back}
 
 -- a key goes among others from one index on, and not after another
 abbrev pub GoesWithin : List (List ℕ) → List ℕ → ℕ → ℕ → Type 0
@@ -37,10 +36,10 @@ module _ (keys : List (List ℕ)) (key : List ℕ) (start end at : ℕ)
       part.1,
       (λ i less.
           let before : i < at → key_order key (get_or keys i []) ≡ Greater
-          = λ l. turned _ key Less (nat_list_cmp_total.trans _ (get_or keys at []) key
+          = λ l. turned _ key (nat_list_cmp_total.trans _ (get_or keys at []) key
           (Less-from_sorted key_order keys i at [] sorted l (omega (arith, to, part.1))) below) in
           let here : i ≡ at → key_order key (get_or keys i []) ≡ Greater
-          = λ e. rw e (turned _ key Less below) in
+          = λ e. rw e (turned _ key below) in
           grind (arith, before, here)),
       part.3,
     )
@@ -52,7 +51,7 @@ module _ (keys : List (List ℕ)) (key : List ℕ) (start end at : ℕ)
       omega (arith, to, part.1),
       part.2,
       λ i le less.
-          let here : key_order key (get_or keys at []) ≡ Less = turned _ key Greater above in
+          let here : key_order key (get_or keys at []) ≡ Less = turned_back _ key above in
           let after : at < i → key_order key (get_or keys i []) ≡ Less
           = λ l. nat_list_cmp_total.trans key (get_or keys at []) _ here
           (Less-from_sorted key_order keys at i [] sorted l less) in
@@ -100,40 +99,30 @@ compared f xs {key} {start} {end} {x} {o} sorted part less read is =
       λ l. goes_before _ key start end at sorted part from to (seen ∙ l),
     )
 
--- a key that is among others, each above one, is above it
-above : (key k : List ℕ) (ks : List (List ℕ)) (at : ℕ)
-    → AllByRecursion (λ q. key_order k q ≡ Less) ks → slice_get ks at ≡ Some key
-    → key_order key k ≡ Greater
-above key k ks at all is =
-    let below = All-get_or (λ q. key_order k q ≡ Less) ks at k (slice_get_within ks at key is)
-    (All-from_recursion (λ q. key_order k q ≡ Less) ks all) in
-    turned k key Less (rw (get_or_from_slice_get ks at key k is) at below)
-
 -- a key among entries: it goes at an index, or it is there
 module _ {X : Type 0} (key : List ℕ) where
+  none_between : (es : List (List ℕ × X)) (at : ℕ) → at ≤ length es
+      → AreBelow key (take at (keys_of es)) × AreAbove key (drop at (keys_of es))
+      → (lookup (is_at (key_order key)) es ≡ None)
+      × (remove_entry (is_at (key_order key)) es ≡ es)
+      × ((value : X) → insert_entry key_order es key value ≡ insert es at (key, value))
+  none_between [] zero within parts = (refl, refl, λ value. refl)
+  none_between [] (suc at) within parts = absurd (omega (arith, within))
+  none_between (e ∷ es) zero within parts =
+      let rest = none_between es zero (omega arith) (tt, parts.1.1) in
+      rw parts.1.0 (rest.0, ap (λ es. e ∷ es) rest.1, λ value. refl)
+  none_between (e ∷ es) (suc at) within parts =
+      let rest = none_between es at (omega (arith, within)) (parts.0.1, parts.1) in
+      rw (turned e.0 key parts.0.0)
+      (rest.0, ap (λ es. e ∷ es) rest.1, λ value. ap (λ es. e ∷ es) (rest.2 value))
+
   -- where it goes, none is, and it is put there
   pub none : (es : List (List ℕ × X)) (at : ℕ) → IsGap (keys_of es) key at
       → (lookup (is_at (key_order key)) es ≡ None)
       × (remove_entry (is_at (key_order key)) es ≡ es)
       × ((value : X) → insert_entry key_order es key value ≡ insert es at (key, value))
-  none [] zero gap = (refl, refl, λ value. refl)
-  none [] (suc at) gap = absurd (omega (arith, gap.0))
-  none (e ∷ es) zero gap =
-      let rest = none es zero (
-        omega arith,
-        (λ i less. absurd (omega arith)),
-        λ i le less. gap.2 (suc i) (omega arith) (omega arith),
-      ) in
-      rw (gap.2 0 (omega arith) (omega arith))
-      (rest.0, ap (λ es. e ∷ es) rest.1, λ value. refl)
-  none (e ∷ es) (suc at) gap =
-      let rest = none es at (
-        omega (arith, gap.0),
-        (λ i less. gap.1 (suc i) (omega arith)),
-        λ i le less. gap.2 (suc i) (omega arith) (omega arith),
-      ) in
-      rw (gap.1 0 (omega arith))
-      (rest.0, ap (λ es. e ∷ es) rest.1, λ value. ap (λ es. e ∷ es) (rest.2 value))
+  none es at gap =
+      none_between es at (rw length-keys_of at gap.0) (parts_of_gap key (keys_of es) at gap)
 
   -- one that is there is looked up, taken out and gets a value at its index
   pub there : (es : List (List ℕ × X)) (at : ℕ)
@@ -142,25 +131,16 @@ module _ {X : Type 0} (key : List ℕ) where
       × (lookup (is_at (key_order key)) es ≡ Some value)
       × (remove_entry (is_at (key_order key)) es ≡ remove es at)
       × ((v : X) → insert_entry key_order es key v ≡ set es at (key, v))
-  unfolding IsStrictlySortedBy
   there [] at sorted is = cc
   there (e ∷ es) zero sorted is =
-      let same : e.0 ≡ key = cc in (
-        e.1,
-        ap (λ k. Some (k, e.1)) same,
-        rw (same, tied_itself nat_list_cmp_total key) refl,
-        rw (same, tied_itself nat_list_cmp_total key) refl,
-        λ v. rw (same, tied_itself nat_list_cmp_total key) refl,
-      )
+      let same : e.0 ≡ key = cc in
+      rw (same, tied_itself nat_list_cmp_total key) (e.1, refl, refl, refl, λ v. refl)
   there (e ∷ es) (suc at) sorted is =
-      let rest = there es at sorted.1 is in
-      let past = above key e.0 (keys_of es) at sorted.0 is in (
-        rest.0,
-        rest.1,
-        rw past rest.2,
-        rw past (ap (λ es. e ∷ es) rest.3),
-        λ v. rw past (ap (λ es. e ∷ es) (rest.4 v)),
-      )
+      let (value, entry, found, left, put) = there es at (sorted_tail key_order _ _ sorted) is in
+      let less = Less-from_sorted key_order (keys_of (e ∷ es)) 0 (suc at) [] sorted (omega arith)
+      (omega (arith, slice_get_within (keys_of es) at key is)) in
+      let past = turned e.0 key (rw (get_or_from_slice_get (keys_of es) at key [] is) at less) in
+      rw past (value, entry, found, ap (λ es. e ∷ es) left, λ v. ap (λ es. e ∷ es) (put v))
 
 -- those before the index of a key are below it, and the others are not
 pub parted_at : (key : List ℕ) (keys : List (List ℕ)) (at : ℕ)
@@ -171,7 +151,7 @@ pub parted_at : (key : List ℕ) (keys : List (List ℕ)) (at : ℕ)
 parted_at key keys at sorted is =
     let here = get_or_from_slice_get keys at key [] is in
     let within = slice_get_within keys at key is in (
-      (λ i less. ap is_gt (turned _ key Less
+      (λ i less. ap is_gt (turned _ key
           (rw here at (Less-from_sorted key_order keys i at [] sorted less within)))),
       λ i le below.
           let more : at < i → is_gt (key_order key (get_or keys i [])) ≡ false
@@ -213,6 +193,9 @@ ordered_put [] key value sorted = (tt, tt)
 ordered_put (e ∷ es) key value sorted =
     by (key_order key e.0) refl (ordered_put es key value sorted.1)
   where
+    all : All (λ q. key_order e.0 q ≡ Less) (keys_of es)
+    all = All-from_recursion (λ q. key_order e.0 q ≡ Less) (keys_of es) sorted.0
+
     by : (o : Ordering) → key_order key e.0 ≡ o
         → IsStrictlySortedBy key_order (keys_of (insert_entry key_order es key value))
         → IsStrictlySortedBy key_order
@@ -223,16 +206,16 @@ ordered_put (e ∷ es) key value sorted =
         is,
         recursion_from_All (λ q. key_order key q ≡ Less) (keys_of es)
             (All-weaker (λ q. key_order e.0 q ≡ Less) (λ q. key_order key q ≡ Less)
-            (λ q less. nat_list_cmp_total.trans key e.0 q is less) (keys_of es)
-            (All-from_recursion _ (keys_of es) sorted.0)),
+            (λ q less. nat_list_cmp_total.trans key e.0 q is less) (keys_of es) all),
       ),
       sorted,
     )
     by Equal is rest = sorted
     by Greater is rest = (
-      recursion_from_All (λ q. key_order e.0 q ≡ Less) _
-          (All-keys-insert_entry key_order key value (λ q. key_order e.0 q ≡ Less) es
-          (All-from_recursion _ (keys_of es) sorted.0) (turned key e.0 Greater is)),
+      recursion_from_All (λ q. key_order e.0 q ≡ Less)
+          (keys_of (insert_entry key_order es key value))
+          (All-keys-insert_entry key_order key value (λ q. key_order e.0 q ≡ Less) es all
+          (turned_back key e.0 is)),
       rest,
     )
 
@@ -241,17 +224,14 @@ pub ordered_left : {X : Type 0} (es : List (List ℕ × X)) (test : List ℕ →
     → IsStrictlySortedBy key_order (keys_of (remove_entry test es))
 unfolding IsStrictlySortedBy
 ordered_left [] test sorted = tt
-ordered_left (e ∷ es) test sorted = by (test e.0) (ordered_left es test sorted.1)
-  where
-    by : (b : Bool) → IsStrictlySortedBy key_order (keys_of (remove_entry test es))
-        → IsStrictlySortedBy key_order (keys_of (cond b es (e ∷ remove_entry test es)))
-    by true rest = sorted.1
-    by false rest = (
+ordered_left (e ∷ es) test sorted = cond_both (test e.0) es (e ∷ remove_entry test es)
+    (λ es. IsStrictlySortedBy key_order (keys_of es)) (λ _. sorted.1)
+    (λ _. (
       recursion_from_All (λ q. key_order e.0 q ≡ Less) (keys_of (remove_entry test es))
           (All-map-remove_entry test (λ f. f.0) (λ q. key_order e.0 q ≡ Less) es
-          (All-from_recursion _ (keys_of es) sorted.0)),
-      rest,
-    )
+          (All-from_recursion (λ q. key_order e.0 q ≡ Less) (keys_of es) sorted.0)),
+      ordered_left es test sorted.1,
+    ))
 
 -- an edit of a list is one of what is seen of it
 pub inserted_seen : {A B : Type 0} (f : A → B) (xs : List A) (at : ℕ) (x : A)
@@ -276,7 +256,39 @@ module _ {A X : Type 0} (f : A → List ℕ × X) (xs : List A) (at : ℕ) (x : 
         (slice_get-get_or xs at x (rw length-map at within) ∙ ap Some (sym read)) in
         (cc, entry.2 ∙ cc)
 
-    pub replaced : (y : A) (value : X) → f y ≡ ((f x).0, value)
-        → map f (set xs at y) ≡ insert_entry key_order (map f xs) key value
-    replaced y value e = map-set f xs at y ∙ ap (set (map f xs) at)
-        (e ∙ ap (λ k. (k, value)) seen_at.0) ∙ sym ((there key (map f xs) at sorted is).4 value)
+-- elements with another, of which the entries with a value under a key are seen, in order
+abbrev pub IsPut : {A X : Type 0} → (A → List ℕ × X) → List A → List (List ℕ × X) → List ℕ → X
+    → Type 0
+IsPut f new es key value = (map f new ≡ insert_entry key_order es key value)
+    × IsStrictlySortedBy key_order (keys_of (map f new))
+
+module _ {A X : Type 0} (f : A → List ℕ × X) (xs : List A) (es : List (List ℕ × X))
+    (seen : map f xs ≡ es) (at : ℕ) (key : List ℕ) (value : X) (y : A)
+    (sorted : IsStrictlySortedBy key_order (keys_of es))
+  where
+    put_as : (new : List A) → map f new ≡ insert_entry key_order es key value
+        → IsPut f new es key value
+    put_as new e = (e, rw e (ordered_put es key value sorted))
+
+    -- in place of the one of the key
+    pub replaced : (d : A) → slice_get (keys_of es) at ≡ Some key
+        → f y ≡ ((f (get_or xs at d)).0, value) → IsPut f (set xs at y) es key value
+    replaced d is e =
+        let x = get_or xs at d in
+        let within : at < length xs = omega (
+          arith,
+          slice_get_within (keys_of es) at key is,
+          length-keys_of es,
+          ap length seen,
+          length-map xs f,
+        ) in
+        let old = seen_at f xs at x key (rw seen sorted) (rw seen is)
+        (get_or_default xs at d x within) in
+        put_as _ (map-set f xs at y ∙ rw (seen, e, old.0)
+        (sym ((there key es at sorted is).4 value)))
+
+    -- as a new one
+    pub inserted : IsGap (keys_of es) key at → f y ≡ (key, value)
+        → IsPut f (insert xs at y) es key value
+    inserted gap e = put_as _ (inserted_seen f xs at y
+        ∙ rw (seen, e) (sym ((none key es at gap).2 value)))
