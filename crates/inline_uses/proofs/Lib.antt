@@ -34,6 +34,7 @@ pub mod Search
 pub mod Shown
 pub mod Spots
 pub mod Tables
+pub mod TreeNames
 pub mod Trees
 pub mod Under
 pub mod Words

@@ -1,21 +1,5 @@
 -- The nodes that the members of a JSON object add to a tree.
-use Rattle.std.proofs.Common.{◌≡◌, ◌<◌, ◌≤◌, ◌+◌, inl, inr, ℕ, suc, List, [], ◌∷◌, ◌++◌, length, Option, Some, None, Ordering, Less, String, string_bytes, refl, ap, subst, arith}
-use Rattle.std.specs.Prelude.{slice_get}
-use Rattle.std.specs.List.{All, AllByRecursion}
-use Rattle.std.specs.Map.{keys_of}
-use Rattle.std.specs.Cmp.Lexicographic.{slice_cmp}
-use Rattle.std.specs.Ordering.{nat_cmp}
-use Rattle.std.specs.Str.{chars}
-use Rattle.std.specs.declared.alloc.Global.{Global}
-use Rattle.std.proofs.lemmas.List.{append_assoc, length-append}
-use Rattle.std.proofs.lemmas.List.Elements.{All-append, All-cons, All-nil}
-use Rattle.std.proofs.lemmas.Option.{slice_get_within}
-use Rattle.serde_json.specs.Data.{Data, null, boolean, number, string, array, object, Members, no_members, member}
-use Rattle.serde_json.specs.Find.{get_member}
-use Rattle.serde_json.specs.View.{members_view}
-use Rattle.serde_json.specs.declared.value.Value.{Value}
-use Rattle.inline_uses.specs.Tree.{node_at, IsPlaceOf, IsTree, listed, listed_members}
-use Rattle.inline_uses.specs.declared.tree.Node.{Node}
+use Rattle.inline_uses.proofs.TreeNames.{All, All-append, All-cons, All-nil, AllByRecursion, Data, Global, IsPlaceOf, IsTree, Less, List, Members, Node, None, Option, Ordering, Some, String, Value, [], ap, append_assoc, arith, array, boolean, chars, get_member, inl, inr, keys_of, length, length-append, listed, listed_members, member, members_view, nat_cmp, no_members, node_at, null, number, object, refl, slice_cmp, slice_get, slice_get_within, string, string_bytes, subst, suc, ℕ, ◌++◌, ◌+◌, ◌<◌, ◌∷◌, ◌≡◌, ◌≤◌}
 use Rattle.inline_uses.proofs.Tables.{from_push}
 
 -- the node is under the n-th, or under one after that

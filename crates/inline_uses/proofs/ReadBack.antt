@@ -1,22 +1,10 @@
 -- Nodes that are read from members one by one: keys lead to them as they lead into the JSON.
-use Rattle.std.proofs.Common.{◌≡◌, ◌⊎◌, ◌<◌, ◌≤◌, inl, inr, ℕ, suc, List, [], ◌∷◌, length, Result, Ok, Err, IfOk, Option, Some, None, map, Ordering, Less, Equal, Greater, refl, sym, ap, subst, ◌∙◌, arith}
-use Rattle.std.specs.Prelude.{slice_get, IsUtf8}
-use Rattle.std.specs.Ordering.{match_ordering}
-use Rattle.std.specs.Str.{chars}
-use Rattle.std.proofs.lemmas.Cmp.{tied_itself, nat_list_cmp_total}
-use Rattle.std.proofs.lemmas.Map.Lookups.{exact_bytes}
-use Rattle.std.proofs.lemmas.Str.{encodes-chars}
-use Rattle.std.proofs.lemmas.Option.{slice_get_within}
-use Rattle.inlinable_string.specs.Text.{bytes_of}
-use Rattle.serde_json.specs.Data.{Data, object, Members, member}
-use Rattle.serde_json.specs.Find.{get, get_member}
-use Rattle.inline_uses.specs.Symbols.{key_order}
-use Rattle.inline_uses.specs.Tree.{node_at, IsPlaceOf, IsTree, Leads, IsShown, HaveSamePaths}
-use Rattle.inline_uses.specs.declared.tree.Fault.{Fault}
-use Rattle.inline_uses.specs.declared.tree.Node.{Node}
-use Rattle.inline_uses.proofs.Listed.{IsUnderLate, all_late, with_member}
+use Rattle.inline_uses.proofs.TreeNames.{Data, Equal, Err, Fault, Global, Greater, HaveSamePaths, IfOk, IsPlaceOf, IsReadable, IsShown, IsStrictlySortedBy, IsTree, IsUtf8, Leads, Less, List, Members, Node, None, Ok, Option, Ordering, Result, Some, String, Value, [], ap, arith, bytes_of, chars, encodes-chars, exact_bytes, get, get_member, inl, inr, key_order, keys_of, length, listed, listed_members, map, match_ordering, member, members_view, nat_list_cmp_total, node_at, object, refl, slice_get, slice_get_within, sorted_head, sorted_tail, string_bytes, subst, suc, sym, tied_itself, view, ℕ, ◌++◌, ◌-◌, ◌<◌, ◌∙◌, ◌∷◌, ◌≡◌, ◌≤◌, ◌⊎◌}
+use Rattle.inline_uses.proofs.Listed.{IsUnderLate, absent, all_late, in_steps, one_more, string_order, with_member}
+use Rattle.inline_uses.proofs.Readable.{Decide, all_decide, one_read}
 use Rattle.inline_uses.proofs.Shown.{IsShownAt, same_or_other}
 use Rattle.inline_uses.proofs.Tables.{at_seam, before_append, from_seam}
+use Rattle.inline_uses.proofs.Trees.{wider}
 use Rattle.inline_uses.proofs.Under.{next_of}
 
 -- what the value has under a key is shown, or left, and then no node has the key
@@ -146,6 +134,55 @@ module _ (nodes : List Node) (place : Option ℕ) (k : List ℕ) (e : Data) (tre
             → IsReadAt nodes place key (get key d) o → IsReadAt new place key (get key d) o
         by differs None is = still key differs (get key d) is
         by differs (Some v) (is, none) = (is, still key differs None none)
+
+-- of the members of a value the nodes have some, and get the others, which are left
+pub record AreAdded (old nodes : List Node) (place : Option ℕ) (levels : ℕ) (d : Data)
+    (left : List (String Global × Value)) : Type 0 where
+  pub within : IsPlaceOf nodes place
+  pub decide : Decide levels d (members_view left)
+  pub adds : nodes ++ listed_members (length nodes) place (members_view left)
+      ≡ old ++ listed (length old) place d
+  pub ordered : IsStrictlySortedBy string_order (keys_of left)
+  pub read : IsReadBut nodes place d (members_view left)
+
+pub none_added : (nodes : List Node) (place : Option ℕ) (levels : ℕ) (d : Data)
+    → (es left : List (String Global × Value)) → d ≡ object (members_view es) → left ≡ es
+    → IsPlaceOf nodes place
+    → ((id : ℕ) (key : List ℕ) → ¬ (slice_get nodes id ≡ Some (node_at place key)))
+    → IsStrictlySortedBy string_order (keys_of es) → AreAdded nodes nodes place levels d left
+none_added nodes place levels d es left is all within free ordered = rw (is, all) (record {
+  within = within;
+  decide = all_decide levels _;
+  adds = refl;
+  ordered = ordered;
+  read = none_read nodes place _ free;
+})
+
+-- a member is added in two steps
+pub one_added : {old nodes : List Node} {place : Option ℕ} {levels : ℕ} {d : Data}
+    {key : String Global} {v : Value} {left : List (String Global × Value)}
+    → AreAdded old nodes place levels d ((key, v) ∷ left) → IsTree nodes
+    → length (string_bytes key) ≤ 16 → bytes_of (chars (string_bytes key)) ≡ string_bytes key
+    → (new after : List Node) (k : List ℕ) (n : ℕ) → new ≡ nodes ++ node_at place (chars k) ∷ []
+    → k ≡ string_bytes key → n ≡ length nodes → after ≡ new ++ listed (length new) (Some n) (view v)
+    → IsShown after (Some n) (view v) → IsReadable (levels - 1) (view v) → 0 < levels
+    → AreAdded old after place levels d left
+one_added {old} {nodes} {place} {levels} {d} {key} {v} {left} was tree short bytes new after k n
+    is_new same count is_after shown readable some =
+    let all = in_steps nodes new after place k (string_bytes key) (view v) n is_new same count
+    is_after in
+    let last = absent key left (sorted_head string_order _ _ was.ordered) in
+    let shown = subst (λ ns. IsShown ns (Some (length nodes)) (view v)) all
+    (subst (λ i. IsShown after (Some i) (view v)) count shown) in
+    rw all (record {
+      within = wider nodes _ place was.within;
+      decide = one_read levels d (string_bytes key) (view v) (members_view left) was.decide short
+          readable some;
+      adds = one_more nodes place (string_bytes key) (view v) (members_view left) ∙ was.adds;
+      ordered = sorted_tail string_order _ _ was.ordered;
+      read = read_one nodes place (string_bytes key) (view v) tree was.within d (members_view left)
+          bytes last shown was.read;
+    })
 
 -- two lists of nodes that one value shows
 pub shown_again : (nodes : List Node) (d : Data) (result : Result (List Node) Fault)

@@ -1,10 +1,5 @@
 -- JSON values from which trees can be read, member by member.
-use Rattle.std.proofs.Common.{◌≡◌, ◌↔◌, ◌<◌, ◌≤◌, ◌-◌, ℕ, suc, List, length, Result, Err, Ordering, Less, Equal, Greater, arith, rules}
-use Rattle.std.specs.Ordering.{match_ordering}
-use Rattle.serde_json.specs.Data.{Data, object, Members, no_members, member, put, depth, members_depth}
-use Rattle.inline_uses.specs.Tree.{IsNested, AreNested, HasShortKeys, HaveShortKeys, IsReadable, IsFaultOf}
-use Rattle.inline_uses.specs.declared.tree.Fault.{Fault}
-use Rattle.inline_uses.specs.declared.tree.Fault.TheVariants.{LongKey, NoNode, Taken, NotObject, TooDeep, NoMemory}
+use Rattle.inline_uses.proofs.TreeNames.{AreNested, Data, Equal, Err, Fault, Greater, HasShortKeys, HaveShortKeys, IsFaultOf, IsNested, IsReadable, Less, List, LongKey, Members, NoMemory, NoNode, NotObject, Ordering, Result, Taken, TooDeep, arith, depth, length, match_ordering, member, members_depth, no_members, object, put, rules, suc, ℕ, ◌-◌, ◌<◌, ◌↔◌, ◌≡◌, ◌≤◌}
 
 -- whether the members that are left can be read decides whether the value can
 abbrev pub Decide : ℕ → Data → Members → Type 0

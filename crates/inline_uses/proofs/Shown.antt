@@ -1,20 +1,7 @@
 -- The JSON object of a place, of whose nodes some have been shown, and others are left.
-use Rattle.std.proofs.Common.{◌≡◌, ◌↔◌, ◌⊎◌, inl, inr, ℕ, List, [], ◌∷◌, Option, Some, None, IsSome, map, refl, sym, ap, subst}
-use Rattle.std.specs.Prelude.{slice_get, nat_eq, IsUtf8, option_and_then}
-use Rattle.std.specs.BTreeMap.{BTreeMap}
-use Rattle.std.specs.Cmp.Lexicographic.{pointwise, bytes_decides}
-use Rattle.std.specs.List.{AllByRecursion}
-use Rattle.std.specs.Str.{chars}
-use Rattle.std.proofs.lemmas.Bool.{cases_Bool}
-use Rattle.std.proofs.lemmas.Bool.Decides.{not_from_Decides}
-use Rattle.std.proofs.lemmas.Str.{encodes-chars}
-use Rattle.inlinable_string.specs.Text.{bytes_of}
-use Rattle.serde_json.specs.Data.{Data, object, Members, no_members, put}
-use Rattle.serde_json.specs.Find.{get, get_member}
-use Rattle.serde_json.proofs.Views.{get_member-put, get_member-put_other}
-use Rattle.inline_uses.specs.Tree.{node_at, IsTree, AreFound, Leads, walk, IsShown}
-use Rattle.inline_uses.specs.declared.tree.Node.{Node}
-use Rattle.inline_uses.proofs.Under.{Entry, IsLeft, under, found_left}
+use Rattle.inline_uses.proofs.TreeNames.{All, AllByRecursion, AreFound, BTreeMap, Bound, Data, Fault, IsEntryInRange, IsReadable, IsShown, IsSome, IsTree, IsUtf8, Leads, List, Members, NoMemory, Node, None, Option, Some, TooDeep, [], ap, arith, bytes_decides, bytes_of, cases_Bool, chars, encodes-chars, entries_between, get, get_member, get_member-put, get_member-put_other, inl, inr, length, map, nat_eq, no_members, node_at, not_from_Decides, object, option_and_then, place_order, pointwise, put, refl, rules, slice_get, subst, suc, sym, ◌-◌, ◌<◌, walk, ℕ, ◌↔◌, ◌∷◌, ◌≡◌, ◌≤◌, ◌⊎◌}
+use Rattle.inline_uses.proofs.Readable.{AreReadable, readable_put}
+use Rattle.inline_uses.proofs.Under.{AreUnder, Entry, IsLeft, all_under, end_key, first_key, found_left, under}
 
 pub same_or_other : (key k : List ℕ) → (key ≡ k) ⊎ ¬ (key ≡ k)
 same_or_other key k = elim (cases_Bool (pointwise nat_eq key k)) [
@@ -90,3 +77,54 @@ put_in nodes place p n k v ms left tree is text inner outer key utf8 =
       | inr later ↦ later
     ]
     by differs (Some w) shown = shown
+
+-- the members are those of a place, except for the nodes of the entries that are left
+pub record AreMembersBut (nodes : List Node) (place : Option ℕ) (below : ℕ) (ms : Members)
+    (left : List Entry) : Type 0 where
+  pub shown : IsShownBut nodes place (object ms) left
+  pub under : AreUnder nodes place left
+  pub readable : AreReadable below ms
+
+-- those of a range from the first key of the place up to the one past the last
+pub no_member : (nodes : List Node) (place : Option ℕ) (below : ℕ)
+    → (ids : BTreeMap (Option ℕ × List ℕ) ℕ) (a b : Bound (Option ℕ × List ℕ)) (es : List Entry)
+    → AreFound nodes ids → a ≡ first_key place → b ≡ end_key place
+    → es ≡ entries_between place_order a b ids.entries
+    → All (IsEntryInRange place_order a b ids) es → AreMembersBut nodes place below no_members es
+no_member nodes place below ids a b es found first end between inside = record {
+  shown = rw (between, first, end) (none_shown nodes place ids found);
+  under = all_under nodes place ids es found (rw (first, end) at inside);
+  readable = search rules;
+}
+
+pub member_put : {nodes : List Node} {place p : Option ℕ} {below n : ℕ} {k : List ℕ} {ms : Members}
+    {left : List Entry} → AreMembersBut nodes place below ms (((p, k), n) ∷ left) → (v : Data)
+    → IsTree nodes → chars (bytes_of k) ≡ k → IsShown nodes (Some n) v
+    → IsReadable (suc (below - 1)) v → 0 < below
+    → AreMembersBut nodes place below (put (bytes_of k) v ms) left
+member_put {nodes} {place} {p} {below} {n} {k} {ms} {left} was v tree text shown deep some =
+    let is = was.under.0 text in
+    let readable = subst (λ levels. IsReadable levels v) (omega (arith, some)) deep in
+    record {
+      shown = put_in nodes place p n k v ms left tree is text shown was.shown;
+      under = was.under.1;
+      readable = readable_put below (bytes_of k) v ms (tree.short n _ is) readable was.readable;
+    }
+
+pub members_shown : {nodes : List Node} {place : Option ℕ} {below : ℕ} {ms : Members}
+    {left : List Entry} → AreMembersBut nodes place below ms left → left ≡ []
+    → IsShown nodes place (object ms)
+members_shown {nodes} {place} {below} {ms} was end = all_shown nodes place (object ms)
+    (subst (IsShownBut nodes place (object ms)) end was.shown)
+
+-- a fault of memory, or that keys lead down from the place for so many levels
+abbrev pub IsTooDeep : List Node → Option ℕ → ℕ → Fault → Type 0
+IsTooDeep nodes place levels f = (f ≡ NoMemory) ⊎ ((f ≡ TooDeep)
+    × ((keys : List (List ℕ)) × (to : ℕ) × Leads nodes place keys to × (levels ≤ length keys)))
+
+pub deeper : (nodes : List Node) (place : Option ℕ) (key : List ℕ) (id m n : ℕ) (f : Fault)
+    → slice_get nodes id ≡ Some (node_at place key) → n ≤ suc m → IsTooDeep nodes (Some id) m f
+    → IsTooDeep nodes place n f
+deeper nodes place key id m n f is le (inl e) = inl e
+deeper nodes place key id m n f is le (inr (e, (keys, to, leads, deep))) =
+    inr (e, (key ∷ keys, to, (id, is, leads), omega (arith, deep, le)))

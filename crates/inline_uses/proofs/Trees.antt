@@ -1,24 +1,5 @@
 -- A tree with one more node at the end of its list.
-use Rattle.std.proofs.Common.{◌≡◌, ◌<◌, ◌≤◌, ◌↔◌, inl, inr, ℕ, List, [], ◌∷◌, ◌++◌, length, Bool, true, false, cond, Option, Some, None, IsSome, Equal, is_eq, refl, ap, subst, sym, ◌∙◌, arith, rules}
-use Rattle.std.specs.Prelude.{slice_get}
-use denote.Ref.{Bor}
-use Rattle.std.specs.BTreeMap.{BTreeMap, get, is_at}
-use Rattle.std.specs.Bool.{Decides}
-use Rattle.std.specs.Cmp.{Equal-is}
-use Rattle.std.specs.Cmp.Lexicographic.{slice_cmp}
-use Rattle.std.specs.List.{fold}
-use Rattle.std.specs.Map.{lookup}
-use Rattle.std.specs.Option.{option_cmp}
-use Rattle.std.specs.Ordering.{nat_cmp, ordering_then}
-use Rattle.std.specs.Str.{chars}
-use Rattle.inlinable_string.specs.Text.{bytes_of, size}
-use Rattle.std.proofs.lemmas.Cmp.{ranked, tied_itself}
-use Rattle.std.proofs.lemmas.List.{length-append}
-use Rattle.std.proofs.lemmas.Map.Lookups.{exact_bytes, exact_pairs}
-use Rattle.std.proofs.lemmas.Option.{slice_get_within}
-use Rattle.inline_uses.specs.PlacedKeys.{place_order_total}
-use Rattle.inline_uses.specs.Tree.{node_at, IsPlaceOf, IsTree, place_order, AreFound, Leads}
-use Rattle.inline_uses.specs.declared.tree.Node.{Node}
+use Rattle.inline_uses.proofs.TreeNames.{AreFound, BTreeMap, Bool, Bor, Decides, Equal, Equal-is, IsPlaceOf, IsSome, IsTree, Leads, List, Node, None, Option, Some, [], ap, arith, bytes_of, chars, cond, exact_bytes, exact_pairs, false, fold, inl, inr, is_at, is_eq, length, length-append, lookup, nat_cmp, node_at, option_cmp, ordering_then, place_order, place_order_total, ranked, refl, rules, size, slice_cmp, slice_get, slice_get_within, subst, sym, tied_itself, true, value_at, ℕ, ◌++◌, ◌<◌, ◌↔◌, ◌∙◌, ◌∷◌, ◌≡◌, ◌≤◌}
 use Rattle.inline_uses.proofs.Tables.{at_push, before_append, from_push, one_id_pushed}
 
 pub grown : (nodes : List Node) (place : Option ℕ) (key : List ℕ) → IsTree nodes
@@ -66,16 +47,16 @@ pub found : (nodes : List Node) (parent : Option ℕ) (key : List ℕ)
     → (old new : BTreeMap (Option ℕ × List ℕ) ℕ) (n : ℕ) → n ≡ length nodes
     → ((id : ℕ) → ¬ (slice_get nodes id ≡ Some (node_at parent key)))
     → chars (bytes_of key) ≡ key → AreFound nodes old
-    → ((q : Option ℕ × List ℕ) → get place_order new q
-    ≡ cond (is_eq (place_order (parent, key) q)) (Some n) (get place_order old q))
+    → ((q : Option ℕ × List ℕ) → value_at place_order new q
+    ≡ cond (is_eq (place_order (parent, key) q)) (Some n) (value_at place_order old q))
     → AreFound (nodes ++ node_at parent key ∷ []) new
 found nodes parent key old new n count none text was sets place k id is_text =
     by (is_eq (place_order (parent, key) (place, k)))
     (same_key parent place key k text is_text) (sets (place, k))
   where
     by : (b : Bool) → Decides b (node_at parent key ≡ node_at place k)
-        → get place_order new (place, k) ≡ cond b (Some n) (get place_order old (place, k))
-        → (get place_order new (place, k) ≡ Some id)
+        → value_at place_order new (place, k) ≡ cond b (Some n) (value_at place_order old (place, k))
+        → (value_at place_order new (place, k) ≡ Some id)
         ↔ (slice_get (nodes ++ node_at parent key ∷ []) id ≡ Some (node_at place k))
     by true told is = (
       (λ h. let e : id ≡ length nodes = cc in
@@ -106,16 +87,16 @@ module _ (nodes : List Node) (place : Option ℕ) (key : List ℕ)
     (ids : BTreeMap (Option ℕ × List ℕ) ℕ) (found : AreFound nodes ids)
     (text : chars (bytes_of key) ≡ key)
   where
-    pub no_node : get place_order ids (place, key) ≡ None → (id : ℕ)
+    pub no_node : value_at place_order ids (place, key) ≡ None → (id : ℕ)
         → ¬ (slice_get nodes id ≡ Some (node_at place key))
     no_node none id is =
-        let some : get place_order ids (place, key) ≡ Some id = (found place key id text).1 is in cc
+        let some : value_at place_order ids (place, key) ≡ Some id = (found place key id text).1 is in cc
 
-    pub some_node : IsSome (get place_order ids (place, key))
+    pub some_node : IsSome (value_at place_order ids (place, key))
         → (id : ℕ) × (slice_get nodes id ≡ Some (node_at place key))
-    some_node some = by (get place_order ids (place, key)) refl some
+    some_node some = by (value_at place_order ids (place, key)) refl some
       where
-        by : (o : Option ℕ) → get place_order ids (place, key) ≡ o → IsSome o
+        by : (o : Option ℕ) → value_at place_order ids (place, key) ≡ o → IsSome o
             → (id : ℕ) × (slice_get nodes id ≡ Some (node_at place key))
         by None is h = cc
         by (Some id) is h = (id, (found place key id text).0 is)

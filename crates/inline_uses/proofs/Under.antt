@@ -1,23 +1,5 @@
 -- The part of what finds a tree's nodes that has those under one place.
-use Rattle.std.proofs.Common.{◌≡◌, ◌⊎◌, ◌<◌, inl, inr, ℕ, zero, suc, List, [], ◌∷◌, true, false, Option, Some, None, unwrap_or, option_map, Ordering, Less, Equal, Greater, refl, ap, sym, subst, ◌∙◌, arith}
-use Rattle.std.specs.Prelude.{slice_get}
-use Rattle.std.specs.BTreeMap.{BTreeMap, is_at}
-use Rattle.std.specs.BTreeMap.Range.{IsInRange, IsEntryInRange, range_contains, entries_between}
-use Rattle.std.specs.Cmp.{nat_cmp_is}
-use Rattle.std.specs.Cmp.Lexicographic.{slice_cmp, options_total}
-use Rattle.std.specs.List.{All, AllByRecursion}
-use Rattle.std.specs.Map.{lookup}
-use Rattle.std.specs.Option.{option_cmp}
-use Rattle.std.specs.Ordering.{nat_cmp, ordering_then, is_gt, is_le}
-use Rattle.std.specs.Str.{chars}
-use Rattle.std.specs.declared.ops.Bound.{Bound}
-use Rattle.std.specs.declared.ops.Bound.TheVariants.{Included, Excluded}
-use Rattle.std.proofs.lemmas.Cmp.{nat_cmp_total, ranked, tied_itself}
-use Rattle.std.proofs.lemmas.List.Elements.{All-weaker, recursion_from_All}
-use Rattle.std.proofs.lemmas.Map.Entries.{lookup-filter-keys, place_from_lookup}
-use Rattle.inlinable_string.specs.Text.{bytes_of}
-use Rattle.inline_uses.specs.Tree.{node_at, place_order, AreFound}
-use Rattle.inline_uses.specs.declared.tree.Node.{Node}
+use Rattle.inline_uses.proofs.TreeNames.{All, All-weaker, AllByRecursion, AreFound, BTreeMap, Bound, Equal, Excluded, Greater, Included, IsEntryInRange, IsInRange, Less, List, Node, None, Option, Ordering, Some, [], ap, arith, bytes_of, chars, entries_between, false, inl, inr, is_at, is_gt, is_le, lookup, lookup-filter-keys, nat_cmp, nat_cmp_is, nat_cmp_total, node_at, option_cmp, option_map, options_total, ordering_then, place_from_lookup, place_order, range_contains, ranked, recursion_from_All, refl, slice_cmp, slice_get, subst, suc, sym, tied_itself, true, unwrap_or, zero, ℕ, ◌<◌, ◌∙◌, ◌∷◌, ◌≡◌, ◌⊎◌}
 use Rattle.inline_uses.proofs.Trees.{exact_places}
 
 abbrev pub Entry : Type 0
@@ -124,12 +106,3 @@ found_left place key es id bytes is =
     let (i, q, here, e) = place_from_lookup test (under place es) id (kept ∙ is) in
     left_at (under place es) i (q, id) key here
     (sym (ap (λ (x : Option ℕ × List ℕ). x.1) (same q e)) ∙ bytes)
-
--- what a range with these bounds gives
-pub range_is : (place : Option ℕ) (a b : Bound (Option ℕ × List ℕ))
-    → (ids : BTreeMap (Option ℕ × List ℕ) ℕ) (es : List Entry) → a ≡ first_key place
-    → b ≡ end_key place → es ≡ entries_between place_order a b ids.entries
-    → All (IsEntryInRange place_order a b ids) es → (es ≡ under place ids.entries) × All
-    (IsEntryInRange place_order (first_key place) (end_key place) ids) es
-range_is place a b ids es first end between inside =
-    (rw (first, end) at between, rw (first, end) at inside)

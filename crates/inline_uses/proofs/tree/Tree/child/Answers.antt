@@ -1,9 +1,4 @@
-use Rattle.std.proofs.Common.{rules, ◌≡◌, ◌≤◌, Some, None, length, sym, ap, subst, arith, ◌∙◌}
-use Rattle.std.specs.Prelude.{◌<◌}
-use Rattle.std.specs.BTreeMap.{get}
-use Rattle.std.specs.Str.{chars}
-use Rattle.inlinable_string.specs.Text.{bytes_of, size}
-use Rattle.inline_uses.specs.Tree.{node_at, IsPlaceOf, IsTree, place_order}
+use Rattle.inline_uses.proofs.TreeNames.{IsPlaceOf, IsTree, None, Some, ap, arith, bytes_of, chars, length, node_at, place_order, rules, size, subst, sym, value_at, ◌<◌, ◌∙◌, ◌≡◌, ◌≤◌}
 use Rattle.inline_uses.proofs.Trees.{is_place}
 use Rattle.inline_uses.proofs.tree.Tree.child.Goals as goal
 
@@ -26,7 +21,7 @@ returns c =
     let text : chars (bytes_of (chars c.args.key.now)) ≡ chars c.args.key.now
     = ap chars (c.bytes_of_parts.ensures.string c.args.key.now c.utf8.key) in
     let key : c.in_ok-key.key ≡ chars c.args.key.now = search rules in
-    let is : get place_order c.self.inside.ids (c.args.place, chars c.args.key.now)
+    let is : value_at place_order c.self.inside.ids (c.args.place, chars c.args.key.now)
     ≡ c.copied.result = rw (← key, ← c.new.ensures) (search rules) in
     rw (← c.self.view_is, ← is) (λ id.
     c.self.invariant.1 c.args.place (chars c.args.key.now) id text)

@@ -1,10 +1,4 @@
-use Rattle.std.proofs.Common.{rules, refl, ◌≡◌, ◌∷◌, ◌++◌, [], Some, ap, sym, ◌∙◌}
-use Rattle.std.specs.Prelude.{slice_get}
-use Rattle.std.proofs.lemmas.Grind.{fold-append}
-use Rattle.std.proofs.lemmas.List.{append_assoc}
-use Rattle.std.proofs.lemmas.Option.{slice_get-get_or}
-use Rattle.inlinable_string.specs.Values.{inlinable_state}
-use Rattle.inline_uses.specs.Tree.{joined}
+use Rattle.inline_uses.proofs.TreeNames.{Some, [], ap, append_assoc, fold-append, inlinable_state, joined, refl, rules, slice_get, slice_get-get_or, sym, ◌++◌, ◌∙◌, ◌∷◌, ◌≡◌}
 use Rattle.inline_uses.proofs.Trees.{above, keys_up}
 use Rattle.inline_uses.proofs.tree.Tree.path.Goals as goal
 

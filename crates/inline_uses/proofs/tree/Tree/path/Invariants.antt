@@ -1,6 +1,4 @@
-use Rattle.std.proofs.Common.{◌≡◌, ℕ, suc, List, ◌++◌, None, length, unwrap_or, option_map}
-use Rattle.inlinable_string.specs.Values.{inlinable_state}
-use Rattle.inline_uses.specs.Tree.{IsPlaceOf, Leads, joined}
+use Rattle.inline_uses.proofs.TreeNames.{IsPlaceOf, Leads, List, None, inlinable_state, joined, length, option_map, suc, unwrap_or, ℕ, ◌++◌, ◌≡◌}
 use Rattle.inline_uses.proofs.Trees.{keys_up}
 use Rattle.inline_uses.proofs.tree.Tree.path.Given as goal
 

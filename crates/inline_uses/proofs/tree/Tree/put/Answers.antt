@@ -1,15 +1,10 @@
-use Rattle.std.proofs.Common.{rules, ◌≡◌, ◌↔◌, ℕ, Some, None, true, refl}
-use Rattle.std.specs.Prelude.{slice_get}
-use Rattle.std.specs.Result.{is_ok}
-use Rattle.std.specs.BTreeMap.{get}
-use Rattle.std.specs.BTreeMap.Entry.{map_with_value}
-use Rattle.inline_uses.specs.Tree.{node_at, place_order}
+use Rattle.inline_uses.proofs.TreeNames.{None, Some, is_ok, map_with_value, node_at, place_order, refl, rules, slice_get, true, value_at, ℕ, ◌↔◌, ◌≡◌}
 use Rattle.inline_uses.proofs.Trees.{grown, found, found_in, no_node, some_node}
 use Rattle.inline_uses.proofs.tree.Tree.put.Goals.{After-new, In-Vacant}
 use Rattle.inline_uses.proofs.tree.Tree.put.Goals as goal
 
 -- where the map has no such key, there is no node with it
-untaken : (c : After-new) → get place_order c.self.inside.ids c.new.result ≡ None → {A : Type 0}
+untaken : (c : After-new) → value_at place_order c.self.inside.ids c.new.result ≡ None → {A : Type 0}
     → ¬ A → A ↔ ((id : ℕ) × (slice_get c.args.self.now id ≡ Some (node_at c.args.parent c.args.key)))
 untaken c none never = (
   (λ a. absurd (never a)),
@@ -19,7 +14,7 @@ untaken c none never = (
 )
 
 -- so where it has room for the key
-absent : (c : In-Vacant) → get place_order c.self.inside.ids c.new.result ≡ None
+absent : (c : In-Vacant) → value_at place_order c.self.inside.ids c.new.result ≡ None
 absent c = rw c.in-Vacant.is at c.in-Ok.ensures.found
 
 pub returns-in_default-clause-taken : goal.returns-in_default-clause-taken

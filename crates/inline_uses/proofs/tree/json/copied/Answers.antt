@@ -1,4 +1,4 @@
-use Rattle.serde_json.specs.View.{view}
+use Rattle.inline_uses.proofs.TreeNames.{view}
 use Rattle.inline_uses.proofs.ReadBack.{shown_again}
 use Rattle.inline_uses.proofs.tree.json.copied.Goals as goal
 
