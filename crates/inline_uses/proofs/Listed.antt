@@ -1,5 +1,5 @@
 -- The nodes that the members of a JSON object add to a tree.
-use Rattle.inline_uses.proofs.TreeNames.{All, All-append, All-cons, All-nil, AllByRecursion, Data, Global, IsPlaceOf, IsTree, Less, List, Members, Node, None, Option, Ordering, Some, String, Value, [], ap, append_assoc, arith, array, boolean, chars, get_member, inl, inr, keys_of, length, length-append, listed, listed_members, member, members_view, nat_cmp, no_members, node_at, null, number, object, refl, slice_cmp, slice_get, slice_get_within, string, string_bytes, subst, suc, ℕ, ◌++◌, ◌+◌, ◌<◌, ◌∷◌, ◌≡◌, ◌≤◌}
+use Rattle.inline_uses.proofs.TreeNames.{All, All-append, All-cons, All-nil, AllByRecursion, Data, Global, IsPlaceOf, IsTree, Less, List, Members, Node, None, Option, Ordering, Some, String, Value, [], ap, append_assoc, arith, chars, get_member, inl, inr, keys_of, length, length-append, listed, listed_members, member, members_view, nat_cmp, no_members, node_at, object, refl, slice_cmp, slice_get, slice_get_within, string_bytes, subst, suc, ℕ, ◌++◌, ◌+◌, ◌<◌, ◌∷◌, ◌≡◌, ◌≤◌}
 use Rattle.inline_uses.proofs.Tables.{from_push}
 
 -- the node is under the n-th, or under one after that
@@ -9,12 +9,8 @@ IsUnderLate n node = (p : ℕ) × (node.parent ≡ Some p) × (n ≤ p)
 mutual
   pub all_late : (m n p : ℕ) (d : Data) → m ≤ n → m ≤ p
       → All (IsUnderLate m) (listed n (Some p) d)
-  all_late m n p null h k = All-nil _
-  all_late m n p (boolean b) h k = All-nil _
-  all_late m n p (number x) h k = All-nil _
-  all_late m n p (string s) h k = All-nil _
-  all_late m n p (array ds) h k = All-nil _
   all_late m n p (object ms) h k = members_late m n p ms h k
+  all_late m n p d h k = All-nil _
 
   members_late : (m n p : ℕ) (ms : Members) → m ≤ n → m ≤ p
       → All (IsUnderLate m) (listed_members n (Some p) ms)

@@ -99,13 +99,11 @@ module _ (nodes : List Node) (place : Option ℕ) (k : List ℕ) (e : Data) (tre
           (id, before_append nodes _ id _ is),
           λ i here l ls utf8 all.
               let was = old i here in
-              let s = shown i was l ls utf8 all in (
-                (λ some. let (to, leads) = s.0 some in (to, up (Some i) (map chars (l ∷ ls)) to leads)),
-                λ (to, leads). s.1 (
-                  to,
-                  down i (map chars (l ∷ ls)) to
-                      (slice_get_within nodes i _ was) (after_place place i _ was) leads,
-                ),
+              let (down_to, up_to) = shown i was l ls utf8 all in
+              let keys = map chars (l ∷ ls) in
+              let within = slice_get_within nodes i _ was in (
+                (λ some. let (to, leads) = down_to some in (to, up (Some i) keys to leads)),
+                λ (to, leads). up_to (to, down i keys to within (after_place place i _ was) leads),
               ),
         )
 

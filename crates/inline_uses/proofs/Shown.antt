@@ -117,7 +117,7 @@ pub members_shown : {nodes : List Node} {place : Option ℕ} {below : ℕ} {ms :
 members_shown {nodes} {place} {below} {ms} was end = all_shown nodes place (object ms)
     (subst (IsShownBut nodes place (object ms)) end was.shown)
 
--- a fault of memory, or that keys lead down from the place for so many levels
+-- a fault of memory, or that at least `levels` keys lead down from the place
 abbrev pub IsTooDeep : List Node → Option ℕ → ℕ → Fault → Type 0
 IsTooDeep nodes place levels f = (f ≡ NoMemory) ⊎ ((f ≡ TooDeep)
     × ((keys : List (List ℕ)) × (to : ℕ) × Leads nodes place keys to × (levels ≤ length keys)))

@@ -1,7 +1,5 @@
 -- What is found by its index in a list with more at its end.
-use Rattle.std.proofs.Common.{◌≡◌, ◌⊎◌, inl, inr, ℕ, zero, suc, List, [], ◌∷◌, ◌++◌, length, Some, refl, sym, ap, subst, ◌∙◌}
-use Rattle.std.specs.Prelude.{slice_get}
-use Rattle.std.specs.List.{All}
+use Rattle.std.proofs.Common.{◌≡◌, ◌⊎◌, ◌↔◌, All, Bool, Decides, Option, cond, false, true, slice_get, inl, inr, ℕ, zero, suc, List, [], ◌∷◌, ◌++◌, length, Some, refl, sym, ap, subst, ◌∙◌}
 use Rattle.std.proofs.lemmas.List.Elements.{All-get_or, All-nil}
 use Rattle.std.proofs.lemmas.Option.{get_or_from_slice_get, slice_get_within}
 use Rattle.inline_uses.specs.Symbols.{HaveOneId}
@@ -36,6 +34,27 @@ from_seam P (z ∷ xs) y ys (suc i) x all not is = elim (from_seam P xs y ys i x
 pub from_push : {X : Type 0} (xs : List X) (x y : X) (i : ℕ) → slice_get (xs ++ y ∷ []) i ≡ Some x
     → (slice_get xs i ≡ Some x) ⊎ ((i ≡ length xs) × (y ≡ x))
 from_push xs x y i is = from_seam (λ _. ⊥) xs y [] i x (All-nil _) (λ none. none) is
+
+-- a new one is found under the next index, and the others under theirs
+pub found_pushed : {X : Type 0} (xs : List X) (x y : X) (b : Bool) (old : Option ℕ) (i : ℕ)
+    → ((i : ℕ) → ¬ (slice_get xs i ≡ Some x)) → Decides b (x ≡ y)
+    → (old ≡ Some i) ↔ (slice_get xs i ≡ Some y)
+    → (cond b (Some (length xs)) old ≡ Some i) ↔ (slice_get (xs ++ x ∷ []) i ≡ Some y)
+found_pushed xs x y true old i none told was =
+    let same : x ≡ y = told.0 refl in (
+      (λ h. let e : i ≡ length xs = cc in rw e (at_push xs x ∙ ap Some same)),
+      λ h. elim (from_push xs y x i h) [
+        | inl older ↦ absurd (none i (older ∙ ap Some (sym same)))
+        | inr newer ↦ ap Some (sym newer.0)
+      ],
+    )
+found_pushed xs x y false old i none told was = (
+  (λ h. before_append xs (x ∷ []) i y (was.0 h)),
+  λ h. elim (from_push xs y x i h) [
+    | inl older ↦ was.1 older
+    | inr newer ↦ let f : false ≡ true = told.1 newer.1 in cc
+  ],
+)
 
 -- a text that has no id gets one
 pub one_id_pushed : {X : Type 0} (texts : List X) (text : X)

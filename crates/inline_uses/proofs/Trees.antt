@@ -1,6 +1,6 @@
 -- A tree with one more node at the end of its list.
-use Rattle.inline_uses.proofs.TreeNames.{AreFound, BTreeMap, Bool, Bor, Decides, Equal, Equal-is, IsPlaceOf, IsSome, IsTree, Leads, List, Node, None, Option, Some, [], ap, arith, bytes_of, chars, cond, exact_bytes, exact_pairs, false, fold, inl, inr, is_at, is_eq, length, length-append, lookup, nat_cmp, node_at, option_cmp, ordering_then, place_order, place_order_total, ranked, refl, rules, size, slice_cmp, slice_get, slice_get_within, subst, sym, tied_itself, true, value_at, ℕ, ◌++◌, ◌<◌, ◌↔◌, ◌∙◌, ◌∷◌, ◌≡◌, ◌≤◌}
-use Rattle.inline_uses.proofs.Tables.{at_push, before_append, from_push, one_id_pushed}
+use Rattle.inline_uses.proofs.TreeNames.{AreFound, BTreeMap, Bor, Decides, Equal, Equal-is, IsPlaceOf, IsSome, IsTree, Leads, List, Node, None, Option, Some, [], ap, arith, bytes_of, chars, cond, exact_bytes, exact_pairs, fold, inl, inr, is_at, is_eq, length, length-append, lookup, nat_cmp, node_at, option_cmp, ordering_then, place_order, place_order_total, ranked, refl, rules, size, slice_cmp, slice_get, slice_get_within, subst, sym, tied_itself, true, value_at, ℕ, ◌++◌, ◌<◌, ◌↔◌, ◌∷◌, ◌≡◌, ◌≤◌}
+use Rattle.inline_uses.proofs.Tables.{found_pushed, from_push, one_id_pushed}
 
 pub grown : (nodes : List Node) (place : Option ℕ) (key : List ℕ) → IsTree nodes
     → IsPlaceOf nodes place → ((id : ℕ) → ¬ (slice_get nodes id ≡ Some (node_at place key)))
@@ -51,28 +51,9 @@ pub found : (nodes : List Node) (parent : Option ℕ) (key : List ℕ)
     ≡ cond (is_eq (place_order (parent, key) q)) (Some n) (value_at place_order old q))
     → AreFound (nodes ++ node_at parent key ∷ []) new
 found nodes parent key old new n count none text was sets place k id is_text =
-    by (is_eq (place_order (parent, key) (place, k)))
-    (same_key parent place key k text is_text) (sets (place, k))
-  where
-    by : (b : Bool) → Decides b (node_at parent key ≡ node_at place k)
-        → value_at place_order new (place, k) ≡ cond b (Some n) (value_at place_order old (place, k))
-        → (value_at place_order new (place, k) ≡ Some id)
-        ↔ (slice_get (nodes ++ node_at parent key ∷ []) id ≡ Some (node_at place k))
-    by true told is = (
-      (λ h. let e : id ≡ length nodes = cc in
-          rw e (at_push nodes (node_at parent key) ∙ ap Some (told.0 refl))),
-      λ h. elim (from_push nodes (node_at place k) (node_at parent key) id h) [
-        | inl older ↦ absurd (none id (older ∙ ap Some (sym (told.0 refl))))
-        | inr newer ↦ is ∙ ap Some (count ∙ sym newer.0)
-      ],
-    )
-    by false told is = (
-      (λ h. before_append nodes (_ ∷ []) id _ ((was place k id is_text).0 (sym is ∙ h))),
-      λ h. elim (from_push nodes (node_at place k) (node_at parent key) id h) [
-        | inl older ↦ is ∙ (was place k id is_text).1 older
-        | inr newer ↦ let f : false ≡ true = told.1 newer.1 in cc
-      ],
-    )
+    rw (sets (place, k), count) (found_pushed nodes (node_at parent key) (node_at place k)
+    (is_eq (place_order (parent, key) (place, k))) (value_at place_order old (place, k)) id none
+    (same_key parent place key k text is_text) (was place k id is_text))
 
 -- what finds a node is the map's entries alone
 pub found_in : (nodes : List Node) (ids : BTreeMap (Option ℕ × List ℕ) ℕ)
@@ -90,7 +71,8 @@ module _ (nodes : List Node) (place : Option ℕ) (key : List ℕ)
     pub no_node : value_at place_order ids (place, key) ≡ None → (id : ℕ)
         → ¬ (slice_get nodes id ≡ Some (node_at place key))
     no_node none id is =
-        let some : value_at place_order ids (place, key) ≡ Some id = (found place key id text).1 is in cc
+        let some : value_at place_order ids (place, key) ≡ Some id
+        = (found place key id text).1 is in cc
 
     pub some_node : IsSome (value_at place_order ids (place, key))
         → (id : ℕ) × (slice_get nodes id ≡ Some (node_at place key))

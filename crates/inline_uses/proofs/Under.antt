@@ -37,7 +37,8 @@ place_after None = refl
 place_after (Some q) = sym (nat_cmp_is (suc q) q Greater (omega arith))
 
 -- no key is below the empty one
-least : (bs : List ℕ) → (is_le (slice_cmp nat_cmp [] bs) ≡ true) × ¬ (slice_cmp nat_cmp bs [] ≡ Less)
+least : (bs : List ℕ)
+    → (is_le (slice_cmp nat_cmp [] bs) ≡ true) × ¬ (slice_cmp nat_cmp bs [] ≡ Less)
 least [] = (refl, λ e. cc)
 least (b ∷ bs) = (refl, λ e. cc)
 

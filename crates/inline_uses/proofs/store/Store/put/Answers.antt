@@ -35,7 +35,8 @@ anew c =
     let name : bytes_at c.in_ok-key-in-Err.key ≡ c.args.key.now = search rules in
     let is : bytes_at c.in_ok-value.value ≡ c.args.value.now = search rules in
     inserted entry_of c.self.inside.entries c.args.self.now c.self.view_is c.in-Err.at
-    c.args.key.now c.args.value.now _ c.search.ensures.order c.in-Err.ensures.gap (rw (name, is) refl)
+    c.args.key.now c.args.value.now _ c.search.ensures.order c.in-Err.ensures.gap
+    (rw (name, is) refl)
 
 pub invariant_of-self-in-Continue-branch-3 : goal.invariant_of-self-in-Continue-branch-3
 invariant_of-self-in-Continue-branch-3 c = rw c.in_ok-insert-in-Err.ensures

@@ -1,4 +1,4 @@
-use Rattle.inline_uses.proofs.TreeNames.{IsPlaceOf, IsTree, None, Some, ap, arith, bytes_of, chars, length, node_at, place_order, rules, size, subst, sym, value_at, ◌<◌, ◌∙◌, ◌≡◌, ◌≤◌}
+use Rattle.inline_uses.proofs.TreeNames.{IsPlaceOf, IsTree, None, ap, arith, chars, length, place_order, rules, size, subst, value_at, ◌<◌, ◌≡◌}
 use Rattle.inline_uses.proofs.Trees.{is_place}
 use Rattle.inline_uses.proofs.tree.Tree.child.Goals as goal
 
@@ -10,21 +10,17 @@ returns-in_err-key c =
     = c.sizes_of_parts.ensures.string key c.utf8.key in
     let none : c.from_residual.result ≡ None = search rules in
     rw (← c.self.view_is) (λ id. (
-      (λ h. let e : None ≡ Some id = sym none ∙ h in cc),
-      λ is. let short : size (chars key) ≤ 16
-          = c.self.invariant.0.short id (node_at c.args.place (chars key)) is in
-          absurd (omega (arith, long, bytes, short)),
+      (λ h. cc),
+      λ is. absurd (omega (arith, long, bytes, c.self.invariant.0.short id _ is)),
     ))
 
 pub returns : goal.returns
 returns c =
-    let text : chars (bytes_of (chars c.args.key.now)) ≡ chars c.args.key.now
-    = ap chars (c.bytes_of_parts.ensures.string c.args.key.now c.utf8.key) in
     let key : c.in_ok-key.key ≡ chars c.args.key.now = search rules in
     let is : value_at place_order c.self.inside.ids (c.args.place, chars c.args.key.now)
     ≡ c.copied.result = rw (← key, ← c.new.ensures) (search rules) in
-    rw (← c.self.view_is, ← is) (λ id.
-    c.self.invariant.1 c.args.place (chars c.args.key.now) id text)
+    rw (← c.self.view_is, ← is) (λ id. c.self.invariant.1 c.args.place (chars c.args.key.now) id
+    (ap chars (c.bytes_of_parts.ensures.string c.args.key.now c.utf8.key)))
 
 pub returns-then-not-has : goal.returns-then-not-has
 returns-then-not-has c =

@@ -1,4 +1,4 @@
-use Rattle.inline_uses.proofs.TreeNames.{Some, [], ap, append_assoc, fold-append, inlinable_state, joined, refl, rules, slice_get, slice_get-get_or, sym, ◌++◌, ◌∙◌, ◌∷◌, ◌≡◌}
+use Rattle.inline_uses.proofs.TreeNames.{Some, [], ap, append_assoc, fold-append, rules, slice_get, slice_get-get_or, sym, ◌++◌, ◌∙◌, ◌∷◌, ◌≡◌}
 use Rattle.inline_uses.proofs.Trees.{above, keys_up}
 use Rattle.inline_uses.proofs.tree.Tree.path.Goals as goal
 
@@ -16,19 +16,11 @@ up-preserved c =
 
 pub down-preserved : goal.down-preserved
 down-preserved c =
-    let key = c.in-Some-pop.node.now.key in
-    let left = keys_up c.pop.new.self.items in
-    let old = (inlinable_state 30 c.down.path).text in
     let popped : c.down.nodes.items ≡ c.pop.new.self.items ++ c.in-Some-pop.node ∷ []
     = search rules in
-    let (keys, leads, text) = c.down.invariant in
-    let before : old ++ joined (key ∷ left) ≡ joined keys
-    = rw (popped, fold-append) at text in
-    let written : (inlinable_state 30 c.push_str.new.self).text ≡ (old ++ 47 ∷ []) ++ key
-    = c.in_ok-push_str.ensures.text
-    ∙ rw (c.in_ok-push.ensures.text, c.as_str.ensures.text) refl in (
+    let (keys, leads, text) = c.down.invariant in (
       keys,
       leads,
-      rw written (append_assoc (old ++ 47 ∷ []) key (joined left)
-          ∙ append_assoc old (47 ∷ []) (key ++ joined left) ∙ before),
+      rw (c.in_ok-push_str.ensures.text, c.in_ok-push.ensures.text, c.as_str.ensures.text)
+          (simp append_assoc (rw (popped, fold-append) at text)),
     )

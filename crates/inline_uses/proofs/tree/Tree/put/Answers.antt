@@ -1,11 +1,12 @@
-use Rattle.inline_uses.proofs.TreeNames.{None, Some, is_ok, map_with_value, node_at, place_order, refl, rules, slice_get, true, value_at, ℕ, ◌↔◌, ◌≡◌}
+use Rattle.inline_uses.proofs.TreeNames.{None, Some, map_with_value, node_at, place_order, refl, rules, slice_get, value_at, ℕ, ◌↔◌, ◌≡◌}
 use Rattle.inline_uses.proofs.Trees.{grown, found, found_in, no_node, some_node}
 use Rattle.inline_uses.proofs.tree.Tree.put.Goals.{After-new, In-Vacant}
 use Rattle.inline_uses.proofs.tree.Tree.put.Goals as goal
 
 -- where the map has no such key, there is no node with it
-untaken : (c : After-new) → value_at place_order c.self.inside.ids c.new.result ≡ None → {A : Type 0}
-    → ¬ A → A ↔ ((id : ℕ) × (slice_get c.args.self.now id ≡ Some (node_at c.args.parent c.args.key)))
+untaken : (c : After-new) → value_at place_order c.self.inside.ids c.new.result ≡ None
+    → {A : Type 0} → ¬ A
+    → A ↔ ((id : ℕ) × (slice_get c.args.self.now id ≡ Some (node_at c.args.parent c.args.key)))
 untaken c none never = (
   (λ a. absurd (never a)),
   λ (id, is). absurd (no_node c.self.inside.nodes.items c.args.parent c.args.key
@@ -30,16 +31,15 @@ returns-then-is_err-clause-taken c =
 pub invariant_of-self-in-Vacant : goal.invariant_of-self-in-Vacant
 invariant_of-self-in-Vacant c =
     let nodes = c.self.inside.nodes.items in
-    let absent = rw c.new.ensures at (absent (goal.at.invariant_of-self-in-Vacant c).In-Vacant) in
     let none = no_node nodes c.args.parent c.args.key c.self.inside.ids c.self.invariant.1
-    c.requires.text absent in
+    c.requires.text
+    (rw c.new.ensures at (absent (goal.at.invariant_of-self-in-Vacant c).In-Vacant)) in
     let new = map_with_value c.in-Ok.entry c.len-id.result in
     let copied : c.copy.result ≡ c.args.key = search rules in
-    let pushed : is_ok c.push.result ≡ true = c.if-is_err.ensures.negation in
     let is = found nodes c.args.parent c.args.key c.self.inside.ids new c.len-id.result
     (search rules) none c.requires.text c.self.invariant.1
     (rw c.new.ensures at (c.in-Ok.ensures.update.0 c.len-id.result).0) in
-    rw (c.push.ensures.items, pushed, copied) (
+    rw (c.push.ensures.items, c.if-is_err.ensures.negation, copied) (
       grown nodes c.args.parent c.args.key c.self.invariant.0
           (rw (← c.self.view_is) at c.requires.place) none c.requires.short,
       found_in _ new _ (search rules) is,

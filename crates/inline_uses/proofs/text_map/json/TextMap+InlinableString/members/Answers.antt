@@ -25,5 +25,5 @@ returns-clause-entries c =
     c.loop-key.invariant
 
 pub returns-clause-flat : goal.returns-clause-flat
-returns-clause-flat c = flat_put with_bytes c.loop-key.key-iterator.iter (texts_of c.args.self.now) _
-    c.loop-key.invariant
+returns-clause-flat c = flat_put with_bytes c.loop-key.key-iterator.iter
+    (texts_of c.args.self.now) _ c.loop-key.invariant
