@@ -1,15 +1,7 @@
-use Rattle.std.proofs.Common.{rules}
 use Rattle.std.proofs.lemmas.List.{nil_from_length}
 use Rattle.inline_uses.specs.Store.{entry_of}
-use Rattle.inline_uses.proofs.Members.{none_put, one_put, all_put, flat_put}
+use Rattle.inline_uses.proofs.Members.{one_put, all_put, flat_put}
 use Rattle.inline_uses.proofs.store.Store.members.Goals as goal
-
-pub loop-key-init : goal.loop-key-init
-loop-key-init c = none_put entry_of _ c.args.self.now _ (rw (
-  c.into_iter-key-iterator.ensures.into_iter_gives,
-  c.rev-key-items.ensures.source,
-  c.iter.ensures.rest,
-) c.scan.ensures.all) (search rules)
 
 pub loop-key-preserved : goal.loop-key-preserved
 loop-key-preserved c =

@@ -1,5 +1,4 @@
 use Rattle.inline_uses.proofs.TreeNames.{AreFound, Excluded, Included, IsTree, Some, [], ap, arith, bytes_of, chars, inr, node_at, refl, rules, slice_get, slice_get_within, subst, suc, sym, view-Object, ℕ, ◌∙◌, ◌∷◌, ◌≡◌}
-use Rattle.inline_uses.proofs.Readable.{object_of}
 use Rattle.inline_uses.proofs.Shown.{IsTooDeep, deeper, member_put, members_shown, no_member}
 use Rattle.inline_uses.proofs.tree.Tree.+object.Goals.{After-as_str-key, in-None, in-Some}
 use Rattle.inline_uses.proofs.tree.Tree.+object.Goals as goal
@@ -44,10 +43,6 @@ pub returns-then-below-eq0-clause-fault : goal.returns-then-below-eq0-clause-fau
 returns-then-below-eq0-clause-fault t c =
     let is = node_of (goal.at.returns-then-below-eq0-clause-fault t c).After-as_str-key in
     inr (refl, (c.in-Some-2.entry.now.1 ∷ [], _, (c.in-Some-2.id.now, is, refl), omega arith))
-
-pub returns-clause-readable : goal.returns-clause-readable
-returns-clause-readable t c = rw (view-Object c.loop-entry.members)
-    (object_of c.args.below _ c.loop-entry.invariant.readable)
 
 pub returns-clause-shown : goal.returns-clause-shown
 returns-clause-shown t c = rw (view-Object c.loop-entry.members)

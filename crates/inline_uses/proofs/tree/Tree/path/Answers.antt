@@ -1,4 +1,4 @@
-use Rattle.inline_uses.proofs.TreeNames.{Some, [], ap, append_assoc, fold-append, rules, slice_get, slice_get-get_or, sym, ◌++◌, ◌∙◌, ◌∷◌, ◌≡◌}
+use Rattle.inline_uses.proofs.TreeNames.{Some, [], ap, fold-append, rules, slice_get, slice_get-get_or, sym, ◌++◌, ◌∙◌, ◌∷◌, ◌≡◌}
 use Rattle.inline_uses.proofs.Trees.{above, keys_up}
 use Rattle.inline_uses.proofs.tree.Tree.path.Goals as goal
 
@@ -13,14 +13,3 @@ up-preserved c =
     let pushed : c.push.new.self.items ≡ c.up.nodes.items ++ node ∷ [] = search rules in
     rw (pushed, fold-append) (above nodes at c.args.id node.now (keys_up c.up.nodes.items)
     c.self.invariant.0 is leads)
-
-pub down-preserved : goal.down-preserved
-down-preserved c =
-    let popped : c.down.nodes.items ≡ c.pop.new.self.items ++ c.in-Some-pop.node ∷ []
-    = search rules in
-    let (keys, leads, text) = c.down.invariant in (
-      keys,
-      leads,
-      rw (c.in_ok-push_str.ensures.text, c.in_ok-push.ensures.text, c.as_str.ensures.text)
-          (simp append_assoc (rw (popped, fold-append) at text)),
-    )
