@@ -1,11 +1,7 @@
 -- Where a key goes among others that are below it and above it.
-use Rattle.std.proofs.Common.{arith, ◌≡◌, ℕ, ◌+◌, ◌-◌, List, [], ◌++◌, length, take, drop, Less, Greater, refl, ap, ◌∙◌}
-use Rattle.std.proofs.lemmas.Cmp.{nat_list_cmp_total}
-use Rattle.std.proofs.lemmas.List.{get_or-append_right, get_or_append_left, get_or-drop, get_or-take, length-append, length-drop, length-take-le}
-use Rattle.std.proofs.lemmas.List.Elements.{All-from_get_or, All-from_recursion, All-get_or, recursion_from_All}
-use Rattle.std.specs.List.{AllByRecursion}
-use Rattle.std.specs.Ordering.{ordering_reverse}
-use Rattle.inline_uses.specs.Symbols.{key_order, IsGap}
+use Rattle.inline_uses.proofs.Names.{All-from_recursion, All-get_or, AllByRecursion, Greater, IsGap, Less, List, [], ap, arith, drop, get_or-drop, get_or-take, get_or_append_left, key_order, length, length-append, length-drop, length-take-le, nat_list_cmp_total, ordering_reverse, recursion_from_All, refl, take, ℕ, ◌++◌, ◌+◌, ◌-◌, ◌∙◌, ◌≡◌}
+use Rattle.std.proofs.lemmas.List.{get_or-append_right}
+use Rattle.std.proofs.lemmas.List.Elements.{All-from_get_or}
 
 -- texts are below a key, or above it
 abbrev pub AreBelow : List ℕ → List (List ℕ) → Type 0

@@ -1,12 +1,9 @@
 -- The entries of a map from texts to texts, with their values as bytes.
-use Rattle.std.proofs.Common.{◌≡◌, ℕ, List, [], ◌∷◌, refl, sym, ap, subst}
+use Rattle.inline_uses.proofs.Names.{AreInOrder, Entries, InlinableStringN, IsStrictlySortedBy, List, [], ap, bytes_at, key_order, refl, subst, sym, with_value, ℕ, ◌∷◌, ◌≡◌}
 use Rattle.std.proofs.lemmas.Map.Made.{keys_of-map_values}
-use Rattle.std.specs.List.Sorted.{IsStrictlySortedBy}
-use Rattle.inlinable_string.specs.declared.inlinable_string.InlinableStringN.{InlinableStringN}
-use Rattle.inline_uses.specs.Store as store
-use Rattle.inline_uses.specs.Symbols.{bytes_at, key_order}
-use Rattle.inline_uses.specs.TextMap.{AreInOrder, Entries, texts_of, with_value}
+use Rattle.inline_uses.specs.TextMap.{texts_of}
 use Rattle.inline_uses.proofs.Members.{by_order}
+use Rattle.inline_uses.specs.Store as store
 
 -- a key, and its value as bytes
 abbrev pub with_bytes : List ℕ × InlinableStringN 30 → List ℕ × List ℕ

@@ -1,13 +1,6 @@
 -- The entries of a store, and the members of a JSON object.
-use Rattle.std.proofs.Common.{◌≡◌, ℕ, List, [], ◌∷◌, ◌++◌, map, Some, Ordering, Less, Equal, Greater, refl, sym, ap, subst, ◌∙◌, append-nil}
-use Rattle.std.proofs.lemmas.Cmp.{nat_list_cmp_total}
-use Rattle.std.proofs.lemmas.List.{append_assoc, map-append}
-use Rattle.std.specs.List.{AllByRecursion}
-use Rattle.std.specs.List.Sorted.{IsStrictlySortedBy}
-use Rattle.std.specs.Map.{keys_of}
-use Rattle.std.specs.Ordering.{ordering_reverse, match_ordering}
+use Rattle.inline_uses.proofs.Names.{AllByRecursion, Equal, Greater, IsStrictlySortedBy, Less, List, Ordering, Some, [], ap, append-nil, append_assoc, key_order, keys_of, map, map-append, match_ordering, nat_list_cmp_total, ordering_reverse, refl, subst, sym, ℕ, ◌++◌, ◌∙◌, ◌∷◌, ◌≡◌}
 use Rattle.serde_json.specs.Data.{string, Members, no_members, member, put, members_depth}
-use Rattle.inline_uses.specs.Symbols.{key_order}
 use Rattle.inline_uses.specs.Store.{Entries, AreInOrder, with_value, with_members}
 
 -- f of either of an order
@@ -72,9 +65,6 @@ ArePut view rest all ms = (done : Entries) × (ms ≡ members_of done) × (map v
 
 module _ {X : Type 0} (view : X → List ℕ × List ℕ) (rest : List X) (all : Entries) (ms : Members)
   where
-    pub none_put : map view rest ≡ all → ms ≡ no_members → ArePut view rest all ms
-    none_put seen none = ([], none, append-nil (map view rest) ∙ seen)
-
     -- the last of the rest is put in before those after it
     pub one_put : (left : List X) (e : X) → rest ≡ left ++ e ∷ [] → AreInOrder all
         → ArePut view rest all ms → ArePut view left all (put (view e).0 (string (view e).1) ms)

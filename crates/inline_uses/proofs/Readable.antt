@@ -55,6 +55,3 @@ readable_put n k d (member l e ms) key (nested, short, deep) are =
     ((nested, (first, others)), (key, short, (known, at, rest)), omega (arith, deep, below))
     ((nested, others), (known, short, rest), omega (arith, deep, below))
     ((first, put_nested), (known, at, put_short), omega (arith, put_deep, below))
-
-pub object_of : (n : ℕ) (ms : Members) → AreReadable n ms → IsReadable (suc n) (object ms)
-object_of n ms (nested, short, deep) = (nested, short, omega arith)

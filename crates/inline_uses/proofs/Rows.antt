@@ -1,8 +1,6 @@
 -- A row of entries that begins after other cells: an edit in the row is one of all the cells.
-use Rattle.std.proofs.Common.{arith, ◌≡◌, ℕ, ◌+◌, ◌-◌, ◌≤◌, List, length, take, drop, ap, subst}
-use Rattle.std.proofs.lemmas.List.{drop_at, length-take-le, take-append-drop}
-use Rattle.std.proofs.lemmas.List.Edits.{insert-append_right, remove-append_right}
-use Rattle.std.specs.List.{insert, remove}
+use Rattle.inline_uses.proofs.Names.{List, ap, arith, drop, insert, insert-append_right, length, length-take-le, remove, remove-append_right, subst, take, take-append-drop, ℕ, ◌+◌, ◌-◌, ◌≡◌, ◌≤◌}
+use Rattle.std.proofs.Common.{drop_at}
 
 module _ {X : Type 0} (cells : List X) (start at : ℕ) (within : start ≤ length cells) where
   pub inserted_after : (x : X)

@@ -1,22 +1,14 @@
 -- What a search among keys in order finds, and what an edit there does to the entries.
-use Rattle.std.proofs.Common.{arith, ◌≡◌, ℕ, zero, suc, ◌+◌, ◌-◌, ◌/◌, ◌<◌, ◌≤◌, List, [], ◌∷◌, map, length, get_or, set, Some, None, Bool, true, false, Ordering, Less, Equal, Greater, refl, sym, ap, ◌∙◌, take, drop, option_map}
-use Rattle.std.specs.Prelude.{slice_get}
-use Rattle.std.proofs.Math.Seq.{drop-nil, take-nil}
+use Rattle.inline_uses.proofs.Names.{All-from_recursion, All-weaker, Bool, Equal, Greater, IsGap, IsStrictlySortedBy, Less, Less-from_sorted, List, None, Ordering, Some, [], ap, arith, drop, drop-map, exact_bytes, false, get_or, get_or-map, get_or_from_slice_get, insert, is_at, is_gt, key_order, keys_of, length, length-map, lookup, map, map-append, map-set, match_ordering, nat_list_cmp_total, option_map, recursion_from_All, refl, remove, set, slice_get, slice_get-get_or, slice_get-map, slice_get_within, suc, sym, take, take-map, take-nil, tied_itself, true, zero, ℕ, ◌+◌, ◌-◌, ◌/◌, ◌<◌, ◌∙◌, ◌∷◌, ◌≡◌, ◌≤◌}
+use Rattle.std.proofs.Common.{All, filter}
+use Rattle.std.proofs.Math.Seq.{drop-nil}
 use Rattle.std.proofs.lemmas.Bool.{cond_both}
-use Rattle.std.proofs.lemmas.Cmp.{nat_list_cmp_total, tied_itself}
-use Rattle.std.proofs.lemmas.List.{get_or_default, get_or-map, length-map, map-append, map-set, take-map, drop-map}
-use Rattle.std.proofs.lemmas.List.Elements.{All-from_recursion, recursion_from_All, All-weaker}
+use Rattle.std.proofs.lemmas.List.{get_or_default}
 use Rattle.std.proofs.lemmas.Map.Entries.{length-keys_of}
-use Rattle.std.proofs.lemmas.Map.Keys.{Less-from_sorted, sorted_tail}
-use Rattle.std.proofs.lemmas.Map.Lookups.{exact_bytes}
+use Rattle.std.proofs.lemmas.Map.Keys.{sorted_tail}
 use Rattle.std.proofs.lemmas.Map.Views.{All-keys-insert_entry, All-map-remove_entry}
-use Rattle.std.proofs.lemmas.Option.{slice_get-get_or, slice_get-map, slice_get_within, get_or_from_slice_get}
-use Rattle.std.specs.List.{All, insert, remove, filter}
-use Rattle.std.specs.List.Sorted.{IsStrictlySortedBy}
-use Rattle.std.specs.Map.{keys_of, lookup, remove_entry}
-use Rattle.std.specs.BTreeMap.{is_at, insert_entry}
-use Rattle.std.specs.Ordering.{match_ordering, is_gt}
-use Rattle.inline_uses.specs.Symbols.{key_order, IsGap}
+use Rattle.std.specs.Map.{remove_entry}
+use Rattle.std.specs.BTreeMap.{insert_entry}
 use Rattle.inline_uses.proofs.Gaps.{AreAbove, AreBelow, parts_of_gap, turned, turned_back}
 
 -- a key goes among others from one index on, and not after another

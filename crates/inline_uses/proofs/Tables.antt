@@ -1,8 +1,7 @@
 -- What is found by its index in a list with more at its end.
-use Rattle.std.proofs.Common.{◌≡◌, ◌⊎◌, ◌↔◌, All, Bool, Decides, Option, cond, false, true, slice_get, inl, inr, ℕ, zero, suc, List, [], ◌∷◌, ◌++◌, length, Some, refl, sym, ap, subst, ◌∙◌}
-use Rattle.std.proofs.lemmas.List.Elements.{All-get_or, All-nil}
-use Rattle.std.proofs.lemmas.Option.{get_or_from_slice_get, slice_get_within}
-use Rattle.inline_uses.specs.Symbols.{HaveOneId}
+use Rattle.inline_uses.proofs.Names.{All-get_or, Bool, HaveOneId, List, Option, Some, [], ap, cond, false, get_or_from_slice_get, inl, inr, length, refl, slice_get, slice_get_within, subst, suc, sym, true, zero, ℕ, ◌++◌, ◌↔◌, ◌∙◌, ◌∷◌, ◌≡◌, ◌⊎◌}
+use Rattle.std.proofs.Common.{All, Decides}
+use Rattle.std.proofs.lemmas.List.Elements.{All-nil}
 
 pub before_append : {X : Type 0} (xs ys : List X) (i : ℕ) (x : X) → slice_get xs i ≡ Some x
     → slice_get (xs ++ ys) i ≡ Some x

@@ -1,5 +1,4 @@
-use Rattle.std.proofs.Common.{sym, ap, Some, ◌∙◌}
-use Rattle.inline_uses.specs.Symbols.{bytes_at}
+use Rattle.inline_uses.proofs.Names.{Some, ap, bytes_at, sym, ◌∙◌}
 use Rattle.inline_uses.specs.Store.{entry_of}
 use Rattle.inline_uses.proofs.Search.{none, seen_at}
 use Rattle.inline_uses.proofs.store.Store.get.Goals as goal

@@ -1,6 +1,4 @@
-use Rattle.std.proofs.Common.{rules, ◌≡◌, get_or, None, set, refl}
-use Rattle.std.specs.List.{insert}
-use Rattle.inline_uses.specs.Symbols.{bytes_at}
+use Rattle.inline_uses.proofs.Names.{None, bytes_at, get_or, insert, refl, rules, set, ◌≡◌}
 use Rattle.inline_uses.specs.Store.{entry_of, value_of}
 use Rattle.inline_uses.proofs.Search.{IsPut, replaced, inserted, none}
 use Rattle.inline_uses.proofs.store.Store.put.Goals.{In-Ok, In-Err, In_ok-key-in-Err}

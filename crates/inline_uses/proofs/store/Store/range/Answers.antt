@@ -1,7 +1,4 @@
-use Rattle.std.proofs.Common.{arith, not, ◌&&◌, ◌-◌, refl, sym}
-use Rattle.std.proofs.lemmas.List.{take-map, drop-map}
-use Rattle.std.specs.Ordering.{is_gt}
-use Rattle.inline_uses.specs.Symbols.{key_order}
+use Rattle.inline_uses.proofs.Names.{arith, drop-map, is_gt, key_order, not, refl, sym, take-map, ◌&&◌, ◌-◌}
 use Rattle.inline_uses.proofs.Search.{run}
 use Rattle.inline_uses.proofs.store.Store.range.Goals as goal
 

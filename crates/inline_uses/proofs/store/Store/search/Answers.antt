@@ -1,9 +1,4 @@
-use Rattle.std.proofs.Common.{arith, ◌≡◌, ℕ, List, map, subst}
-use Rattle.std.proofs.lemmas.Simd.{map-map}
-use Rattle.std.specs.List.Sorted.{IsStrictlySortedBy}
-use Rattle.std.specs.Map.{keys_of}
-use Rattle.inlinable_string.specs.declared.inlinable_string.InlinableStringN.{InlinableStringN}
-use Rattle.inline_uses.specs.Symbols.{key_order}
+use Rattle.inline_uses.proofs.Names.{InlinableStringN, IsStrictlySortedBy, List, arith, key_order, keys_of, map, map-map, subst, ℕ, ◌≡◌}
 use Rattle.inline_uses.specs.Store.{AreInOrder, entry_of}
 use Rattle.inline_uses.proofs.Search.{compared}
 use Rattle.inline_uses.proofs.store.Store.search.Goals as goal

@@ -1,7 +1,6 @@
-use Rattle.std.proofs.Common.{rules, ◌≡◌, Some, refl, ◌∙◌}
+use Rattle.inline_uses.proofs.Names.{Some, bytes_at, refl, rules, ◌∙◌, ◌≡◌}
 use Rattle.serde_json.specs.Find.{as_str}
 use Rattle.serde_json.specs.View.{view}
-use Rattle.inline_uses.specs.Symbols.{bytes_at}
 use Rattle.inline_uses.proofs.MapTexts.{text_put}
 use Rattle.inline_uses.proofs.text_map.json.TextMap+InlinableString.from_members.Goals as goal
 

@@ -1,15 +1,8 @@
 use Rattle.std.proofs.Common.{rules, refl}
 use Rattle.inline_uses.specs.TextMap.{texts_of, deref_entry}
 use Rattle.inline_uses.proofs.MapTexts.{texts_in_order, with_bytes}
-use Rattle.inline_uses.proofs.Members.{none_put, one_put, all_put, flat_put}
+use Rattle.inline_uses.proofs.Members.{one_put, all_put, flat_put}
 use Rattle.inline_uses.proofs.text_map.json.TextMap+InlinableString.members.Goals as goal
-
-pub loop-key-init : goal.loop-key-init
-loop-key-init c = none_put with_bytes _ (texts_of c.args.self.now) _ (rw (
-  c.into_iter-key-iterator.ensures.into_iter_gives,
-  c.rev-key-items.ensures.source,
-  c.iter.ensures.all,
-) refl) (search rules)
 
 pub loop-key-preserved : goal.loop-key-preserved
 loop-key-preserved c =
