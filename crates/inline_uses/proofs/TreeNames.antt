@@ -1,7 +1,7 @@
 -- The names that proofs about a tree cite, passed on from one place.
 pub use Rattle.std.proofs.Common.{All, BTreeMap, Bool, Bor, Decides, Equal, Err, Global, Greater, IfOk, IsSome, IsUtf8, Less, List, None, Ok, Option, Ordering, Result, Some, String, [], ap, append_assoc, arith, chars, cond, false, fold, inl, inr, is_eq, is_gt, is_le, is_ok, length, length-append, map, nat_cmp, nat_eq, option_and_then, option_map, refl, rules, slice_get, string_bytes, subst, suc, sym, true, unwrap_or, zero, ℕ, ◌++◌, ◌+◌, ◌-◌, ◌<◌, ◌↔◌, ◌∙◌, ◌∷◌, ◌≡◌, ◌≤◌, ◌⊎◌}
 pub use Rattle.std.proofs.lemmas.Bool.{cases_Bool}
-pub use Rattle.std.proofs.lemmas.Bool.Decides.{not_from_Decides}
+pub use Rattle.std.proofs.lemmas.Bool.Decides.{nat_tests, not_from_Decides}
 pub use Rattle.std.proofs.lemmas.Cmp.{nat_cmp_total, nat_list_cmp_total, ranked, tied_itself}
 pub use Rattle.std.proofs.lemmas.Grind.{fold-append}
 pub use Rattle.std.proofs.lemmas.List.Elements.{All-append, All-cons, All-nil, All-weaker, recursion_from_All}

@@ -1,5 +1,5 @@
 -- The part of what finds a tree's nodes that has those under one place.
-use Rattle.inline_uses.proofs.TreeNames.{All, All-weaker, AllByRecursion, AreFound, BTreeMap, Bound, Equal, Excluded, Greater, Included, IsEntryInRange, IsInRange, Less, List, Node, None, Option, Ordering, Some, [], ap, arith, bytes_of, chars, entries_between, false, inl, inr, is_at, is_gt, is_le, lookup, lookup-filter-keys, nat_cmp, nat_cmp_is, nat_cmp_total, node_at, option_cmp, option_map, options_total, ordering_then, place_from_lookup, place_order, range_contains, ranked, recursion_from_All, refl, slice_cmp, slice_get, subst, suc, sym, tied_itself, true, unwrap_or, zero, ℕ, ◌<◌, ◌∙◌, ◌∷◌, ◌≡◌, ◌⊎◌}
+use Rattle.inline_uses.proofs.TreeNames.{All, All-weaker, AllByRecursion, AreFound, BTreeMap, Bound, Equal, Excluded, Greater, Included, IsEntryInRange, IsInRange, Less, List, Node, None, Option, Ordering, Some, [], ap, arith, bytes_of, chars, entries_between, false, inl, inr, is_at, is_gt, is_le, lookup, lookup-filter-keys, nat_cmp, nat_cmp_is, nat_cmp_total, nat_tests, node_at, option_cmp, option_map, options_total, ordering_then, place_from_lookup, place_order, range_contains, ranked, recursion_from_All, refl, slice_cmp, slice_get, subst, suc, sym, tied_itself, true, unwrap_or, zero, ℕ, ◌<◌, ◌∙◌, ◌∷◌, ◌≡◌, ◌⊎◌}
 use Rattle.inline_uses.proofs.Trees.{exact_places}
 
 abbrev pub Entry : Type 0
@@ -52,29 +52,16 @@ contained place p k e = rw (
   (least (bytes_of k)).0,
 ) refl
 
-less_first : (o r : Ordering) → ordering_then o r ≡ Less → ¬ (r ≡ Less) → o ≡ Less
-less_first Less r e not = refl
-less_first Equal r e not = absurd (not e)
-less_first Greater r e not = cc
-
 -- and no others
 in_place : (place p : Option ℕ) (k : List ℕ)
     → IsInRange place_order (first_key place) (end_key place) (p, k) → p ≡ place
 in_place None None k h = refl
 in_place None (Some x) k h =
-    let o = less_first (nat_cmp x 0) _ h.1 (least (bytes_of k)).1 in
-    let less : x < 0 = ranked x 0 Less (sym o) in
-    absurd (omega (arith, less))
+    let o = (least (bytes_of k)).1 in absurd (grind (arith, nat_tests, o))
 in_place (Some q) None k h = let e : true ≡ false = h.0 in cc
 in_place (Some q) (Some x) k h =
-    let o = less_first (nat_cmp x (suc q)) _ h.1 (least (bytes_of k)).1 in
-    let less : x < suc q = ranked x (suc q) Less (sym o) in
-    let not_less : ¬ (x < q) = λ below.
-    let e : Greater ≡ nat_cmp q x = nat_cmp_is q x Greater below in
-    let is : true ≡ false = subst
-    (λ o. is_gt (ordering_then o (slice_cmp nat_cmp (bytes_of []) (bytes_of k))) ≡ false)
-    (sym e) h.0 in cc in
-    let same : x ≡ q = omega (arith, less, not_less) in
+    let o = (least (bytes_of k)).1 in
+    let same : x ≡ q = grind (arith, nat_tests, o) in
     ap Some same
 
 pub all_under : (nodes : List Node) (place : Option ℕ) (ids : BTreeMap (Option ℕ × List ℕ) ℕ)

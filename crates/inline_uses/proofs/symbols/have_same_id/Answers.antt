@@ -5,16 +5,12 @@ pub returns-in-Some-Some : goal.returns-in-Some-Some
 returns-in-Some-Some c =
     let first = c.in-Some-Some.first in
     let second = c.in-Some-Some.second in
-    let one : slice_get c.args.symbols.now first ≡ Some c.args.one.now
-    = (c.find.ensures first).0 c.in-Some-Some.is-0 in
-    let other : slice_get c.args.symbols.now second ≡ Some c.args.other.now
-    = (c.find-2.ensures second).0 c.in-Some-Some.is-1 in (
+    let one = (c.find.ensures first).0 c.in-Some-Some.is-0 in
+    let other = (c.find-2.ensures second).0 c.in-Some-Some.is-1 in (
       (λ same. let e : first ≡ second = (unsigned_Decides first second).0 same in
           (cc, (first, one))),
-      λ both.
-          let e = (c.find.ensures both.1.0).1 both.1.1 in
-          let f = (c.find-2.ensures both.1.0).1 (both.1.1 ∙ ap Some both.0) in
-          let e' : Some first ≡ Some both.1.0 = sym c.in-Some-Some.is-0 ∙ e in
-          let f' : Some second ≡ Some both.1.0 = sym c.in-Some-Some.is-1 ∙ f in
-          (unsigned_Decides first second).1 cc,
+      λ (same, (id, is)).
+          let e = (c.find.ensures id).1 is in
+          let f = (c.find-2.ensures id).1 (is ∙ ap Some same) in
+          (unsigned_Decides first second).1 (cc (c.in-Some-Some.is-0, c.in-Some-Some.is-1)),
     )
