@@ -74,6 +74,7 @@ impl TextMap<InlinableString> {
     }
 
     /// The map of the members of an object: of those before the first that is no string.
+    #[tactic(auto, using(crate::proofs::MapTexts::text_put))]
     fn from_members(alloc: Global, members: &Map<String, Value>) -> Result<Self, AllocError>
         ensures { IfOk result (λ map. IfSome (with_members [] (members_view members.now.entries))
             (λ entries. texts_of map ≡ entries)) }

@@ -65,6 +65,7 @@ impl Row {
     /// Inserts an entry at an index. Fails only if there is no room and an allocation fails; the
     /// entries are then unchanged.
     #[inline]
+    #[tactic(auto, using(crate::proofs::Rows::inserted_after))]
     pub(super) fn insert(&mut self, at: usize, entry: Entry) -> Result<(), AllocError>
         requires row { IsRow self.old }
         requires within { at ≤ length (entries self.old) }
@@ -101,6 +102,7 @@ impl Row {
     /// Removes the entry at an index. Those before it move up if they are fewer and there are many,
     /// and leave a blank entry; else those after it move down. Does not allocate.
     #[inline]
+    #[tactic(auto, using(crate::proofs::Rows::removed_after))]
     pub(super) fn remove(&mut self, at: usize)
         requires row { IsRow self.old }
         requires within { at < length (entries self.old) }
