@@ -45,6 +45,7 @@ impl Model for Store {
 
 impl Store {
     /// Returns the store of no key.
+    #[tactic(auto, unfolding(crate::proofs::Names::IsStrictlySortedBy))]
     pub fn new(alloc: Global) -> Self
         ensures { result ≡ [] }
     {

@@ -51,6 +51,7 @@ impl Row {
     }
 
     /// Puts a value in place of that of the entry at an index. Does not allocate.
+    #[tactic(auto, using(crate::proofs::Rows::value_set))]
     pub(super) fn set_value(&mut self, at: usize, value: InlinableString)
         requires row { IsRow self.old }
         requires within { at < length (entries self.old) }
