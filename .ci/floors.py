@@ -65,7 +65,7 @@ HOSTILE = {'accepted': 1_200, **dict.fromkeys((
 WRONG_DEFINITIONS = {'inlinable_string': 160, 'inline_uses': 35, 'script_language': 87}
 
 # Edits in `wrong-clauses/`, by crate: just as many. Public functions of `callers` that promise something.
-# READMEs whose first program is proved and run: just as many.
+# READMEs whose first program is proved and run: exactly this number.
 WRONG_CLAUSES, CALLERS, PROGRAMS = {'inlinable_string': 5}, 109, 2
 
 # Lemmas, answers to goals and definitions, and paths and names in backticks that the documents cite.

@@ -4,7 +4,7 @@ A case is a row and the number of the request that is refused, of those of its c
 the request that the program itself makes after them. In the row of a case the call that makes the request comes twice:
 first it fails, and then it succeeds. `rt try --fail-alloc` builds a program of which one request is refused,
 always the same, counted from the start. So the program makes further requests before the calls. By a first run the
-cases find how many are granted there; by a second, each makes as many as put the refused one where it must be.
+cases find how many are granted there; by a second, each makes the number that puts the refused one where it must be.
 """
 import os
 import re
@@ -77,7 +77,7 @@ def cases():
 
 
 def played(top, befores):
-    """What the program prints of each case, after so many requests before its calls."""
+    """What the program prints of each case, with this number of requests before its calls."""
     with TemporaryDirectory() as folder:
         for number, (case, before) in enumerate(zip(cases(), befores)):
             write_text(os.path.join(folder, f'{number:04}'), case.file)
