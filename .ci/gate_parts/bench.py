@@ -2,8 +2,8 @@
 
 Without PROGRAM they are the two builds of `bench` that `rt ci` leaves. Each runs every workload on every type of
 text that has it, and must give the sum that `bench/sums` has. None of these is counted or timed. Then jobs of `jobs`,
-and `word_index`, run at a size of GROWTH in `.ci/floors.py` and at four times that, three times each, as LLVM builds
-them: the least time of the larger must be at most eight times that of the smaller.
+and `word_index`, run at a size of GROWTH in `.ci/floors.py` and at four times that, three times each, and more often
+where that fails, as LLVM builds them: the least time of the larger must be at most eight times that of the smaller.
 """
 import sys
 from collections import Counter

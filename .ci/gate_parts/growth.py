@@ -4,6 +4,7 @@ Seconds are of processor, for the whole process, so that what else runs counts l
 taken off: it takes a thousandth of a second, and what takes less than SHORTEST in all is too short. A program whose
 time is the square of the size takes 16 times as long, and one that takes no notice of the size takes as long as before.
 """
+import math
 import os
 import resource
 
@@ -13,8 +14,10 @@ from gate_parts.programs import Case, chosen, run
 from gate_parts.tree import crate_folder
 
 FACTOR, LEAST, MOST = 4, 2, 8
-# How often each size runs, by turns. Of its times the least counts.
-TURNS = 3
+# How often each size runs, by turns. Of its times the least counts. Where these say that a program takes too long or
+# not long enough, up to MOST_TURNS are taken: a machine that was slow for a while is no fault of the program, and one
+# whose order of growth is another is seen by any number of turns.
+TURNS, MOST_TURNS = 3, 12
 SHORTEST = .01
 INPUTS = 2
 WORDS_OF_A_LINE = 8
@@ -37,15 +40,22 @@ def seconds():
     return used.ru_utime + used.ru_stime
 
 
+def is_within(small, large):
+    """Whether these seconds, of the smaller size and of the larger, are as they must be."""
+    return small >= SHORTEST and LEAST <= large / small <= MOST
+
+
 def by_turns(program, cases):
-    """Of each case the least seconds, and all that it printed with its status."""
-    times, answers = [[] for _ in cases], [set() for _ in cases]
-    for _ in range(TURNS):
+    """Of each of two cases the least seconds, and all that it printed with its status."""
+    least, answers = [math.inf] * len(cases), [set() for _ in cases]
+    for turn in range(MOST_TURNS):
+        if turn >= TURNS and is_within(*least):
+            break
         for place, case in enumerate(cases):
             before = seconds()
             answers[place].add(run(program, case))
-            times[place].append(seconds() - before)
-    return map(min, times), answers
+            least[place] = min(least[place], seconds() - before)
+    return least, answers
 
 
 def faults_of(name, program, sizes):
@@ -59,7 +69,7 @@ def faults_of(name, program, sizes):
     print(f'{name}: {small:.3f} s at {sizes[0]:,}, {large:.3f} s at {sizes[1]:,}: {times_as_long:.1f} times as long')
     if small < SHORTEST:
         yield f'{name}: FAILED: {small:.3f} s are too short to be compared'
-    elif not LEAST <= times_as_long <= MOST:
+    elif not is_within(small, large):
         yield f'{name}: FAILED: {times_as_long:.1f} times as long, and it must be from {LEAST} to {MOST}'
 
 
