@@ -6,11 +6,11 @@ ghost use Rattle.std.specs.Str.Iter.{chars_rest};
 ghost use Rattle.std.specs.String.{string_bytes};
 ghost use Rattle.inlinable_string.specs.Text.{bytes_of, size};
 ghost use Rattle.inlinable_string.specs.State.{IsSameText, HasRoom, storage_when_made};
-ghost use Rattle.inlinable_string.specs.Joins.{text_of_strs};
+ghost use Rattle.inlinable_string.specs.Joins.{text_of_strs, text_of_strs_with};
 ghost use Rattle.inlinable_string.specs.Values.{inlinable_policy, inlinable_state};
 
 use inlinable_string::inline_string::NotEnoughSpaceError;
-use inlinable_string::laws::{loops_go_over_the_text, writing_appends};
+use inlinable_string::laws::{loops_go_over_the_text, sizes_are_sums, writing_appends};
 use inlinable_string::{InlinableString, InlinableStringN, InlineStringN, StringExt};
 use std::alloc::{AllocError, Global};
 use std::fmt::{self, Write};
@@ -26,6 +26,15 @@ pub fn joined<const N: usize>(
         ≡ storage_when_made (inlinable_policy N) (size (text_of_strs words.now))) }
 {
     InlinableStringN::from_strs(alloc, words.iter().copied())
+}
+
+/// The path of names, with a slash between each two. It is made if it fits.
+pub fn path_of(names: &[&str]) -> Result<InlineStringN<64>, NotEnoughSpaceError>
+    ensures text { IfOk result (λ path. path ≡ text_of_strs_with (codes "/") names.now) }
+    ensures fits { size (text_of_strs_with (codes "/") names.now) ≤ 64 → IsOk result }
+{
+    sizes_are_sums();
+    InlineStringN::from_strs_with("/", names.iter().copied())
 }
 
 /// Characters appended to a text, by references too, and then words.

@@ -16,6 +16,7 @@ pub mod literals;
 pub mod loops;
 pub mod makers;
 pub mod makes;
+pub mod parts;
 pub mod replacements;
 pub mod room;
 mod sizes;

@@ -1,5 +1,5 @@
 -- Texts in an array to which the items of an iterator are added one by one.
-use Rattle.inlinable_string.proofs.Common.{common_steps, ◌≡◌, ℕ, ◌+◌, ◌≤◌, ◌<◌, List, [], ◌∷◌, ◌++◌, sym, ◌∙◌, arith, subst, Option, Some, None, Result, IsOk, OnErr, size}
+use Rattle.inlinable_string.proofs.Common.{common_steps, ◌≡◌, ℕ, ◌+◌, ◌≤◌, ◌<◌, List, [], ◌∷◌, ◌++◌, sym, ◌∙◌, arith, subst, Option, Some, None, Result, Ok, Err, IsOk, OnErr, size}
 use Rattle.std.proofs.iter.runs.Made.{run_of_turn, run_of_exit}
 use Rattle.std.specs.Iterator.{Yields}
 use Rattle.std.specs.Iterator.Runs.{SomeRun, WholeRun, EachRunFrom}
@@ -44,3 +44,11 @@ module _ {A S : Type 0} (text_of : List A → List ℕ) (gives : S → Option A 
         let last : SomeRun gives it (λ run. IsFull text_of N old new run.items) =
         (run.0, run.1, (items, x, run.2.0, same ∙ sum, rw run.2.0 more)) in
         (refused r last, λ fits. absurd (none_full text_of gives it N old new last fits))
+
+-- a refusal by a text that was new
+pub full_when_new : {A S T E : Type 0} (text_of : List A → List ℕ)
+    (gives : S → Option A → S → Type 0) (it : S) (n : ℕ) (new : List ℕ) (r : Result T E)
+    → OnErr r (SomeRun gives it (λ run. IsFull text_of n [] new run.items))
+    → OnErr r (SomeRun gives it (λ run. n < size (text_of run.items)))
+full_when_new text_of gives it n new (Ok x) run = tt
+full_when_new text_of gives it n new (Err x) run = (run.0, run.1, omega (arith, run.2.4))

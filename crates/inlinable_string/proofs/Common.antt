@@ -14,7 +14,7 @@ pub use Rattle.std.specs.Str.{IsValidUpTo, all_scalars, is_utf8}
 pub use Rattle.std.specs.String.{string_vec}
 pub use lib.Utf8.{scalar_cases}
 pub use Rattle.inlinable_string.specs.Edit.{Outcome, becomes, edit, has_no_place, has_wrong_length, insertion, is_not_utf8, pop_result, removal, removal_behind, replacement, reply_of, split_last, text_after, text_after_step, text_left, truncation, with_char_in_front, yields}
-pub use Rattle.inlinable_string.specs.Joins.{IsExtended, IsRefusedLast, text_of_char_refs, text_of_chars, text_of_strs}
+pub use Rattle.inlinable_string.specs.Joins.{IsExtended, IsRefusedLast, text_of_char_refs, text_of_chars, text_of_strs, text_of_strs_with}
 pub use Rattle.inlinable_string.specs.Laws.{LeavesWithin, PushesWithin, ReservesWithin, StaysWithin, is_refusal, replies_of, text_after_edits}
 pub use Rattle.inlinable_string.specs.Lossy.{char_len, count_in, following, lossy_utf8, lossy_utf8_past, subpart_len}
 pub use Rattle.inlinable_string.specs.Run.{AsksMemory, EachRun, IsCounted, IsFree, IsLegal, IsMet, IsRun, LegalReplies, Need, anywhere, at_end, credit, credit_after, credit_after_step, credit_when_met, need_of, no_room, reserved, state_after, state_after_step, storage_after, storage_after_step, storage_when_met, tight}

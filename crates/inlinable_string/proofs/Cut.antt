@@ -1,6 +1,7 @@
 -- The cut of a text, and its last character.
-use Rattle.inlinable_string.proofs.Common.{common_steps, ◌≡◌, ℕ, ◌-◌, ◌≤◌, true, false, nat_eq, nat_lt, List, [], ◌∷◌, ◌++◌, length, refl, sym, ap, ◌∙◌, arith, length-append, take, drop, take_at, take-append-drop, Option, Some, None, IsSome, Bool, IsTrue, ◌↔◌, cond_both, nat_tests, append_assoc, append-nil, encode_utf8, encodes-append, chars, IsUtf8, IsCharBoundary, IsCharBoundary-from_take, length-encode, len_utf8_bounds, bytes_of, size, IsCut, IsPlace, cut, with_first, split_last}
+use Rattle.inlinable_string.proofs.Common.{common_steps, ◌≡◌, ℕ, ◌-◌, ◌≤◌, true, false, nat_eq, nat_lt, List, [], ◌∷◌, ◌++◌, length, refl, sym, ap, ◌∙◌, arith, length-append, take, drop, take_at, take-append-drop, Option, Some, None, IsSome, Bool, IsTrue, ◌↔◌, cond_both, nat_tests, append_assoc, append-nil, encode_utf8, encodes-append, chars, IsUtf8, IsCharBoundary, IsCharBoundary-from_take, length-drop, length-encode, len_utf8_bounds, suc, zero, bytes_of, size, IsCut, IsPlace, cut, with_first, split_last}
 use Rattle.std.proofs.Math.Seq.{take-append_seam}
+use Rattle.std.proofs.lemmas.Str.{IsCharBoundary-from_drop}
 use Rattle.inlinable_string.proofs.Text.{holds, boundary, cut_at, place_within}
 
 pub cut_joined : (a b : List ℕ) → cut (a ++ b) (size a) ≡ Some (a, b)
@@ -70,6 +71,18 @@ split_last-append (d ∷ v) c = rw (split_last-append v c)
 pub not_from_test : {P : Type 0} (b : Bool) → (IsTrue b ↔ P) → b ≡ false → ¬ P
 not_from_test b test failed at = let passed : b ≡ true = test.1 at in cc
 
+-- where the rest of a list begins
+pub rest_begins : (n : ℕ) (xs rest : List ℕ) → rest ≡ drop n xs
+    → rest ≡ drop (length xs - length rest) xs
+rest_begins zero xs rest e =
+    let none : length xs - length rest ≡ 0 = omega (arith, ap length e) in rw none e
+rest_begins (suc n) [] rest e = rw e refl
+rest_begins (suc n) (x ∷ xs) rest e =
+    let shorter : length rest ≤ length xs = omega (arith, ap length e, length-drop n xs) in
+    let more : suc (length xs) - length rest ≡ suc (length xs - length rest) =
+    omega (arith, shorter) in
+    rest_begins n xs rest e ∙ ap (λ k. drop k (x ∷ xs)) (sym more)
+
 module _ (t bs : List ℕ) (u : IsUtf8 bs) (e : bs ≡ bytes_of t) where
   -- the test of the bytes is that of the characters
   pub places_are : (p : ℕ) → IsCharBoundary bs p ↔ IsPlace t p
@@ -99,6 +112,14 @@ module _ (t bs : List ℕ) (u : IsUtf8 bs) (e : bs ≡ bytes_of t) where
 
   pub place_of_taken : (xs : List ℕ) (n : ℕ) → IsUtf8 xs → xs ≡ take n bs → IsPlace t (length xs)
   place_of_taken xs n v h = place_of_split xs [] n v (sym h ∙ sym (append-nil xs))
+
+  -- and so does what stands before a rest of them that is UTF-8
+  pub place_of_rest : (xs : List ℕ) (n : ℕ) → IsUtf8 xs → xs ≡ drop n bs
+      → IsPlace t (length bs - length xs)
+  place_of_rest xs n v h =
+      let at = length bs - length xs in
+      (places_are at).0
+      (IsCharBoundary-from_drop bs at (omega arith) (rw (rest_begins n bs xs h) at v))
 
 pub ruleset places_of_bytes = (place_within, places_are)
 

@@ -108,7 +108,7 @@ module _ {A S : Type 0} (text_of : List A → List ℕ) (gives : S → Option A 
       (refused r last, λ fits. absurd (all_fit text_of gives it old new last fits), is)
 
 -- the empty text, as it is made
-abbrev empty_state : ℕ → TextState
+abbrev pub empty_state : ℕ → TextState
 empty_state N = record { text = []; storage = Inline; capacity = N; policy = inlinable_policy N }
 
 new_is_empty : (N : ℕ) (made : InlinableStringN N) → (inlinable_state N made).text ≡ []
@@ -139,6 +139,15 @@ module _ {A S : Type 0} (text_of : List A → List ℕ) (N : ℕ)
       subst (λ old. old.capacity < size old.text + size (text_of run.0.items))
       (new_is_empty N made text storage) run.2.above in
       (run.0, run.1, omega (arith, above))
+
+-- a refusal by the empty text as it is made
+pub above_when_empty : {A S T E : Type 0} (text_of : List A → List ℕ)
+    (gives : S → Option A → S → Type 0) (it : S) (N : ℕ) (new : TextState) (r : Result T E)
+    → OnErr r (SomeRun gives it (λ run. IsRefusedLast text_of (empty_state N) run.items new))
+    → OnErr r (SomeRun gives it (λ run. N < size (text_of run.items)))
+above_when_empty text_of gives it N new (Ok x) run = tt
+above_when_empty text_of gives it N new (Err x) run =
+    (run.0, run.1, omega (arith, run.2.above))
 
 -- calls that gave all these items gave the first of them
 first_given : {A S : Type 0} (gives : S → Option A → S → Type 0) (it here : S) (xs ys : List A)

@@ -1,5 +1,6 @@
 pub mod Common
 pub mod Text
+pub mod Trimmed
 pub mod Units
 pub mod Written
 pub mod Counted
@@ -31,5 +32,8 @@ pub mod Places
 pub mod Compared
 pub mod Extended
 pub mod Added
+pub mod Separated
 pub mod Ranges
+pub mod Repeated
+pub mod Splits
 pub mod Retained

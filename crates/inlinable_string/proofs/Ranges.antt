@@ -1,9 +1,9 @@
 -- A text with one of its ranges replaced.
-use Rattle.inlinable_string.proofs.Common.{common_steps, rules, Result, Ok, Err, IsOk, OnErr, ◌≡◌, ℕ, ◌+◌, ◌-◌, ◌≤◌, ◌<◌, true, List, [], ◌∷◌, ◌++◌, length, take, drop, refl, ap, ◌∙◌, arith, subst, length-take-le, take_at, drop_at, encodes-append, encodes-chars, chars, chars-append, IsUtf8, IsUtf8-take, IsUtf8-append, insert_slice, remove_range, bytes_of, size, IsCut, IsPlace, IsSplice}
+use Rattle.inlinable_string.proofs.Common.{common_steps, rules, Result, Ok, Err, IsOk, OnErr, OnOk, MatchResult, ◌≡◌, ℕ, ◌+◌, ◌-◌, ◌≤◌, ◌<◌, true, List, [], ◌∷◌, ◌++◌, length, take, drop, refl, sym, ap, ◌∙◌, arith, subst, length-take-le, take_at, drop_at, encodes-append, encodes-chars, chars, append-nil, chars-append, chars-nil, chars_from_encodes, IsUtf8, IsUtf8-take, IsUtf8-append, insert_slice, remove_range, bytes_of, size, IsCut, IsPlace, IsSplice}
 use Rattle.std.proofs.lemmas.Str.{IsUtf8-drop}
 use Rattle.std.specs.Char.{is_ascii}
-use Rattle.std.specs.List.{list_all, replace_range}
-use Rattle.inlinable_string.specs.Ranges.{IsRangeReplaced}
+use Rattle.std.specs.List.{list_all, replace_range, slice_range}
+use Rattle.inlinable_string.specs.Ranges.{IsRangeReplaced, IsDrained}
 use Rattle.inlinable_string.proofs.Parts.{front_bytes, back_bytes}
 use Rattle.inlinable_string.proofs.Text.{Holds, ascii_chars, bytes_are, boundary, cut_at, nil_from_size, place_within, size-append, size-chars, size_of}
 
@@ -94,3 +94,50 @@ pub ok_where_it_fits : {T E : Type 0} (r : Result T E) {m n : ℕ} → OnErr r (
     → IsOk r
 ok_where_it_fits (Ok x) full le = refl
 ok_where_it_fits (Err x) full le = absurd (omega (arith, full, le))
+
+-- a range replaced by nothing is drained
+pub part_drained : {t v bs : List ℕ} {p q : ℕ} → IsUtf8 bs
+    → bs ≡ slice_range (bytes_of t) p q → IsRangeReplaced t p q [] v → IsDrained t p q (chars bs) v
+part_drained {t} {v} {bs} {p} {q} u e r =
+    let sizes : size r.middle ≡ q - p =
+    omega (arith, size-append r.front r.middle, r.before.before, r.after.before) in
+    let middle : take (q - p) (bytes_of (r.middle ++ r.back)) ≡ bytes_of r.middle =
+    ap (take (q - p)) (encodes-append r.middle r.back)
+    ∙ take_at (bytes_of r.middle) (bytes_of r.back) (q - p) sizes in
+    let bytes : bs ≡ bytes_of r.middle =
+    e ∙ ap (take (q - p)) (sym (back_bytes r.before)) ∙ middle in
+    rw (sym (chars_from_encodes r.middle bs u (sym bytes))) (record {
+      front = r.front;
+      back = r.back;
+      before = r.before;
+      after = r.after;
+      joined = rw append-nil at r.joined;
+    })
+
+pub drained : {T E : Type 0} (r : Result T E) {t v bs : List ℕ} {p q m : ℕ} → IsUtf8 bs
+    → bs ≡ slice_range (bytes_of t) p q
+    → MatchResult r (λ _. size t + 0 ≤ m) (λ _. m < size t + 0) → size t ≤ m
+    → OnOk r (IsRangeReplaced t p q (chars []) v) → IsDrained t p q (chars bs) v
+drained (Ok x) u e fits le ok = part_drained u e (rw chars-nil at ok)
+drained (Err x) u e fits le ok = absurd (omega (arith, fits, le))
+
+-- what was drained and what is left, in bytes
+pub drained-bytes : {t u v : List ℕ} {p q : ℕ} → IsDrained t p q u v
+    → (bytes_of u ≡ slice_range (bytes_of t) p q)
+    × (bytes_of v ≡ remove_range (bytes_of t) p q)
+drained-bytes {t} {u} {v} {p} {q} d =
+    let sizes : size u ≡ q - p =
+    omega (arith, size-append d.front u, d.before.before, d.after.before) in (
+      sym (ap (take (q - p)) (sym (back_bytes d.before) ∙ encodes-append u d.back)
+          ∙ take_at (bytes_of u) (bytes_of d.back) (q - p) sizes),
+      ap bytes_of d.joined ∙ encodes-append d.front d.back
+          ∙ rw (front_bytes d.before, back_bytes d.after) refl,
+    )
+
+pub size-drained : {t u v : List ℕ} {p q : ℕ} → IsDrained t p q u v → size v + size u ≡ size t
+size-drained d = grind (arith, common_steps, size-append)
+
+-- a call that can't fail leaves what it says
+pub granted : {T E P : Type 0} (r : Result T E) → IsOk r → OnOk r P → P
+granted (Ok x) is p = p
+granted (Err x) is p = cc

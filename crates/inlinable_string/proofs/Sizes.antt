@@ -1,8 +1,8 @@
 -- Sizes of texts as sums.
-use Rattle.inlinable_string.proofs.Common.{zero, suc, ◌≡◌, ℕ, ◌+◌, ◌*◌, List, [], ◌∷◌, sym, arith, chars, size, text_of_strs}
+use Rattle.inlinable_string.proofs.Common.{zero, suc, ◌≡◌, ℕ, ◌+◌, ◌*◌, ◌-◌, List, [], ◌∷◌, ◌++◌, sym, arith, chars, size, text_of_strs, text_of_strs_with}
 use Rattle.std.proofs.Math.Nat.{zero-mul, suc-mul}
 use Rattle.std.specs.Borrow.{Bor}
-use Rattle.std.specs.List.{fold}
+use Rattle.std.specs.List.{flat_map, fold}
 use Rattle.std.specs.Prelude.{replicate}
 use Rattle.inlinable_string.proofs.Text.{size-append}
 
@@ -26,6 +26,27 @@ pub sum_of_strs : (items : List (Bor (List ℕ)))
     → size (text_of_strs items) ≡ fold (λ m s. m + size (chars s.now)) 0 items
 sum_of_strs items = omega (arith, fold_strs 0 items)
 
+fold_separated : (separator : List ℕ) (n : ℕ) (items : List (Bor (List ℕ)))
+    → fold (λ m s. m + (size separator + size (chars s.now))) n items
+    ≡ n + size (flat_map (λ s. separator ++ chars s.now) items)
+fold_separated separator n [] = omega arith
+fold_separated separator n (s ∷ items) = omega (
+  arith,
+  fold_separated separator (n + (size separator + size (chars s.now))) items,
+  size-append (separator ++ chars s.now) (flat_map (λ t. separator ++ chars t.now) items),
+  size-append separator (chars s.now),
+)
+
+pub sum_of_strs_with : (separator : List ℕ) (items : List (Bor (List ℕ)))
+    → size (text_of_strs_with separator items)
+    ≡ fold (λ m s. m + (size separator + size (chars s.now))) 0 items - size separator
+sum_of_strs_with separator [] = omega arith
+sum_of_strs_with separator (s ∷ items) = omega (
+  arith,
+  fold_separated separator (0 + (size separator + size (chars s.now))) items,
+  size-append (chars s.now) (flat_map (λ t. separator ++ chars t.now) items),
+)
+
 pub size-replicate : (n c : ℕ) → size (replicate n c) ≡ n * size (c ∷ [])
 size-replicate zero c = sym (zero-mul (size (c ∷ [])))
 size-replicate (suc n) c = omega (
@@ -35,4 +56,4 @@ size-replicate (suc n) c = omega (
   suc-mul n (size (c ∷ [])),
 )
 
-pub ruleset sums = (sum_of_chars, sum_of_strs, size-replicate)
+pub ruleset sums = (sum_of_chars, sum_of_strs, sum_of_strs_with, size-replicate)

@@ -1,14 +1,14 @@
 -- A text in a part of an array.
-use Rattle.std.proofs.Common.{◌≡◌, ℕ, ◌+◌, ◌<◌, ◌≤◌, true, List, [], ◌∷◌, ◌++◌, length, take, drop, refl, sym, ap, ◌∙◌, arith, length-append, length-take-le, take-take, take_at, append-nil, length-drop}
+use Rattle.std.proofs.Common.{◌≡◌, ℕ, ◌+◌, ◌-◌, ◌<◌, ◌≤◌, true, List, [], ◌∷◌, ◌++◌, length, take, drop, refl, sym, ap, ◌∙◌, arith, length-append, length-take-le, take-take, take_at, append-nil, length-drop}
 use Rattle.std.specs.Char.{encode_utf8, is_ascii, IsScalar}
 use Rattle.std.specs.List.{insert_slice}
 use Rattle.std.specs.Str.{chars, IsUtf8}
 use Rattle.std.proofs.Math.ListN.{set}
 use Rattle.std.proofs.lemmas.Bool.Decides.{nat_tests}
-use Rattle.std.proofs.lemmas.List.{drop-append-le, drop-take, take_all, drop_all, drop-set-add, take_more_set}
+use Rattle.std.proofs.lemmas.List.{drop-append-le, drop-drop, drop-take, take_all, drop_all, drop-set-add, take_more_set}
 use Rattle.std.proofs.lemmas.Str.{IsUtf8-had, IsUtf8-append, IsUtf8-take, IsUtf8-drop, chars-append, encodes-chars, IsUtf8-past_char, chars_past_char, encode_ascii, IsUtf8-encode}
 use Rattle.inlinable_string.specs.Text.{bytes_of, size, IsCut, IsPlace, IsSplice, IsRemoval}
-use Rattle.inlinable_string.specs.declared.inline_string.InlineStringN.TheInside.{Inside}
+use Rattle.inlinable_string.specs.declared.inline_string.Window.{Window}
 use Rattle.inlinable_string.proofs.Ranges.{range-utf8, range-chars, splice_from_range}
 use Rattle.inlinable_string.proofs.Text.{Holds, holds, bytes_are, size_of, boundary, cut_at, popped-chars, place_within, size-pushed, char_size}
 
@@ -85,21 +85,22 @@ extended old new u s l m sum h e =
     grind (arith, e, sum, short, whole, front, drop-append-le s (take m old) u short)
 
 -- bytes written after the window of an array
-pub window_extended : {N : ℕ} (s : Inside N) → s.start + s.len ≤ length s.bytes
+pub window_extended : {N : ℕ} (s : Window N) → s.start + s.len ≤ length s.bytes
     → (u new : List ℕ)
     → take (s.start + s.len + length u) new ≡ take (s.start + s.len) s.bytes ++ u
     → take (s.len + length u) (drop s.start new) ≡ take s.len (drop s.start s.bytes) ++ u
 window_extended s inside u new e = extended s.bytes new u s.start s.len _ refl inside e
 
 -- the text t of an array, and its window there
-module _ {N : ℕ} {t : List ℕ} (s : Inside N) (view : chars (take s.len (drop s.start s.bytes)) ≡ t)
-    (told : length s.bytes ≡ N)
-    (inv : (s.start + s.len ≤ N) × ∥ IsUtf8 (take s.len (drop s.start s.bytes)) ∥₁) where
+module _ {N : ℕ} {t : List ℕ} (s : Window N) (view : chars (take s.len (drop s.start s.bytes)) ≡ t)
+    (inv : (length s.bytes ≡ N) × (s.start + s.len ≤ N)
+    × ∥ IsUtf8 (take s.len (drop s.start s.bytes)) ∥₁) where
   pub held : Holds t (take s.len (drop s.start s.bytes)) s.len
   held = record {
     shown = view;
-    utf8 = IsUtf8-had _ inv.1;
-    long = length-take-le s.len (drop s.start s.bytes) (omega (arith, length-drop s.start s.bytes));
+    utf8 = IsUtf8-had _ inv.2;
+    long = length-take-le s.len (drop s.start s.bytes)
+        (omega (arith, inv.0, inv.1, length-drop s.start s.bytes));
   }
 
   -- the window cut at a place
@@ -111,8 +112,24 @@ module _ {N : ℕ} {t : List ℕ} (s : Inside N) (view : chars (take s.len (drop
       let b = boundary held at in
       let same : take p (take s.len (drop s.start s.bytes)) ≡ take p (drop s.start s.bytes) =
       take-take p s.len (drop s.start s.bytes) short in (
-        (omega (arith, short), ∣ rw same at (IsUtf8-take _ p held.utf8 b) ∣₁),
+        (omega (arith, inv.1, short), ∣ rw same at (IsUtf8-take _ p held.utf8 b) ∣₁),
         (_, rw same at (cut_at held p b)),
+      )
+
+  -- the window without the bytes before a place
+  pub window_dropped : {p : ℕ} → IsPlace t p → (p ≤ s.len)
+      × ∥ IsUtf8 (take (s.len - p) (drop (s.start + p) s.bytes)) ∥₁
+      × (take (s.len - p) (drop (s.start + p) s.bytes) ≡ drop p (bytes_of t))
+  window_dropped {p} at =
+      let short : p ≤ s.len = omega (arith, place_within t p at, size_of held) in
+      let ws = drop s.start s.bytes in
+      let parts : p + (s.len - p) ≡ s.len = omega (arith, short) in
+      let same : take (s.len - p) (drop (s.start + p) s.bytes) ≡ drop p (take s.len ws) =
+      ap (take (s.len - p)) (sym (drop-drop p s.start s.bytes))
+      ∙ sym (drop-take p (s.len - p) ws) ∙ ap (λ k. drop p (take k ws)) parts in (
+        short,
+        ∣ rw same (IsUtf8-drop _ p held.utf8 (boundary held at)) ∣₁,
+        same ∙ ap (drop p) (bytes_are held),
       )
 
   -- the window without its last character c, where front is what stands before that
@@ -130,7 +147,7 @@ module _ {N : ℕ} {t : List ℕ} (s : Inside N) (view : chars (take s.len (drop
       let same : take (length front) ws ≡ front =
       sym (take-take (length front) s.len ws (omega (arith, sizes)))
       ∙ ap (take (length front)) whole ∙ take_at front last (length front) refl in (
-        (omega (arith, sizes), ∣ rw same u ∣₁),
+        (omega (arith, inv.1, sizes), ∣ rw same u ∣₁),
         rw same (sym view ∙ popped-chars _ front c held.utf8 u whole),
       )
 
@@ -143,7 +160,8 @@ module _ {N : ℕ} {t : List ℕ} (s : Inside N) (view : chars (take s.len (drop
       let sizes : s.len ≡ 0 + length u = omega (arith, ap length is) in
       let same : take s.len (drop s.start new) ≡ bytes =
       ap (λ k. take k (drop s.start new)) sizes
-      ∙ extended s.bytes new u s.start 0 s.start (omega arith) (omega arith) e ∙ is in
-      ((inv.0, ∣ rw same utf8 ∣₁), rw same (encodes-chars bytes utf8))
+      ∙ extended s.bytes new u s.start 0 s.start (omega arith) (omega (arith, inv.0, inv.1)) e
+      ∙ is in
+      ((inv.1, ∣ rw same utf8 ∣₁), rw same (encodes-chars bytes utf8))
 
 pub ruleset one_char = (chars_one, size_one, size-pushed, char_size)

@@ -1,7 +1,7 @@
 -- What calls leave that append the items of an iterator to a text, one by one.
 use Rattle.std.specs.Prelude.{◌≡◌, ℕ, ◌+◌, ◌<◌, List, [], ◌∷◌, ◌++◌, map}
 use Rattle.std.specs.Borrow.{Bor}
-use Rattle.std.specs.List.{flat_map}
+use Rattle.std.specs.List.{flat_map, join_by}
 use Rattle.std.specs.Str.{chars}
 use Rattle.inlinable_string.specs.Text.{size}
 use Rattle.inlinable_string.specs.State.{TextState, storage_with_room}
@@ -17,6 +17,10 @@ text_of_char_refs items = map (λ c. c.now) items
 -- the texts of strings, joined
 abbrev pub text_of_strs : List (Bor (List ℕ)) → List ℕ
 text_of_strs items = flat_map (λ s. chars s.now) items
+
+-- the texts of strings, joined with a separator between each two
+abbrev pub text_of_strs_with : List ℕ → List (Bor (List ℕ)) → List ℕ
+text_of_strs_with separator items = join_by (λ s. chars s.now) separator items
 
 -- u was appended to the text, whose storage is that with capacity for the bytes of u
 pub record IsExtended (old : TextState) (u : List ℕ) (new : TextState) : Type 0 where

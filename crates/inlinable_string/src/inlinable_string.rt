@@ -13,6 +13,7 @@ mod ascii_case;
 mod borrowed;
 mod collected;
 mod compared;
+mod drained;
 mod emptied;
 mod into_string;
 mod joins;
@@ -20,9 +21,11 @@ mod limits;
 mod makers;
 mod printed;
 mod promotion;
+mod repeated;
 mod replaced;
 mod retained;
 mod split;
+mod trimmed;
 
 /// An [`InlinableStringN`] of 30 bytes inline, the capacity of the Rust crate.
 pub type InlinableString = InlinableStringN<INLINE_STRING_CAPACITY>;
@@ -264,7 +267,7 @@ impl<const N: usize> Clone for InlinableStringN<N> {
         match self {
             InlinableStringN::Heap(text, alloc) => Self::clone_heap(*alloc, text),
             InlinableStringN::Inline(text, alloc) => {
-                let copy = text.clone()?;
+                let copy = text.copy();
                 Ok(InlinableStringN::Inline(copy, *alloc))
             }
         }

@@ -20,11 +20,16 @@ mod ascii_case;
 mod borrowed;
 mod compared;
 mod copied;
+mod drained;
 mod joins;
 mod printed;
+mod repeated;
 mod replaced;
 mod retained;
+mod room;
 mod split;
+mod trimmed;
+mod utf8;
 
 /// The capacity of an [`InlineString`] in bytes, as in the crate `inlinable_string`.
 pub const INLINE_STRING_CAPACITY: usize = 30;
@@ -74,25 +79,33 @@ impl fmt::Display for ReplaceError {
 
 /// A UTF-8 string of at most `N` bytes, stored in the value itself. No method allocates. A contract
 /// sees the list of its characters.
-// The text is the `len` bytes from `start` on, so that an edit near the front moves few bytes.
-// `len` comes second, as in std's `String`, so that an `InlinableStringN` has it in one place.
 #[derive(Drop)]
 pub struct InlineStringN<const N: usize> {
+    window: Window<N>,
+}
+
+/// An array, and the part of it that is the text: the `len` bytes from `start` on, so that an edit
+/// near the front moves few bytes.
+// `Copy`, so that a copy of a text is one value. Field by field it is made on the stack first: the
+// array in pieces that overlap, across which it is then read, and the processor waits for them.
+// `len` comes second, as in std's `String`, so that an `InlinableStringN` has it in one place.
+#[derive(Clone, Copy)]
+struct Window<const N: usize> {
     start: usize,
     len: usize,
     bytes: [u8; N],
 }
 
 impl<const N: usize> Model for InlineStringN<N> {
-    ghost use Rattle.std.specs.Prelude.{ℕ, ◌+◌, ◌≤◌, List, take, drop, IsUtf8};
+    ghost use Rattle.std.specs.Prelude.{◌≡◌, ℕ, ◌+◌, ◌≤◌, List, length, take, drop, IsUtf8};
     ghost use Rattle.std.specs.Str.{chars};
 
     ghost Value = { List ℕ };
 
-    ghost view = { λ s. chars (take s.len (drop s.start s.bytes)) };
+    ghost view = { λ s. chars (take s.window.len (drop s.window.start s.window.bytes)) };
 
-    ghost invariant = { λ s. (s.start + s.len ≤ N)
-        × ∥ IsUtf8 (take s.len (drop s.start s.bytes)) ∥₁ };
+    ghost invariant = { λ s. (length s.window.bytes ≡ N) × (s.window.start + s.window.len ≤ N)
+        × ∥ IsUtf8 (take s.window.len (drop s.window.start s.window.bytes)) ∥₁ };
 }
 
 impl<const N: usize> InlineStringN<N> {
@@ -103,9 +116,11 @@ impl<const N: usize> InlineStringN<N> {
         ensures { result ≡ [] }
     {
         InlineStringN {
-            start: 0,
-            len: 0,
-            bytes: [0; N],
+            window: Window {
+                start: 0,
+                len: 0,
+                bytes: [0; N],
+            },
         }
     }
 
@@ -152,11 +167,11 @@ impl<const N: usize> InlineStringN<N> {
         ensures refused { OnFalse result (self.new ≡ self.old) }
     {
         if ch.is_ascii() {
-            let end = self.start + self.len;
+            let end = self.window.start + self.window.len;
             if end < N {
                 // The length first: else LLVM joins this with a push onto the heap, by a jump.
-                self.len += 1;
-                self.bytes[end] = ch as u8;
+                self.window.len += 1;
+                self.window.bytes[end] = ch as u8;
                 return true;
             }
         }
@@ -195,21 +210,27 @@ impl<const N: usize> InlineStringN<N> {
         ensures len { OnOk result (size self.new ≡ size self.old + length string.now) }
         ensures err { OnErr result (self.new ≡ self.old) }
     {
-        let len = self.len;
-        let end = self.start + len;
+        let len = self.window.len;
+        let end = self.window.start + len;
         // The usual case by itself, and first: there is room after the text, and nothing moves.
         if string.len() <= N - end {
             let new_len = len + string.len();
-            write_at(&mut self.bytes[..], end, string.as_bytes());
-            self.len = new_len;
+            write_at(&mut self.window.bytes[..], end, string.as_bytes());
+            self.window.len = new_len;
             return Ok(());
         }
         if N - len < string.len() {
             return Err(NotEnoughSpaceError);
         }
-        let start = insert_in(&mut self.bytes[..], self.start, len, len, string.as_bytes());
-        self.start = start;
-        self.len = len + string.len();
+        let start = insert_in(
+            &mut self.window.bytes[..],
+            self.window.start,
+            len,
+            len,
+            string.as_bytes(),
+        );
+        self.window.start = start;
+        self.window.len = len + string.len();
         Ok(())
     }
 
@@ -233,12 +254,18 @@ impl<const N: usize> InlineStringN<N> {
         ensures behind { OnOk result (IsPlace self.new (idx + size (ch ∷ []))) }
     {
         if ch.is_ascii() {
-            let len = self.len;
+            let len = self.window.len;
             if len == N {
                 return Err(NotEnoughSpaceError);
             }
-            insert_byte(&mut self.bytes[..], &mut self.start, len, idx, ch as u8);
-            self.len = len + 1;
+            insert_byte(
+                &mut self.window.bytes[..],
+                &mut self.window.start,
+                len,
+                idx,
+                ch as u8,
+            );
+            self.window.len = len + 1;
             return Ok(());
         }
         let mut buffer = [0; 4];
@@ -264,20 +291,20 @@ impl<const N: usize> InlineStringN<N> {
         ensures within { idx ≤ size self.old }
         ensures behind { OnOk result (IsPlace self.new (idx + length string.now)) }
     {
-        let old_len = self.len;
+        let old_len = self.window.len;
         if N - old_len < string.len() {
             return Err(NotEnoughSpaceError);
         }
         let new_len = old_len + string.len();
         let start = insert_in(
-            &mut self.bytes[..],
-            self.start,
+            &mut self.window.bytes[..],
+            self.window.start,
             old_len,
             idx,
             string.as_bytes(),
         );
-        self.start = start;
-        self.len = new_len;
+        self.window.start = start;
+        self.window.len = new_len;
         Ok(())
     }
 
@@ -290,7 +317,7 @@ impl<const N: usize> InlineStringN<N> {
         ensures len { size self.new ≡ new_len }
         ensures back { self.old ≡ self.new ++ chars (drop new_len (bytes_of self.old)) }
     {
-        self.len = new_len;
+        self.window.len = new_len;
     }
 
     /// Removes and returns the last character; `None` if the text is empty.
@@ -305,7 +332,7 @@ impl<const N: usize> InlineStringN<N> {
         let mut rest = self.as_str().chars();
         let last = rest.next_back()?;
         let rest_len = rest.as_str().len();
-        self.len = rest_len;
+        self.window.len = rest_len;
         Some(last)
     }
 
@@ -320,10 +347,16 @@ impl<const N: usize> InlineStringN<N> {
         ensures at { IsPlace self.new idx }
     {
         let (ch, next) = char_at(self.as_str(), idx);
-        let len = self.len;
-        let start = remove_in(&mut self.bytes[..], self.start, len, idx, next);
-        self.start = start;
-        self.len = len - (next - idx);
+        let len = self.window.len;
+        let start = remove_in(
+            &mut self.window.bytes[..],
+            self.window.start,
+            len,
+            idx,
+            next,
+        );
+        self.window.start = start;
+        self.window.len = len - (next - idx);
         ch
     }
 
@@ -333,7 +366,7 @@ impl<const N: usize> InlineStringN<N> {
     pub fn clear(&mut self)
         ensures { self.new ≡ [] }
     {
-        self.len = 0;
+        self.window.len = 0;
     }
 
     /// Overwrites the text with `bytes`, which must have its length and be UTF-8. The length is
@@ -350,13 +383,17 @@ impl<const N: usize> InlineStringN<N> {
         ensures not_utf8 { result ≡ Err ReplaceError.NotUtf8
             → (length bytes.now ≡ size self.old) × ¬ (IsUtf8 bytes.now) }
     {
-        if bytes.len() != self.len {
+        if bytes.len() != self.window.len {
             return Err(ReplaceError::WrongLength);
         }
         let Some(string) = text_in(bytes) else {
             return Err(ReplaceError::NotUtf8);
         };
-        write_at(&mut self.bytes[..], self.start, string.as_bytes());
+        write_at(
+            &mut self.window.bytes[..],
+            self.window.start,
+            string.as_bytes(),
+        );
         Ok(())
     }
 
@@ -367,7 +404,7 @@ impl<const N: usize> InlineStringN<N> {
         ensures within { size self.now ≤ N }
         ensures scalars { all_scalars self.now ≡ true }
     {
-        self.len
+        self.window.len
     }
 
     /// Returns whether the text is empty.
@@ -416,8 +453,10 @@ impl<const N: usize> InlineStringN<N> {
         ensures places { (p : ℕ) → IsCharBoundary result.now p ↔ IsPlace self.now p }
         ensures within { length result.now ≤ N }
     {
-        let cells = &self.bytes[..];
-        unsafe { str::from_utf8_unchecked(&cells[self.start..self.start + self.len]) }
+        let cells = &self.window.bytes[..];
+        unsafe {
+            str::from_utf8_unchecked(&cells[self.window.start..self.window.start + self.window.len])
+        }
     }
 }
 
@@ -453,9 +492,7 @@ impl<const N: usize> Clone for InlineStringN<N> {
     #[inline]
     fn clone(&self) -> Result<Self, AllocError> {
         Ok(InlineStringN {
-            len: self.len,
-            start: self.start,
-            bytes: self.bytes,
+            window: self.window,
         })
     }
 }

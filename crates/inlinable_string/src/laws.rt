@@ -1,14 +1,14 @@
 //! Lemmas: calling one does nothing at run time, but its clauses are then known in the caller's
 //! proof. Those of this file are on places and sizes.
-ghost use Rattle.std.specs.Prelude.{◌≡◌, ◌↔◌, Some, IsSome, Bool, true, false, ℕ, ◌+◌, ◌*◌, ◌≤◌, List, ◌++◌, [], ◌∷◌, length, take, drop, filter, fold, replicate, IsUtf8};
+ghost use Rattle.std.specs.Prelude.{◌≡◌, ◌↔◌, Some, IsSome, Bool, true, false, ℕ, ◌+◌, ◌-◌, ◌*◌, ◌≤◌, List, ◌++◌, [], ◌∷◌, length, take, drop, filter, fold, replicate, IsUtf8};
 ghost use Rattle.std.specs.Borrow.{Bor};
 ghost use Rattle.std.specs.Char.{encode_utf8, is_ascii};
 ghost use Rattle.std.specs.Fn.{Called};
-ghost use Rattle.std.specs.List.{list_all, replace_range};
+ghost use Rattle.std.specs.List.{list_all, remove_range, replace_range, slice_range};
 ghost use Rattle.std.specs.Str.{chars, IsCharBoundary};
 ghost use Rattle.inlinable_string.specs.Text.{bytes_of, size, cut, IsCut, IsPlace, IsSplice, IsRemoval};
-ghost use Rattle.inlinable_string.specs.Joins.{text_of_strs};
-ghost use Rattle.inlinable_string.specs.Ranges.{IsRangeReplaced};
+ghost use Rattle.inlinable_string.specs.Joins.{text_of_strs, text_of_strs_with};
+ghost use Rattle.inlinable_string.specs.Ranges.{IsRangeReplaced, IsDrained};
 ghost use Rattle.inlinable_string.specs.Retained.{IsRetained, Tests};
 ghost use Rattle.inlinable_string.specs.Values.{inlinable_state};
 
@@ -90,6 +90,14 @@ pub fn replaced_ranges_are_those_of_bytes()
     ensures whole { (t u v : List ℕ) → IsRangeReplaced t 0 (size t) u v → v ≡ u }
 {}
 
+/// What `drain` takes out and what it leaves are those ranges of the bytes.
+pub fn drained_parts_are_those_of_bytes()
+    ensures part { (t u v : List ℕ) (p q : ℕ) → IsDrained t p q u v
+        → bytes_of u ≡ slice_range (bytes_of t) p q }
+    ensures left { (t u v : List ℕ) (p q : ℕ) → IsDrained t p q u v
+        → bytes_of v ≡ remove_range (bytes_of t) p q }
+{}
+
 /// What `retain` leaves: the characters at which the closure returns true, called at each in turn.
 /// If it always returns what a test does, these are what `filter` keeps.
 pub fn retained_characters_pass<F: FnMut(char) -> bool>()
@@ -166,13 +174,16 @@ pub fn sizes_of_parts()
     ensures string { (bs : List ℕ) → IsUtf8 bs → size (chars bs) ≡ length bs }
 {}
 
-/// The size of a text is the sum of those of its characters, or of the strings that it joins; of
-/// `n` copies it is `n` times that of one.
+/// The size of a text is the sum of those of its characters, or of the strings that it joins, with
+/// a separator for each but the first; of `n` copies it is `n` times that of one.
 #[tactic(auto, using(crate::proofs::Sizes::sums))]
 pub fn sizes_are_sums()
     ensures characters { (t : List ℕ) → size t ≡ fold (λ n c. n + size (c ∷ [])) 0 t }
     ensures strs { (items : List (Bor (List ℕ))) → size (text_of_strs items)
         ≡ fold (λ n s. n + size (chars s.now)) 0 items }
+    ensures separated { (separator : List ℕ) (items : List (Bor (List ℕ)))
+        → size (text_of_strs_with separator items)
+        ≡ fold (λ n s. n + (size separator + size (chars s.now))) 0 items - size separator }
     ensures copies { (n c : ℕ) → size (replicate n c) ≡ n * size (c ∷ []) }
 {}
 

@@ -13,12 +13,14 @@ use std::alloc::{AllocError, Global};
 
 mod joins;
 mod make;
+mod splits;
 mod std_string;
 mod utf16;
 mod utf8;
 
 pub use joins::{extend_chars, extend_strs};
 pub use make::{StringMake, Utf16Error};
+pub use splits::split_once;
 
 /// Where the bytes of a text are stored.
 #[derive(Clone, Copy, Debug, PartialEq, Eq)]

@@ -7,7 +7,7 @@ ghost use Rattle.std.specs.List.{list_all};
 ghost use Rattle.std.specs.Str.{chars};
 ghost use Rattle.inlinable_string.specs.Text.{bytes_of, size};
 ghost use Rattle.inlinable_string.specs.State.{IsSameText, HasRoom, HasInlineRoom, storage_with_room, storage_when_made};
-ghost use Rattle.inlinable_string.specs.Joins.{text_of_chars, text_of_char_refs, text_of_strs, IsExtended, IsRefusedLast};
+ghost use Rattle.inlinable_string.specs.Joins.{text_of_chars, text_of_char_refs, text_of_strs, text_of_strs_with, IsExtended, IsRefusedLast};
 ghost use Rattle.inlinable_string.specs.Values.{inlinable_policy, inlinable_state};
 
 use crate::inlinable_string::InlinableStringN;
@@ -167,5 +167,58 @@ impl<const N: usize> InlinableStringN<N> {
         let mut made = Self::new(alloc);
         made.extend_strs(items)?;
         Ok(made)
+    }
+
+    /// Concatenates the strings of an iterator that ends, with `separator` between each two. The
+    /// text is stored inline if it has at most `N` bytes; this fails only at a string that takes it
+    /// past them.
+    #[tactic(auto, using(crate::proofs::Text::ascii_chars))]
+    pub fn from_strs_with<'a, I: Iterator<Item = &'a str>>(
+        alloc: Global,
+        separator: &str,
+        items: I,
+    ) -> Result<Self, AllocError>
+        requires can { I.can_next items }
+        requires ends { IsFinite (I.remaining items) }
+        ensures text { IfOk result (λ made. WholeRun I.next_gives items (λ run.
+            (inlinable_state N made).text
+            ≡ text_of_strs_with (chars separator.now) run.items)) }
+        ensures storage { IfOk result (λ made. (inlinable_state N made).storage
+            ≡ storage_when_made (inlinable_policy N) (size (inlinable_state N made).text)) }
+        ensures err { OnErr result (SomeRun I.next_gives items
+            (λ run. N < size (text_of_strs_with (chars separator.now) run.items))) }
+        ensures granted { EachRunFrom I.next_gives items
+            (λ run. size (text_of_strs_with (chars separator.now) run.items) ≤ N) → IsOk result }
+
+        // A literal of ASCII, as the separator or among the items, is its own characters.
+        ensures ascii { (bs : List ℕ) → list_all is_ascii bs ≡ true → chars bs ≡ bs }
+    {
+        let mut made = Self::new(alloc);
+        // What comes before the next string.
+        let mut before = "";
+        for string in items {
+            made.push_both(before, string)?;
+            before = separator;
+        }
+        Ok(made)
+    }
+
+    /// Appends `before` and then `string`. After an error `before` may have been appended.
+    #[tactic(auto, using(crate::proofs::Text::sizes))]
+    fn push_both(&mut self, before: &str, string: &str) -> Result<(), AllocError>
+        ensures text { OnOk result ((inlinable_state N self.new).text
+            ≡ (inlinable_state N self.old).text ++ (chars before.now ++ chars string.now)) }
+        ensures storage { OnOk result ((inlinable_state N self.new).storage ≡ storage_with_room
+            (inlinable_state N self.old) (size (chars before.now ++ chars string.now))) }
+
+        // What fits cannot fail, and the capacity does not shrink.
+        ensures granted { HasRoom (inlinable_state N self.old)
+            (size (chars before.now ++ chars string.now)) → IsOk result }
+        ensures room { OnOk result
+            ((inlinable_state N self.old).capacity ≤ (inlinable_state N self.new).capacity) }
+        ensures policy { (inlinable_state N self.new).policy ≡ (inlinable_state N self.old).policy }
+    {
+        self.push_str(before)?;
+        self.push_str(string)
     }
 }

@@ -1,7 +1,7 @@
 //! A range of the text, replaced by another text.
-ghost use Rattle.std.specs.Prelude.{◌≡◌, ◌+◌, ◌-◌, ◌≤◌, length, true, IfOk, IsOk, OnOk, OnErr};
+ghost use Rattle.std.specs.Prelude.{◌≡◌, ◌+◌, ◌-◌, ◌≤◌, [], length, true, IfOk, IsOk, OnOk, OnErr};
 ghost use Rattle.std.specs.Char.{is_ascii};
-ghost use Rattle.std.specs.List.{list_all, replace_range};
+ghost use Rattle.std.specs.List.{list_all, remove_range, replace_range};
 ghost use Rattle.std.specs.Str.{chars, IsCharBoundary};
 ghost use Rattle.std.specs.String.{string_bytes, string_capacity};
 ghost use Rattle.inlinable_string.specs.Text.{bytes_of, size, IsPlace};
@@ -121,6 +121,22 @@ fn replace_on_heap(text: &mut String, from: usize, to: usize, added: &str) -> Re
         ((string_state text.old).capacity ≤ (string_state text.new).capacity) }
 {
     text.replace_range(from..to, added)
+}
+
+/// Removes the bytes from `from` to `to` of a text on the heap, which keeps its capacity.
+pub(super) fn remove_on_heap(text: &mut String, from: usize, to: usize)
+    requires start { IsPlace (string_state text.old).text from }
+    requires end { IsPlace (string_state text.old).text to }
+    requires order { from ≤ to }
+    ensures removed { IsRangeReplaced (string_state text.old).text from to []
+        (string_state text.new).text }
+    ensures bytes { bytes_of (string_state text.new).text
+        ≡ remove_range (bytes_of (string_state text.old).text) from to }
+    ensures room { (string_state text.old).capacity ≤ (string_state text.new).capacity }
+{
+    // `len` states the laws of the value.
+    let _ = StringExt::len(text);
+    let _ = replace_on_heap(text, from, to, "");
 }
 
 /// Returns the text with the bytes from `from` to `to` replaced by `added`, on the heap, with

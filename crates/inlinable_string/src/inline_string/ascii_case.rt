@@ -14,8 +14,8 @@ impl<const N: usize> InlineStringN<N> {
         ensures bytes { bytes_of self.new ≡ map to_ascii_uppercase (bytes_of self.old) }
         ensures len { size self.new ≡ size self.old }
     {
-        let (start, len) = (self.start, self.len);
-        uppercase_window(&mut self.bytes[..], start, len);
+        let (start, len) = (self.window.start, self.window.len);
+        uppercase_window(&mut self.window.bytes[..], start, len);
     }
 
     /// Converts the ASCII letters 'A' to 'Z' to 'a' to 'z', in place. All other characters are
@@ -26,8 +26,8 @@ impl<const N: usize> InlineStringN<N> {
         ensures bytes { bytes_of self.new ≡ map to_ascii_lowercase (bytes_of self.old) }
         ensures len { size self.new ≡ size self.old }
     {
-        let (start, len) = (self.start, self.len);
-        lowercase_window(&mut self.bytes[..], start, len);
+        let (start, len) = (self.window.start, self.window.len);
+        lowercase_window(&mut self.window.bytes[..], start, len);
     }
 }
 

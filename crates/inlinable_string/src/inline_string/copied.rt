@@ -11,9 +11,7 @@ impl<const N: usize> InlineStringN<N> {
         ensures { result ≡ self.now }
     {
         InlineStringN {
-            start: self.start,
-            len: self.len,
-            bytes: self.bytes,
+            window: self.window,
         }
     }
 }

@@ -41,21 +41,27 @@ impl<const N: usize> InlineStringN<N> {
         ensures within { range.end ≤ size self.old }
         ensures behind { OnOk result (IsPlace self.new (range.start + length replace_with.now)) }
     {
-        let rest_len = self.len - (range.end - range.start);
+        let rest_len = self.window.len - (range.end - range.start);
         if N - rest_len < replace_with.len() {
             return Err(NotEnoughSpaceError);
         }
         let (from, to) = (range.start, range.end);
-        let cut = remove_in(&mut self.bytes[..], self.start, self.len, from, to);
+        let cut = remove_in(
+            &mut self.window.bytes[..],
+            self.window.start,
+            self.window.len,
+            from,
+            to,
+        );
         let start = insert_in(
-            &mut self.bytes[..],
+            &mut self.window.bytes[..],
             cut,
             rest_len,
             from,
             replace_with.as_bytes(),
         );
-        self.start = start;
-        self.len = rest_len + replace_with.len();
+        self.window.start = start;
+        self.window.len = rest_len + replace_with.len();
         Ok(())
     }
 }

@@ -17,9 +17,9 @@ impl<const N: usize> InlineStringN<N> {
             → self.new ≡ filter test self.old }
         ensures bound { size self.new ≤ size self.old }
     {
-        let (start, end) = (self.start, self.start + self.len);
-        let cells = &mut self.bytes[..];
-        self.len = retain_in_front(&mut cells[start..end], f);
+        let (start, end) = (self.window.start, self.window.start + self.window.len);
+        let cells = &mut self.window.bytes[..];
+        self.window.len = retain_in_front(&mut cells[start..end], f);
     }
 }
 

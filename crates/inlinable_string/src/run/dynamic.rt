@@ -6,8 +6,7 @@ ghost use Rattle.inlinable_string.specs.Edit.{text_after};
 ghost use Rattle.inlinable_string.specs.Run.{LegalReplies, storage_after, credit_after};
 ghost use Rattle.inlinable_string.specs.Step.{IsStep};
 
-use super::bodies::{execute_body, insert_str_body, push_str_body, run_body, step_body};
-use super::{Command, Reply};
+use super::{Command, Reply, execute_body, insert_str_body, push_str_body, run_body, step_body};
 use crate::inline_string::ReplaceError;
 use crate::string_ext::StringExt;
 

@@ -1,7 +1,7 @@
 //! Items of an iterator, as the calls that join them see them.
-ghost use Rattle.std.specs.Prelude.{◌≡◌, ◌∷◌, [], List, ℕ, codes};
+ghost use Rattle.std.specs.Prelude.{◌≡◌, ◌∷◌, ◌++◌, [], List, ℕ, codes};
 ghost use Rattle.std.specs.Borrow.{Bor};
-ghost use Rattle.inlinable_string.specs.Joins.{text_of_chars, text_of_char_refs, text_of_strs, IsExtended, IsRefusedLast};
+ghost use Rattle.inlinable_string.specs.Joins.{text_of_chars, text_of_char_refs, text_of_strs, text_of_strs_with, IsExtended, IsRefusedLast};
 ghost use Rattle.inline_model.specs.Worked.{inline_text, heap_text};
 
 /// The text of "a" and "é" as characters, as references, and as strings; an empty string adds
@@ -13,6 +13,18 @@ pub fn texts_of_items()
         → text_of_char_refs (c ∷ d ∷ []) ≡ 97 ∷ 233 ∷ [] }
     ensures strs { (r s t : Bor (List ℕ)) → r.now ≡ 97 ∷ [] → s.now ≡ [] → t.now ≡ 195 ∷ 169 ∷ []
         → text_of_strs (r ∷ s ∷ t ∷ []) ≡ 97 ∷ 233 ∷ [] }
+{}
+
+/// No string has no separator, and neither has one alone; of three, an empty one in the middle has
+/// one on each side.
+#[tactic(auto, unfolding(crate::proofs::OnLiterals::on_literals))]
+pub fn texts_with_a_separator()
+    ensures none { text_of_strs_with (codes ", ") [] ≡ [] }
+    ensures one { (s : Bor (List ℕ)) → s.now ≡ 195 ∷ 169 ∷ []
+        → text_of_strs_with (codes ", ") (s ∷ []) ≡ 233 ∷ [] }
+    ensures three { (r s t : Bor (List ℕ)) → r.now ≡ 97 ∷ [] → s.now ≡ []
+        → t.now ≡ 195 ∷ 169 ∷ [] → text_of_strs_with (codes ", ") (r ∷ s ∷ t ∷ [])
+        ≡ codes "a, , " ++ 233 ∷ [] }
 {}
 
 /// "a" with a limit of two bytes stays inline with "b", and moves to the heap with "é"; "b" comes

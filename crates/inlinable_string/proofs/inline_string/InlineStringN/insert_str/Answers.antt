@@ -5,24 +5,25 @@ use Rattle.inlinable_string.proofs.inline_string.InlineStringN.insert_str.Goals 
 
 pub returns-then-old_len-string-clause-fits : goal.returns-then-old_len-string-clause-fits
 returns-then-old_len-string-clause-fits g c =
-    omega (arith, size_of (held c.self.inside c.self.view_is c.self.told c.self.invariant))
+    omega (arith, size_of (held c.self.inside.window c.self.view_is c.self.invariant))
 
 pub insert_in-start-requires-clause-place : goal.insert_in-start-requires-clause-place
 insert_in-start-requires-clause-place g c =
-    let h = held c.self.inside c.self.view_is c.self.told c.self.invariant in
+    let h = held c.self.inside.window c.self.view_is c.self.invariant in
     omega (arith, place_within _ _ c.requires.place, size_of h)
 
 pub invariant_of-self : goal.invariant_of-self
 invariant_of-self g c =
-    let h = held c.self.inside c.self.view_is c.self.told c.self.invariant in
+    let h = held c.self.inside.window c.self.view_is c.self.invariant in
     let new = rw c.as_bytes.ensures.value at c.insert_in-start.ensures.text in (
+      omega arith,
       omega (arith, c.insert_in-start.ensures.inside),
       (inserted h (holds_chars c.utf8.string) c.requires.place new).0,
     )
 
 pub returns : goal.returns
 returns g c =
-    let h = held c.self.inside c.self.view_is c.self.told c.self.invariant in
+    let h = held c.self.inside.window c.self.view_is c.self.invariant in
     let new = rw c.as_bytes.ensures.value at c.insert_in-start.ensures.text in
     let ok = (inserted h (holds_chars c.utf8.string) c.requires.place new).1 in
     record {

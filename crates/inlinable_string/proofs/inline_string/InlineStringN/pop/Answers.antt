@@ -8,14 +8,16 @@ returns-in_err-last g c = search (rules, nil_from_size)
 
 pub invariant_of-self : goal.invariant_of-self
 invariant_of-self g c =
-    (window_popped c.self.inside c.self.view_is c.self.told c.self.invariant _ _ _ c.in_ok-last.last
+    let last = c.in_ok-last.last in
+    let new = (window_popped c.self.inside.window c.self.view_is c.self.invariant _ _ _ last
     (c.chars-rest.ensures.rest ∙ c.as_str.ensures.value) c.in_ok-last.ensures.steps
-    c.as_str-rest_len.ensures c.as_str-rest_len.utf8).0
+    c.as_str-rest_len.ensures c.as_str-rest_len.utf8).0 in
+    (c.self.invariant.0, new.0, new.1)
 
 pub returns : goal.returns
 returns g c =
     let last = c.in_ok-last.last in
-    let text = (window_popped c.self.inside c.self.view_is c.self.told c.self.invariant _ _ _ last
+    let text = (window_popped c.self.inside.window c.self.view_is c.self.invariant _ _ _ last
     (c.chars-rest.ensures.rest ∙ c.as_str.ensures.value) c.in_ok-last.ensures.steps
     c.as_str-rest_len.ensures c.as_str-rest_len.utf8).1 in
     record {

@@ -6,31 +6,32 @@ use Rattle.inlinable_string.proofs.inline_string.InlineStringN.replace_range.Goa
 
 pub remove_in-cut-requires-clause-place : goal.remove_in-cut-requires-clause-place
 remove_in-cut-requires-clause-place g c =
-    let h = held c.self.inside c.self.view_is c.self.told c.self.invariant in
+    let h = held c.self.inside.window c.self.view_is c.self.invariant in
     omega (arith, place_within _ _ c.requires.end, size_of h)
 
 pub overflow_sub-rest_len-2 : goal.overflow_sub-rest_len-2
 overflow_sub-rest_len-2 g c =
-    let h = held c.self.inside c.self.view_is c.self.told c.self.invariant in
+    let h = held c.self.inside.window c.self.view_is c.self.invariant in
     omega (arith, place_within _ _ c.requires.end, size_of h)
 
 pub returns-then-rest_len-replace_with-clause-fits :
     goal.returns-then-rest_len-replace_with-clause-fits
 returns-then-rest_len-replace_with-clause-fits g c =
-    let h = held c.self.inside c.self.view_is c.self.told c.self.invariant in
+    let h = held c.self.inside.window c.self.view_is c.self.invariant in
     omega (arith, c.if-rest_len-replace_with.true, place_within _ _ c.requires.end, size_of h)
 
 pub insert_in-start-requires-clause-place : goal.insert_in-start-requires-clause-place
 insert_in-start-requires-clause-place g c =
-    let h = held c.self.inside c.self.view_is c.self.told c.self.invariant in
+    let h = held c.self.inside.window c.self.view_is c.self.invariant in
     omega (arith, c.requires.order, place_within _ _ c.requires.end, size_of h)
 
 pub invariant_of-self : goal.invariant_of-self
 invariant_of-self g c =
-    let h = held c.self.inside c.self.view_is c.self.told c.self.invariant in
+    let h = held c.self.inside.window c.self.view_is c.self.invariant in
     let put = rw (c.as_bytes.ensures.value, c.remove_in-cut.ensures.text) at
     c.insert_in-start.ensures.text in
     let new = cut_then_put _ _ h c.requires.start put in (
+      omega arith,
       omega (arith, c.insert_in-start.ensures.inside),
       ∣ range-utf8 h (holds_chars c.utf8.replace_with) c.requires.start c.requires.end
           c.requires.order new ∣₁,
@@ -38,7 +39,7 @@ invariant_of-self g c =
 
 pub returns : goal.returns
 returns g c =
-    let h = held c.self.inside c.self.view_is c.self.told c.self.invariant in
+    let h = held c.self.inside.window c.self.view_is c.self.invariant in
     let within = place_within _ _ c.requires.end in
     let put = rw (c.as_bytes.ensures.value, c.remove_in-cut.ensures.text) at
     c.insert_in-start.ensures.text in
