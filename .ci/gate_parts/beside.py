@@ -15,8 +15,7 @@ from hashlib import sha256
 from floors import BESIDE, BESIDE_OF_EACH
 from gate_parts.call_inputs import calls_line, script_line
 from gate_parts.draw import SEED
-from gate_parts.good_scripts import LINES
-from gate_parts.language import ARGUMENTS
+from gate_parts.language import COMMANDS
 from gate_parts.programs import Case, all_runs, chosen, run
 from gate_parts.tree import Failure, in_tree, text_of, too_few
 
@@ -95,10 +94,10 @@ def failed_digests(builds, digests):
 
 
 def check_words(source):
-    """Fails where the program, the model and what draws scripts do not have the same words of commands."""
+    """Fails where the program and the model, by which scripts are drawn, do not have the same words of commands."""
     words = set(re.findall(r'^ +"(\w+)" =>', source, re.MULTILINE))
-    if not words == set(ARGUMENTS) == set(LINES):
-        raise Failure(f'not all of {WORDS}, language.py and good_scripts.py have the words {sorted(words)}')
+    if words != set(COMMANDS):
+        raise Failure(f'{WORDS} has the words {sorted(words)}, and language.py has others')
 
 
 def main(given):

@@ -3,8 +3,8 @@ from contextlib import suppress
 
 from gate_parts.draw import ESCAPED, MARKS, Draw, is_alike
 from gate_parts.encodings import nearly_utf8, nearly_utf16
-from gate_parts.good_scripts import LINES, a_growth, at_the_ends, good_script, line_of, way_back
-from gate_parts.language import GREATEST, STARTS, Text, Undecided, answer, command_of, width
+from gate_parts.good_scripts import a_growth, at_the_ends, good_script, line_of, way_back
+from gate_parts.language import COMMANDS, GREATEST, STARTS, Text, Undecided, answer, command_of, width
 from gate_parts.programs import Case
 
 ARRAY, HEAP, SHORT, STRING = 'InlineString', 'InlinableString', 'InlinableStringN<8>', 'String'
@@ -30,7 +30,7 @@ KINDS = {
     'views': (1, 'len is_empty as_bytes as_str into_bytes clone capacity'),
 }
 # What `good_scripts.py` draws, and what is drawn between the words of a kind.
-SCRIPTED = LINES.keys() - {'replace_bytes'}
+SCRIPTED = COMMANDS.keys() - {'replace_bytes'}
 BETWEEN = 'push push_str insert insert_str pop remove truncate slide'.split()
 # What a type lacks.
 LACKING = {
@@ -46,9 +46,11 @@ SIZES = (0, 1, 2, 7, 8, 9, 26, 27, 28, 28, 29, 29, 30, 30, 31, 32)
 # How a text that is compared is made, with how many bytes more it had; or on the heap. How many scripts of a
 # hundred have one byte wrong.
 WAYS, ON_HEAP, SPOILT = {'': 0, ' other after "𝄞"': 4, ' other before "more"': 4}, ' other room 31', 10
-# The words that are given a character, and what is written by its number.
-CHARACTERS = ('push', 'insert', 'write_char')
-BY_NUMBER = {code: f'\\u{{{code:x}}}' for code in (*range(32), *range(127, 160), *map(ord, '"\'\\'))}
+# The words that are given a character, and what rows write by an escape.
+CHARACTERS = {'write_char', *(word for word, (_, kinds) in COMMANDS.items() if 'character' in kinds)}
+LETTERS = {ord(char): '\\' + letter for char, letter in zip('\n\r\t\0\\', 'nrt0\\')}
+IN_TEXT = {**{code: f'\\u{{{code:x}}}' for code in (*range(32), *range(127, 160))}, **LETTERS}
+IN_BYTES = {**{code: f'\\x{code:02x}' for code in (*range(32), *range(127, 256))}, **LETTERS}
 
 
 class Played:
@@ -69,18 +71,22 @@ class Played:
             self.text.push_str(string)
 
 
-def value(given):
-    """A text, bytes, a list or a number, as a row has it."""
-    if isinstance(given, bytes):
-        return 'b"' + ''.join(f'\\x{byte:02x}' for byte in given) + '"'
+def value(given, quote='"'):
+    """A text, bytes, a list or a number, as a row is printed."""
     if isinstance(given, list):
         return '[' + ', '.join(map(value, given)) + ']'
-    return f'"{given.translate(BY_NUMBER)}"' if isinstance(given, str) else str(given)
+    if isinstance(given, bytes):
+        return 'b' + quoted(given.decode('latin-1'), IN_BYTES, quote)
+    return quoted(given, IN_TEXT, quote) if isinstance(given, str) else str(given)
+
+
+def quoted(string, escapes, quote):
+    return quote + string.translate(escapes).replace(quote, '\\' + quote) + quote
 
 
 def call(word, *given):
-    line = ' '.join([word, *map(value, given)])
-    return line.replace('"', "'") if word in CHARACTERS else line
+    quote = "'" if word in CHARACTERS else '"'
+    return ' '.join([word, *(value(each, quote) for each in given)])
 
 
 def alike(string):

@@ -1,6 +1,6 @@
 """Scripts that the program takes, drawn at random, with places and sizes near the edges."""
 from gate_parts.encodings import nearly_utf8
-from gate_parts.language import ABSURD, GREATEST, Text, command_of
+from gate_parts.language import ABSURD, COMMANDS, GREATEST, Text, command_of
 
 EDGES = (0, 8, 30)
 
@@ -76,25 +76,15 @@ def in_digits(draw, data):
     return ''.join(digit.upper() if case % 2 else digit for digit, case in zip(data.hex(), cases))
 
 
-# By the word of a line: how often it comes beside the others, and what draws each part that follows it.
-LINES = {
-    'push': (10, lambda draw, _: draw.char()),
-    'push_str': (10, lambda draw, text: draw.string(a_growth(draw, text))),
-    'insert': (10, a_place, lambda draw, _: draw.char()),
-    'insert_str': (10, a_place, lambda draw, text: draw.string(a_growth(draw, text))),
-    'truncate': (8, a_place),
-    'pop': (8,),
-    'remove': (12, a_place),
-    'clear': (1,),
-    'replace_bytes': (10, lambda draw, text: in_digits(draw, a_replacement(draw, text))),
-    'reserve': (6, an_amount),
-    'reserve_exact': (6, an_amount),
-    'shrink_to_fit': (6,),
-}
+# What draws each part of a line.
+PARTS = {
+    'character': lambda draw, _: draw.char(), 'text': lambda draw, text: draw.string(a_growth(draw, text)),
+    'place': a_place, 'amount': an_amount,
+    'pairs': lambda draw, text: in_digits(draw, a_replacement(draw, text))}
 
 
 def line_of(draw, text, word):
-    return ' '.join([word, *(part(draw, text) for part in LINES[word][1:])])
+    return ' '.join([word, *(PARTS[kind](draw, text) for kind in COMMANDS[word][1])])
 
 
 def way_back(draw, text):
@@ -125,7 +115,7 @@ def good_lines(draw, word, turns):
         elif text.storage == 'inline' and slides and draw.chance(70):
             line = at_the_ends(draw, text)
         else:
-            line = line_of(draw, text, draw.weighted({word: often for word, (often, *_) in LINES.items()}))
+            line = line_of(draw, text, draw.weighted({word: often for word, (often, _) in COMMANDS.items()}))
         lines.append(line)
         text.obey(command_of(line))
     return lines

@@ -14,8 +14,8 @@ from functools import partial
 from floors import HOSTILE, HOSTILE_INPUTS, NAMED_CASES
 from gate_parts.draw import SEED, Draw
 from gate_parts.encodings import nearly_utf8
-from gate_parts.good_scripts import LINES, good_lines, good_script, line_of
-from gate_parts.language import GREATEST, MOST_BYTES, STARTS, Text, Undecided, answer
+from gate_parts.good_scripts import good_lines, good_script, line_of
+from gate_parts.language import COMMANDS, GREATEST, MOST_BYTES, STARTS, Text, Undecided, answer
 from gate_parts.programs import STREAMS, Case, all_runs, chosen, run
 from gate_parts.tree import Failure, in_tree, too_few
 
@@ -61,7 +61,7 @@ ENDS = ('', ' ', '  ', '\r', '\0', '\ufeff', ' a', 'a ', 'aa', 'e\u0301', 'é', 
 
 def odd_line(draw, word):
     """A line that is bad, or looks as if it were: its word, a space, its number or its end spoilt."""
-    line = line_of(draw, Text(word), draw.choice(list(LINES)))
+    line = line_of(draw, Text(word), draw.choice(list(COMMANDS)))
     name, space, rest = line.partition(' ')
     near = draw.choice((0, 1, 8, 30, 2 ** 32, 2 ** 63, 10 ** 19, 2 ** 64, 2 ** 65, 10 ** 20))
     number = draw.choice(NUMBERS).format(near + draw.randint(-1, 1))

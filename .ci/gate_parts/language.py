@@ -37,20 +37,24 @@ def pairs(rest):
     return bytes.fromhex(rest) if re.fullmatch('([0-9a-fA-F]{2})*', rest) else None
 
 
-ARGUMENTS = {
-    'push': [character], 'push_str': [str], 'insert': [number, character], 'insert_str': [number, str],
-    'truncate': [number], 'pop': [], 'remove': [number], 'clear': [], 'replace_bytes': [pairs],
-    'reserve': [number], 'reserve_exact': [number], 'shrink_to_fit': []}
+READERS = {'place': number, 'amount': number, 'character': character, 'text': str, 'pairs': pairs}
+# By the word of a command: how often it is drawn beside the others, and what each part is that follows it.
+COMMANDS = {
+    'push': (10, ['character']), 'push_str': (10, ['text']),
+    'insert': (10, ['place', 'character']), 'insert_str': (10, ['place', 'text']),
+    'truncate': (8, ['place']), 'pop': (8, []), 'remove': (12, ['place']), 'clear': (1, []),
+    'replace_bytes': (10, ['pairs']), 'reserve': (6, ['amount']), 'reserve_exact': (6, ['amount']),
+    'shrink_to_fit': (6, [])}
 
 
 def command_of(line):
     """A line's word and its arguments; None where the line is bad."""
     word = line.split(' ')[0]
-    readers = ARGUMENTS.get(word, [])
-    first, *parts = line.split(' ', len(readers))
-    if word not in ARGUMENTS or first != word or len(parts) < len(readers):
+    _, kinds = COMMANDS.get(word, (0, []))
+    first, *parts = line.split(' ', len(kinds))
+    if word not in COMMANDS or first != word or len(parts) < len(kinds):
         return None
-    command = [word, *(read(part) for read, part in zip(readers, parts))]
+    command = [word, *(READERS[kind](part) for kind, part in zip(kinds, parts))]
     return None if None in command else command
 
 

@@ -14,6 +14,7 @@ from functools import lru_cache
 from tempfile import TemporaryDirectory
 
 from floors import REFUSALS
+from gate_parts.language import COMMANDS
 from gate_parts.refused_scripts import WORDS, answers
 from gate_parts.rows import CRATE, files_of
 from gate_parts.tree import TOP, Failure, crate_folder, too_few, write_text
@@ -24,8 +25,6 @@ QUOTED = r'''"(?:\\.|[^"\\])*"|'(?:\\[^']+|[^'\\])\''''
 ROW = re.compile(rf'''(\S+)((?:{QUOTED}|[^:"'])*): (.*)''')
 STEPS = re.compile(rf'''((?:{QUOTED}|[^;"'])+)(?:; |$)''')
 STEP = re.compile(rf'''requests (\d+) ((\w+)(?:{QUOTED}|[^="'])*) = .*''')
-COMMANDS = {*'push push_str insert insert_str truncate pop remove clear replace_bytes reserve reserve_exact '
-            'shrink_to_fit'.split()}
 # What a call answers if its request is refused, where that is not `no memory`; a shrink does without.
 REFUSED = {'write_char': 'write fault', 'write_str': 'write fault', 'write': 'write fault', 'shrink_to_fit': 'done'}
 # Rows that are wrong in one value each: a case of each must go wrong.
@@ -48,7 +47,7 @@ def cases_of(place, row):
     if None in stated:
         raise Failure(f'{place}: each step of a row must state its requests, or none')
     words = [step[3] for step in stated]
-    ways = ['calls', 'run', 'run_dyn'] if len(words) > 1 and COMMANDS.issuperset(words) else ['calls']
+    ways = ['calls', 'run', 'run_dyn'] if len(words) > 1 and COMMANDS.keys() >= set(words) else ['calls']
     owners = [step for step in stated for _ in range(int(step[1]))]
     for request, owner in enumerate([*owners, None], 1):
         twice = [part for step in stated for part in [refused(step)] * (step is owner) + [step[0]]]

@@ -51,6 +51,9 @@ pub fn owned(text: &str, call: &Call) -> Option<String> {
         "make_ascii_uppercase" => own.make_ascii_uppercase(),
         "make_ascii_lowercase" => own.make_ascii_lowercase(),
         "replace_range" => own.replace_range(call.number..call.end, string),
+        "trim_in_place" => own = own.trim().into(),
+        "trim_start_in_place" => own = own.trim_start().into(),
+        "trim_end_in_place" => own = own.trim_end().into(),
         _ => return None,
     }
     Some(own)

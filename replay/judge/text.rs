@@ -70,6 +70,18 @@ macro_rules! of_both {
                 $text.truncate($call.number);
                 seen(&<$type>::from(&tail[..]))
             }
+            "drain" => {
+                let part = <$type>::from(&$text[$call.number..$call.end]);
+                let mut own = $text.to_string();
+                own.drain($call.number..$call.end);
+                $text.clear();
+                let _ = $text.push_str(&own);
+                seen(&part)
+            }
+            "split_once" => match $text.split_once($call.first()?) {
+                Some((before, after)) => call::text(&format!("{before}|{after}")),
+                None => "none".into(),
+            },
             "replace_bytes" if $call.bytes.len() != $text.len() => "wrong length".into(),
             "replace_bytes" if $call.string().is_none() => "not UTF-8".into(),
             "replace_bytes" => done(unsafe { $text.as_mut_slice() }.copy_from_slice(&$call.bytes)),
@@ -95,10 +107,28 @@ fn array(text: &mut InlineString, call: &Call) -> Option<String> {
     }
     Some(of_both!(InlineString, text, call, string, match call.word {
         "copy" => done(*text = text.clone()),
+        "remaining_capacity" => (INLINE_STRING_CAPACITY - text.len()).to_string(),
+        "repeat" => {
+            let size = string.len().checked_mul(call.number);
+            if size.is_none_or(|size| size > INLINE_STRING_CAPACITY) {
+                return Some("full".into());
+            }
+            done(*text = InlineString::from(&string.repeat(call.number)[..]))
+        }
+        "is_full" => (text.len() == INLINE_STRING_CAPACITY).to_string(),
+        "from_utf8" if call.bytes.len() > INLINE_STRING_CAPACITY => "too long".into(),
+        "from_utf8" => match call.string() {
+            Some(string) => done(*text = InlineString::from(string)),
+            None => "not UTF-8".into(),
+        },
         "from_chars" => made(text, |made| string.chars().try_for_each(|ch| made.push(ch))),
         "from_strs" => {
             let strings = call.strings()?;
             made(text, |made| strings.iter().try_for_each(|each| made.push_str(each)))
+        }
+        "from_strs_with" => {
+            let own = call.strings()?.join(string);
+            made(text, |made| made.push_str(&own))
         }
         "extend_chars" => or("full", string.chars().try_for_each(|ch| text.push(ch))),
         "extend_strs" => or("full", call.strings()?.iter().try_for_each(|each| text.push_str(each))),
@@ -153,6 +183,7 @@ pub fn inlinable<T: Text>(text: &mut T, call: &Call) -> Option<String> {
             *text = T::default();
             done(extend(text, call.strings()?))
         }
+        "from_strs_with" => done(*text = T::from(&call.strings()?.join(string)[..])),
         "from_chars" | "collect" => done(*text = string.chars().collect()),
         "add" => done(*text = mem::take(text) + string),
         "extend_strs" | "extend" if call.list.is_some() => done(extend(text, call.strings()?)),
@@ -167,6 +198,11 @@ pub fn inlinable<T: Text>(text: &mut T, call: &Call) -> Option<String> {
         "cmp" => order(T::cmp(text, &other())),
         "partial_cmp" => order(T::partial_cmp(text, &other())?),
         "debug" => call::text(&format!("{text:?}")),
+        "repeat" if string.len().checked_mul(call.number).is_none() => {
+            meet_panic(Departure::TooMuch, || string.repeat(call.number));
+            "no memory".into()
+        }
+        "repeat" => done(*text = T::from(&string.repeat(call.number)[..])),
         _ => {
             let own = owned(text, call)?;
             text.clear();

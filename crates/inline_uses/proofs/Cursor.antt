@@ -1,9 +1,10 @@
--- A cursor steps over one character.
+-- A cursor steps over one character, or past one that is typed.
 use Rattle.std.proofs.Common.{◌≡◌, ◌↔◌, ℕ, ◌+◌, ◌-◌, List, [], ◌∷◌, ◌++◌, length, take, drop, Option, Some, None, IsSome, refl, sym, ap, ◌∙◌, arith, encode_utf8}
-use Rattle.std.proofs.lemmas.List.{append_assoc}
+use Rattle.std.proofs.lemmas.List.{append-nil, append_assoc}
 use Rattle.std.proofs.lemmas.Str.{chars_past_char}
+use Rattle.std.specs.List.{slice_range}
 use Rattle.std.specs.Str.{chars, IsUtf8}
-use Rattle.inlinable_string.specs.Text.{bytes_of, size, cut, IsCut}
+use Rattle.inlinable_string.specs.Text.{bytes_of, size, cut, IsCut, IsSplice}
 use Rattle.inline_uses.specs.Editor.{parts_of}
 
 parts_are : (o : Option (List ℕ × List ℕ)) → IsSome o
@@ -24,12 +25,13 @@ module _ {t : List ℕ} (decides : (q : ℕ) (a b : List ℕ) → (cut t q ≡ S
   -- c was the last character of the piece before p
   pub stepped_left : (back : (bs rest : List ℕ) (c : ℕ) → IsUtf8 bs → IsUtf8 rest
       → bs ≡ rest ++ encode_utf8 c → chars bs ≡ chars rest ++ c ∷ [])
-      → chars (take p bs) ≡ chars piece → piece ≡ rest ++ encode_utf8 c
+      → piece ≡ slice_range bs 0 p → piece ≡ rest ++ encode_utf8 c
       → ((parts_of (cut t p)).before ≡ chars rest ++ c ∷ [])
       × (cut t (length rest) ≡ Some (chars rest, c ∷ (parts_of (cut t p)).behind))
   stepped_left back piece_is end =
       let b = (parts_of (cut t p)).behind in
-      let before = (cuts t bs _ _ p is_cut utf8 whole).0 ∙ piece_is
+      let same : take p bs ≡ piece = ap (λ k. take k bs) (omega arith) ∙ sym piece_is in
+      let before = (cuts t bs _ _ p is_cut utf8 whole).0 ∙ ap chars same
       ∙ back piece rest c text left end in (
         before,
         (decides (length rest) (chars rest) (c ∷ b)).1 (record {
@@ -56,3 +58,17 @@ module _ {t : List ℕ} (decides : (q : ℕ) (a b : List ℕ) → (cut t q ≡ S
           before = omega (arith, count, sizes rest left);
         }),
       )
+
+-- the text t became v by the character c at p, of n bytes
+pub typed : ((t : List ℕ) (p : ℕ) (a b : List ℕ) → (cut t p ≡ Some (a, b)) ↔ IsCut t p a b)
+    → ((a b : List ℕ) → size (a ++ b) ≡ size a + size b)
+    → (t v : List ℕ) (p c n : ℕ) → IsSplice t p (c ∷ []) v → n ≡ length (encode_utf8 c)
+    → cut v (p + n) ≡ Some ((parts_of (cut t p)).before ++ c ∷ [], (parts_of (cut t p)).behind)
+typed decides joined t v p c n is long =
+    let two = joined is.front (c ∷ []) in
+    let one : size (c ∷ []) ≡ n = ap length (append-nil (encode_utf8 c)) ∙ sym long in
+    let parts = (decides t p is.front is.back).1 is.cut in
+    rw parts ((decides v (p + n) (is.front ++ c ∷ []) is.back).1 (record {
+      joined = is.joined;
+      before = omega (arith, two, one, is.cut.before);
+    }))

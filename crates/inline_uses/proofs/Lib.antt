@@ -1,3 +1,4 @@
+pub mod Appended
 pub mod Ascii
 pub mod Cursor
 pub mod Deleted

@@ -2,7 +2,7 @@
 use Rattle.std.specs.Prelude.{ℕ, ◌≡◌, ◌+◌, ◌-◌, ◌/◌, ◌<◌, ◌≤◌, Bool, ◌&&◌, List, drop, length, max, min, nat_le, nat_lt, vec_capacity, vec_len}
 use Rattle.inlinable_string.specs.declared.inlinable_string.InlinableStringN.{InlinableStringN}
 use Rattle.inline_uses.specs.declared.store.window.row.Row.{Row}
-use Rattle.inline_uses.specs.declared.store.window.row.TheConstants.{LEAST, MANY}
+use Rattle.inline_uses.specs.declared.store.window.row.TheConstants.{LEAST, LONG_ROW}
 
 -- those after the blank ones
 abbrev pub entries : Row → List (InlinableStringN 30 × InlinableStringN 30)
@@ -18,7 +18,7 @@ places row = vec_capacity row.cells
 
 -- of an edit at an index, those before it move: there are many, and fewer are before it than after
 abbrev pub moves_head : ℕ → ℕ → Bool
-moves_head len at = nat_le MANY len && nat_lt at (len / 2)
+moves_head len at = nat_le LONG_ROW len && nat_lt at (len / 2)
 
 -- there is no room before the entries, and after them room for a quarter of them
 abbrev pub HasRoomAfter : Row → Type 0

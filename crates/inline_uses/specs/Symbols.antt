@@ -1,10 +1,11 @@
 -- What the contracts of a symbol table cite: its texts, each as its bytes, by their ids, and the
 -- order of texts, in which it looks them up.
-use Rattle.std.specs.Prelude.{◌≡◌, ◌↔◌, ◌<◌, ◌≤◌, ℕ, List, [], Some, map, length, slice_get, slice_index_or}
+use Rattle.std.specs.Prelude.{◌≡◌, ◌↔◌, ◌<◌, ◌≤◌, ◌++◌, ℕ, List, [], Some, map, length, slice_get, slice_index_or}
 use Rattle.std.specs.declared.cmp.Ordering.{Ordering}
 use Rattle.std.specs.declared.cmp.Ordering.TheVariants.{Less, Greater}
 use Rattle.std.specs.Cmp.Lexicographic.{slice_cmp}
-use Rattle.std.specs.List.{AllByRecursion, range_with_len}
+use Rattle.std.specs.Borrow.{Bor}
+use Rattle.std.specs.List.{AllByRecursion, AllZip, range_with_len}
 use Rattle.std.specs.List.Sorted.{IsPermutation, IsStrictlySortedBy}
 use Rattle.std.specs.Map.{keys_of, lookup}
 use Rattle.std.specs.BTreeMap.{is_at}
@@ -45,6 +46,14 @@ with_ids texts ids = map (λ id. (text_at texts id, id)) ids
 -- the texts of a table by their ids
 abbrev pub texts_of : Inside → List (List ℕ)
 texts_of a = map bytes_at a.texts.items
+
+-- each of these ids is that of the text in its place
+abbrev pub AreIdsOf : List (List ℕ) → List (Bor (List ℕ)) → List ℕ → Type 0
+AreIdsOf texts items ids = AllZip (λ s id. slice_get texts id ≡ Some s.now) items ids
+
+-- the list of ids became another by those of the items, one after the other
+abbrev pub HasAppended : List (List ℕ) → List ℕ → List (Bor (List ℕ)) → List ℕ → Type 0
+HasAppended texts old items new = (ids : List ℕ) × AreIdsOf texts items ids × (new ≡ old ++ ids)
 
 -- all ids are in the order of their texts, and each text is found under its own
 pub record IsOrderOf (texts : List (List ℕ)) (ids : List ℕ) : Type 0 where

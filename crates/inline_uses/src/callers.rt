@@ -1,8 +1,12 @@
 //! Callers of the modules, as a user writes them: each is proved from their contracts alone, with
 //! no answer written by hand.
-ghost use Rattle.std.specs.Prelude.{◌≡◌, ◌↔◌, ◌+◌, ◌-◌, ◌^◌, ℕ, min, length, [], Some, None, IfOk, IfSome, IfNone, OnOk, OnErr, IsSome, IsTrue, slice_get};
+ghost use Rattle.std.specs.Prelude.{◌≡◌, ◌↔◌, ◌++◌, ◌+◌, ◌-◌, ◌^◌, ℕ, List, min, length, [], Some, None, IfOk, IfSome, IfNone, OnOk, OnErr, IsSome, IsTrue, slice_get};
 ghost use Rattle.std.specs.Option.{unwrap_or};
+ghost use Rattle.std.specs.Str.{chars};
 ghost use Rattle.inline_uses.specs.Editor.{text_of};
+ghost use Rattle.inline_uses.specs.Symbols.{AreIdsOf};
+ghost use Rattle.inline_uses.specs.Tokens.{kind_at};
+ghost use Rattle.inline_uses.specs.Tree.{node_at};
 ghost use Rattle.inline_uses.specs.Store.{value_of as text_under, with_value};
 ghost use Rattle.inline_uses.specs.TextMap.{deref_entry, entries_between, value_of, with_value as with_entry, without as without_entry};
 
@@ -10,8 +14,10 @@ use crate::editor::Line;
 use crate::store::Store;
 use crate::symbols::Symbols;
 use crate::text_map::TextMap;
-use inlinable_string::InlinableString;
-use std::alloc::AllocError;
+use crate::tokens::{Kind, next_token};
+use crate::tree::{Fault, Tree};
+use inlinable_string::{InlinableString, InlineStringN};
+use std::alloc::{AllocError, Global};
 
 /// Returns the ids of two texts, and gives ids to those that have none.
 pub fn intern_both(
@@ -25,6 +31,21 @@ pub fn intern_both(
     let first = symbols.intern(one)?;
     let second = symbols.intern(other)?;
     Ok((first, second))
+}
+
+/// Returns the ids of the words of a list, and gives ids to those that have none.
+pub fn ids_of_words(
+    symbols: &mut Symbols,
+    alloc: Global,
+    words: &[&str],
+) -> Result<Vec<usize>, AllocError>
+    ensures ids { IfOk result (λ ids. AreIdsOf symbols.new words.now ids.items) }
+    ensures kept { (i : ℕ) (known : List ℕ) → slice_get symbols.old i ≡ Some known
+        → slice_get symbols.new i ≡ Some known }
+{
+    let mut ids = Vec::new(alloc);
+    symbols.intern_all(words.iter().copied(), &mut ids)?;
+    Ok(ids)
 }
 
 /// Puts a value under a key that has none, and returns whether it had none.
@@ -122,4 +143,29 @@ pub fn erase<const N: usize>(line: &mut Line<N>)
 {
     line.home();
     line.kill_to_end();
+}
+
+/// Returns what follows the word that a source begins with, if it begins with one that fits.
+pub fn after_word(source: &str) -> Option<&str>
+    ensures rest { IfSome result (λ rest. (word : List ℕ) × (source.now ≡ word ++ rest.now)) }
+    ensures kind { IfSome result (λ _. kind_at (chars source.now) ≡ Some Kind.Word) }
+{
+    let mut word: InlineStringN<32> = InlineStringN::new();
+    let token = next_token(&mut word, source).ok()??;
+    if token.kind != Kind::Word {
+        return None;
+    }
+    Some(token.rest)
+}
+
+/// Returns the number of the node at the top that has this key, which is added if there is none.
+pub fn top_node(tree: &mut Tree, key: &str) -> Result<usize, Fault>
+    ensures node { IfOk result
+        (λ id. slice_get tree.new id ≡ Some (node_at None (chars key.now))) }
+    ensures err { OnErr result (tree.new ≡ tree.old) }
+{
+    if let Some(id) = tree.child(None, key) {
+        return Ok(id);
+    }
+    tree.add(None, key)
 }

@@ -3,7 +3,10 @@ ghost use Rattle.std.specs.Prelude.{◌≡◌, ℕ, ◌↔◌, List, [], ◌∷�
 ghost use Rattle.std.specs.Map.{keys_of};
 ghost use Rattle.std.specs.List.{range_with_len};
 ghost use Rattle.std.specs.List.Sorted.{IsPermutation, IsStrictlySortedBy};
-ghost use Rattle.inline_uses.specs.Symbols.{IsGap, bytes_at, key_order, text_at, with_ids};
+ghost use Rattle.std.specs.Borrow.{Bor};
+ghost use Rattle.std.specs.Iterator.{IsFinite};
+ghost use Rattle.std.specs.Iterator.Runs.{WholeRun};
+ghost use Rattle.inline_uses.specs.Symbols.{IsGap, HasAppended, bytes_at, key_order, text_at, with_ids};
 
 use crate::index::{Index, Texts};
 use inlinable_string::laws::bytes_of_parts;
@@ -102,6 +105,43 @@ impl Symbols {
                 }
             }
         }
+    }
+
+    /// Gives an id to each text of an iterator that ends, as [`Symbols::intern`] does, and appends
+    /// the ids to `ids` in the order of the texts. Fails only if an allocation does; then `ids` has
+    /// those of the texts before the one that failed.
+    pub fn intern_all<'a, I: Iterator<Item = &'a str>>(
+        &mut self,
+        items: I,
+        ids: &mut Vec<usize>,
+    ) -> Result<(), AllocError>
+        requires can { I.can_next items }
+        requires ends { IsFinite (I.remaining items) }
+        ensures ids { OnOk result (WholeRun I.next_gives items
+            (λ run. HasAppended self.new ids.old.items run.items ids.new.items)) }
+        ensures err { OnErr result ((before : List (Bor (List ℕ)))
+            × HasAppended self.new ids.old.items before ids.new.items) }
+        ensures kept { (i : ℕ) (known : List ℕ) → slice_get self.old i ≡ Some known
+            → slice_get self.new i ≡ Some known }
+    {
+        for text in items {
+            self.intern_next(text, ids)?;
+        }
+        Ok(())
+    }
+
+    /// Interns a text, and appends its id. The prover knows a `&str` to be UTF-8 only as a
+    /// parameter, not out of an iterator.
+    fn intern_next(&mut self, text: &str, ids: &mut Vec<usize>) -> Result<(), AllocError>
+        ensures id { OnOk result ((id : ℕ) × (slice_get self.new id ≡ Some text.now)
+            × (ids.new.items ≡ ids.old.items ++ id ∷ [])) }
+        ensures err { OnErr result (ids.new.items ≡ ids.old.items) }
+        ensures kept { (i : ℕ) (known : List ℕ) → slice_get self.old i ≡ Some known
+            → slice_get self.new i ≡ Some known }
+    {
+        let id = self.intern(text)?;
+        ids.push(id)?;
+        Ok(())
     }
 
     /// Returns the texts by their ids.

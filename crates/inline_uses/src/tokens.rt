@@ -18,6 +18,54 @@ use inlinable_string::InlineStringN;
 use inlinable_string::laws::{sizes_of_parts, steps_are_over_characters};
 use letters::is_letter;
 
+/// A token, and what follows it in the source.
+#[derive(Clone, Copy, Debug, PartialEq, Eq)]
+pub struct Token<'a> {
+    pub kind: Kind,
+    /// The token as it is written in the source.
+    pub text: &'a str,
+    /// The rest of the source.
+    pub rest: &'a str,
+}
+
+/// Reads the token that the source begins with, white space and comments too, or returns `None`
+/// if the source is empty. The buffer then has the word or the number, or what the text between
+/// quotes means, and is empty after any other token. Fails exactly if that has more than `N`
+/// bytes, if the source ends in a text or a block comment, or at an escape that there is not.
+pub fn next_token<'a, const N: usize>(
+    word: &mut InlineStringN<N>,
+    source: &'a str,
+) -> Result<Option<Token<'a>>, Fault>
+    ensures parts { IfOk result (λ found. IfSome found
+        (λ token. source.now ≡ token.text.now ++ token.rest.now)) }
+    ensures chars { IfOk result (λ found. IfSome found
+        (λ token. chars source.now ≡ chars token.text.now ++ chars token.rest.now)) }
+    ensures progress { IfOk result (λ found. IfSome found (λ token. token.text.now ≢ [])) }
+    ensures end { IfOk result (λ found. IfNone found (source.now ≡ [])) }
+    ensures kind { IfOk result (λ found. IfSome found
+        (λ token. kind_at (chars source.now) ≡ Some token.kind)) }
+    ensures text { IfOk result (λ found. IfSome found
+        (λ token. IsToken token.kind (chars source.now) (chars token.text.now) word.new)) }
+    ensures fault { IfErr result (λ fault. IsSomeAnd (kind_at (chars source.now))
+        (λ kind. Fails N kind (chars source.now) fault)) }
+    ensures err { OnErr result (word.new ≡ []) }
+{
+    word.clear();
+    let Some(kind) = kind_at(source) else {
+        return Ok(None);
+    };
+    match read_token(word, kind, source) {
+        Ok((text, rest)) => {
+            chars_of_parts(text, rest);
+            Ok(Some(Token { kind, text, rest }))
+        }
+        Err(fault) => {
+            word.clear();
+            Err(fault)
+        }
+    }
+}
+
 /// Why a source has no next token.
 #[derive(Clone, Copy, Debug, PartialEq, Eq)]
 pub enum Fault {
@@ -351,54 +399,6 @@ fn read_token<'a, const N: usize>(
             None => Err(Fault::Unterminated),
         },
         Kind::Text => read_quoted(word, source),
-    }
-}
-
-/// A token, and what follows it in the source.
-#[derive(Clone, Copy, Debug, PartialEq, Eq)]
-pub struct Token<'a> {
-    pub kind: Kind,
-    /// The token as it is written in the source.
-    pub text: &'a str,
-    /// The rest of the source.
-    pub rest: &'a str,
-}
-
-/// Reads the token that the source begins with, white space and comments too, or returns `None`
-/// if the source is empty. The buffer then has the word or the number, or what the text between
-/// quotes means, and is empty after any other token. Fails exactly if that has more than `N`
-/// bytes, if the source ends in a text or a block comment, or at an escape that there is not.
-pub fn next_token<'a, const N: usize>(
-    word: &mut InlineStringN<N>,
-    source: &'a str,
-) -> Result<Option<Token<'a>>, Fault>
-    ensures parts { IfOk result (λ found. IfSome found
-        (λ token. source.now ≡ token.text.now ++ token.rest.now)) }
-    ensures chars { IfOk result (λ found. IfSome found
-        (λ token. chars source.now ≡ chars token.text.now ++ chars token.rest.now)) }
-    ensures progress { IfOk result (λ found. IfSome found (λ token. token.text.now ≢ [])) }
-    ensures end { IfOk result (λ found. IfNone found (source.now ≡ [])) }
-    ensures kind { IfOk result (λ found. IfSome found
-        (λ token. kind_at (chars source.now) ≡ Some token.kind)) }
-    ensures text { IfOk result (λ found. IfSome found
-        (λ token. IsToken token.kind (chars source.now) (chars token.text.now) word.new)) }
-    ensures fault { IfErr result (λ fault. IsSomeAnd (kind_at (chars source.now))
-        (λ kind. Fails N kind (chars source.now) fault)) }
-    ensures err { OnErr result (word.new ≡ []) }
-{
-    word.clear();
-    let Some(kind) = kind_at(source) else {
-        return Ok(None);
-    };
-    match read_token(word, kind, source) {
-        Ok((text, rest)) => {
-            chars_of_parts(text, rest);
-            Ok(Some(Token { kind, text, rest }))
-        }
-        Err(fault) => {
-            word.clear();
-            Err(fault)
-        }
     }
 }
 

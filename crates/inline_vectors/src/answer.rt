@@ -1,6 +1,5 @@
-//! What a call answers, and what is seen of a text.
+//! What a call answers.
 use inlinable_string::Storage;
-use std::cmp::Ordering;
 
 /// What a call answers.
 #[derive(Drop, Debug, PartialEq)]
@@ -8,8 +7,6 @@ pub enum Answer {
     /// How it came out: one of [`WORDS`].
     Word(&'static str),
     Number(u64),
-    Truth(bool),
-    Order(Ordering),
     Char(char),
     Text(String),
     /// A text, and where it is stored.
@@ -36,6 +33,11 @@ pub const WORDS: &[&str] = &[
     "too long",
     "unpaired",
     "no string",
+    "true",
+    "false",
+    "less",
+    "equal",
+    "greater",
 ];
 
 /// The words that come before a text.

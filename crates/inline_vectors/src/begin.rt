@@ -1,13 +1,40 @@
 //! How a row begins: the type of its text, and how the text is made.
 
-use crate::fault::Problem;
-use crate::kind::{Kind, Start};
+use crate::fault::Fault;
 use crate::lex::RowReader;
 use crate::value::text;
 use inlinable_string::INLINE_STRING_CAPACITY;
 
+const NOT_TYPE: Fault = Fault("not a type of text");
+
+const NOT_START: Fault = Fault("`room`, `after` and `before` come once, with a number or a text");
+
+/// A type of text. The number is the capacity inline.
+#[derive(Clone, Copy, Debug, PartialEq, Eq)]
+pub enum Kind {
+    /// `InlineStringN`.
+    Array(usize),
+    /// `InlinableStringN`.
+    Inlinable(usize),
+    Boxable,
+    String,
+    /// `HeapText`, a user-defined type.
+    User,
+}
+
+/// How a text is made: empty or with room, with more before it and after it at first.
+#[derive(Drop, Debug, PartialEq)]
+pub struct Start {
+    pub text: String,
+    pub room: Option<usize>,
+    /// What stood before it and is removed.
+    pub front: String,
+    /// What stood after it and is cut off.
+    pub back: String,
+}
+
 /// Reads a type; `None` is that of `every`.
-pub fn kind_of(reader: &mut RowReader) -> Result<Option<Kind>, Problem> {
+pub fn kind_of(reader: &mut RowReader) -> Result<Option<Kind>, Fault> {
     let kind = match reader.word() {
         "every" => return Ok(None),
         "InlineString" => Kind::Array(INLINE_STRING_CAPACITY),
@@ -17,31 +44,31 @@ pub fn kind_of(reader: &mut RowReader) -> Result<Option<Kind>, Problem> {
         "BoxableString" => Kind::Boxable,
         "String" => Kind::String,
         "HeapText" => Kind::User,
-        _ => return Err(Problem::NotType),
+        _ => return Err(NOT_TYPE),
     };
     Ok(Some(kind))
 }
 
 /// Reads a number in angle brackets.
-fn capacity_of(reader: &mut RowReader) -> Result<usize, Problem> {
+fn capacity_of(reader: &mut RowReader) -> Result<usize, Fault> {
     if !reader.takes("<") {
-        return Err(Problem::NotType);
+        return Err(NOT_TYPE);
     }
     let capacity = reader.number()?;
     if !reader.takes(">") {
-        return Err(Problem::NotType);
+        return Err(NOT_TYPE);
     }
     Ok(capacity)
 }
 
 /// Reads a text, and how it is made.
-pub fn start_of(reader: &mut RowReader) -> Result<Start, Problem> {
+pub fn start_of(reader: &mut RowReader) -> Result<Start, Fault> {
     let text = text(reader)?;
     making_of(reader, text)
 }
 
 /// Reads how this text is made.
-pub fn making_of(reader: &mut RowReader, text: String) -> Result<Start, Problem> {
+pub fn making_of(reader: &mut RowReader, text: String) -> Result<Start, Fault> {
     let mut start = Start {
         text,
         room: None,
@@ -52,7 +79,7 @@ pub fn making_of(reader: &mut RowReader, text: String) -> Result<Start, Problem>
         if reader.takes_word("room") {
             let room = reader.number()?;
             if start.room.replace(room).is_some() {
-                return Err(Problem::NotStart);
+                return Err(NOT_START);
             }
         } else if reader.takes_word("after") {
             put(reader, &mut start.front)?;
@@ -66,10 +93,10 @@ pub fn making_of(reader: &mut RowReader, text: String) -> Result<Start, Problem>
 }
 
 /// Reads a text that is not empty, into a place that has none yet.
-fn put(reader: &mut RowReader, place: &mut String) -> Result<(), Problem> {
+fn put(reader: &mut RowReader, place: &mut String) -> Result<(), Fault> {
     let text = text(reader)?;
     if text.is_empty() || !place.is_empty() {
-        return Err(Problem::NotStart);
+        return Err(NOT_START);
     }
     *place = text;
     Ok(())

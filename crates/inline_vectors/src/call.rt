@@ -1,21 +1,15 @@
-//! A call of a row: its word, and what it is given.
-use crate::kind::Start;
+//! The calls of rows: the word of each, what it is given, and what it does to the capacity.
 
-/// What memory a call has.
-#[derive(Clone, Copy, Debug, PartialEq, Eq)]
-pub enum Memory {
-    Ample,
-    /// None: each request is refused.
-    Held,
-    /// One block, which serves one request of this many bytes.
-    Block(usize),
-}
+use crate::begin::Start;
+use std::alloc::Global;
 
 /// A call. What it has no use for is empty, or zero.
 #[derive(Drop)]
 pub struct Call {
-    /// Its name in the library, one of the words of [`crate::word`].
+    /// Its name in the library.
     pub word: &'static str,
+    pub arguments: Arguments,
+    pub effect: Effect,
     /// A place, an amount, a width or a capacity, and the start of a range.
     pub number: usize,
     /// The end of a range.
@@ -27,4 +21,118 @@ pub struct Call {
     pub list: Vec<String>,
     /// How the text is made that the call is given, beside its content.
     pub other: Option<Start>,
+}
+
+/// What a call is given.
+#[derive(Clone, Copy, PartialEq, Eq)]
+pub enum Arguments {
+    Nothing,
+    /// A place, an amount, a width or a capacity.
+    Number,
+    Char,
+    Text,
+    NumberAndChar,
+    NumberAndText,
+    TextAndNumber,
+    TextAndList,
+    /// A range of places.
+    Range,
+    /// A range of places and a text.
+    RangeAndText,
+    List,
+    /// A text, or a list of one text at least.
+    TextOrList,
+    Bytes,
+    Units,
+    /// A text, and perhaps how it is made.
+    Other,
+}
+
+/// What a call does to the capacity.
+#[derive(Clone, Copy, PartialEq, Eq)]
+pub enum Effect {
+    /// It does not become less.
+    Keeps,
+    Shrinks,
+    /// Another text is there then, or none.
+    Remakes,
+    /// Another text is there then, on the heap however short it is.
+    RemakesOnHeap,
+}
+
+use Arguments::{
+    Bytes, Char, List, Nothing, Number, NumberAndChar, NumberAndText, Other, Range, RangeAndText,
+    Text, TextAndList, TextAndNumber, TextOrList, Units,
+};
+use Effect::{Keeps, Remakes, RemakesOnHeap, Shrinks};
+
+/// The words of the calls.
+const CALLS: &[(Arguments, Effect, &[&str])] = &[
+    (Char, Keeps, &["push", "write_char", "split_once"]),
+    (Text, Keeps, &["push_str", "add", "write", "write_str"]),
+    (Text, Keeps, &["extend_chars", "extend_char_refs"]),
+    (Text, Keeps, &["retain", "eq_str"]),
+    (NumberAndChar, Keeps, &["insert"]),
+    (NumberAndText, Keeps, &["insert_str"]),
+    (RangeAndText, Keeps, &["replace_range"]),
+    (Range, Keeps, &["drain"]),
+    (List, Keeps, &["extend_strs"]),
+    (TextOrList, Keeps, &["extend"]),
+    (Bytes, Keeps, &["replace_bytes", "from_utf8_lossy"]),
+    (Other, Keeps, &["eq", "cmp", "partial_cmp"]),
+    (Number, Keeps, &["truncate", "remove", "split_off"]),
+    (Number, Keeps, &["reserve", "reserve_exact"]),
+    (Number, Keeps, &["padded", "cut"]),
+    (Nothing, Keeps, &["pop", "clear", "retain_odd"]),
+    (Nothing, Keeps, &["make_ascii_uppercase"]),
+    (Nothing, Keeps, &["make_ascii_lowercase", "trim_in_place"]),
+    (
+        Nothing,
+        Keeps,
+        &["trim_start_in_place", "trim_end_in_place"],
+    ),
+    (Nothing, Keeps, &["len", "capacity", "is_empty", "hash"]),
+    (Nothing, Keeps, &["as_str", "as_bytes", "to_json"]),
+    (Nothing, Keeps, &["display", "debug"]),
+    (Nothing, Keeps, &["remaining_capacity", "is_full"]),
+    (Nothing, Shrinks, &["shrink_to_fit"]),
+    (Nothing, Remakes, &["new", "default", "clone", "copy"]),
+    (Nothing, Remakes, &["into_bytes", "into_string"]),
+    (Nothing, Remakes, &["into_array", "boxed"]),
+    (Number, Remakes, &["with_capacity", "with_limit"]),
+    (Char, Remakes, &["try_from_char"]),
+    (Text, Remakes, &["from", "from_str", "from_string"]),
+    (Text, Remakes, &["from_chars", "from_json", "try_from"]),
+    (Text, Remakes, &["parse"]),
+    (TextAndNumber, Remakes, &["repeat"]),
+    (List, Remakes, &["from_strs"]),
+    (TextAndList, Remakes, &["from_strs_with"]),
+    (TextOrList, Remakes, &["collect"]),
+    (Bytes, RemakesOnHeap, &["from_utf8", "from_utf8_unchecked"]),
+    (Units, RemakesOnHeap, &["from_utf16", "from_utf16_lossy"]),
+];
+
+impl Call {
+    /// The call of this name, before it is given anything.
+    pub fn named(alloc: Global, name: &str) -> Option<Call> {
+        for &(arguments, effect, words) in CALLS {
+            for &word in words {
+                if word == name {
+                    return Some(Call {
+                        word,
+                        arguments,
+                        effect,
+                        number: 0,
+                        end: 0,
+                        text: String::new(alloc),
+                        bytes: Vec::new(alloc),
+                        units: Vec::new(alloc),
+                        list: Vec::new(alloc),
+                        other: None,
+                    });
+                }
+            }
+        }
+        None
+    }
 }

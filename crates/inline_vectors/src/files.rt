@@ -8,25 +8,14 @@ use std::env::Env;
 use std::rt::Files;
 use std::{fs, io};
 
-/// How a file ended, or the program.
-#[derive(Clone, Copy, PartialEq, Eq)]
+/// How a file ended, or the program: the exit status. The worse comes later.
+#[derive(Clone, Copy, PartialEq, Eq, PartialOrd, Ord)]
 pub enum Outcome {
     Right,
     /// A row is wrong.
     Wrong,
     /// A row or a file was not played.
     Faulty,
-}
-
-impl Outcome {
-    /// Of two, the worse.
-    pub fn and(self, other: Outcome) -> Outcome {
-        match (self, other) {
-            (Outcome::Faulty, _) | (_, Outcome::Faulty) => Outcome::Faulty,
-            (Outcome::Wrong, _) | (_, Outcome::Wrong) => Outcome::Wrong,
-            _ => Outcome::Right,
-        }
-    }
 }
 
 /// Plays each file, of which there must be one.
@@ -37,7 +26,7 @@ pub fn play_files<R: Files + Print + AllocGlobal>(rt: &R, files: &[String]) -> i
     }
     let mut outcome = Outcome::Right;
     for file in files {
-        outcome = outcome.and(play_file(rt, file.as_str())?);
+        outcome = outcome.max(play_file(rt, file.as_str())?);
     }
     Ok(outcome)
 }
@@ -105,7 +94,7 @@ fn print_wrong<R: Print>(rt: &R, file: &str, wrong: &[(usize, Wronged)]) -> io::
         match wronged {
             Ok(wrong) => {
                 println!(rt; "{file}:{line}: {wrong}")?;
-                outcome = outcome.and(Outcome::Wrong);
+                outcome = outcome.max(Outcome::Wrong);
             }
             Err(fault) => {
                 println!(rt; "{file}:{line}: {fault}")?;

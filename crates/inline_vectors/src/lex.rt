@@ -1,6 +1,6 @@
 //! The words, marks and numbers of a row.
 
-use crate::fault::Problem;
+use crate::fault::Fault;
 use std::alloc::Global;
 
 /// What is left of a row.
@@ -65,7 +65,7 @@ impl<'a> RowReader<'a> {
     }
 
     /// Returns the number that comes next: decimal, `max` or `max - 1`.
-    pub fn number(&mut self) -> Result<usize, Problem> {
+    pub fn number(&mut self) -> Result<usize, Fault> {
         self.pass_spaces();
         let from = self.rest;
         match self.word() {
@@ -73,7 +73,7 @@ impl<'a> RowReader<'a> {
             "max" => Ok(usize::MAX),
             word => word.parse().map_err(|_| {
                 self.rest = from;
-                Problem::NotNumber
+                Fault("not a number")
             }),
         }
     }

@@ -10,7 +10,6 @@ mod begin;
 mod call;
 mod fault;
 mod files;
-mod kind;
 mod lex;
 mod play;
 mod print;
@@ -20,7 +19,6 @@ mod scripts;
 mod step;
 mod text;
 mod value;
-mod word;
 
 use files::{Outcome, play_files, play_refused};
 use questions::answer_questions;
@@ -31,9 +29,7 @@ use std::rt::Files;
 
 fn main(rt: HostRuntime) -> ExitCode {
     match run_program(&rt) {
-        Ok(Outcome::Right) => ExitCode::SUCCESS,
-        Ok(Outcome::Wrong) => ExitCode::FAILURE,
-        Ok(Outcome::Faulty) => ExitCode::from(2),
+        Ok(outcome) => ExitCode::from(outcome as u8),
         Err(error) => {
             // The status reports a fault that can't be written.
             let _ = println!(rt; "{error}");

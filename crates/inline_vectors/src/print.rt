@@ -1,12 +1,10 @@
-//! Rows as they are printed: each text in one piece, and numbers in decimal.
+//! Values, types and what is found, as rows have them: each text in one piece, and numbers in
+//! decimal.
 
 use crate::answer::Answer;
-use crate::call::{Call, Memory};
-use crate::kind::{Kind, Start};
-use crate::row::{Row, Seen, Step, Wanted};
-use crate::word::{Given, call_named};
+use crate::begin::Kind;
+use crate::play::Found;
 use inlinable_string::{INLINE_STRING_CAPACITY, Storage};
-use std::cmp::Ordering;
 use std::fmt::{self, Formatter, Write};
 
 /// A text in quotes.
@@ -67,7 +65,7 @@ fn print_quoted_char<W: Write>(f: &mut Formatter<W>, ch: char) -> fmt::Result {
 }
 
 /// The word of a storage.
-fn storage_word(storage: Storage) -> &'static str {
+pub fn storage_word(storage: Storage) -> &'static str {
     match storage {
         Storage::Inline => "inline",
         Storage::Heap => "heap",
@@ -88,107 +86,11 @@ impl fmt::Display for Kind {
     }
 }
 
-impl fmt::Display for Start {
-    fn fmt<W: Write>(&self, f: &mut Formatter<W>) -> fmt::Result {
-        Quoted(self.text.as_str()).fmt(f)?;
-        print_making(f, self)
-    }
-}
-
-/// Prints how a text is made.
-fn print_making<W: Write>(f: &mut Formatter<W>, start: &Start) -> fmt::Result {
-    if let Some(room) = start.room {
-        write!(f, " room {room}")?;
-    }
-    if !start.front.is_empty() {
-        write!(f, " after {}", Quoted(start.front.as_str()))?;
-    }
-    if !start.back.is_empty() {
-        write!(f, " before {}", Quoted(start.back.as_str()))?;
-    }
-    Ok(())
-}
-
-impl fmt::Display for Call {
-    fn fmt<W: Write>(&self, f: &mut Formatter<W>) -> fmt::Result {
-        f.write_str(self.word)?;
-        let Some((_, given)) = call_named(self.word) else {
-            return Ok(());
-        };
-        print_given(f, self, given)
-    }
-}
-
-/// Prints what a call is given.
-fn print_given<W: Write>(f: &mut Formatter<W>, call: &Call, given: Given) -> fmt::Result {
-    let (number, end) = (call.number, call.end);
-    let text = Quoted(call.text.as_str());
-    match given {
-        Given::Nothing => Ok(()),
-        Given::Number => write!(f, " {number}"),
-        Given::Char => print_chars(f, call),
-        Given::Text => write!(f, " {text}"),
-        Given::NumberAndChar => {
-            write!(f, " {number}")?;
-            print_chars(f, call)
-        }
-        Given::NumberAndText => write!(f, " {number} {text}"),
-        Given::RangeAndText => write!(f, " {number}..{end} {text}"),
-        Given::TextOrList if call.list.is_empty() => write!(f, " {text}"),
-        Given::List | Given::TextOrList => print_list(f, call.list.as_slice()),
-        Given::Bytes => write!(f, " {}", QuotedBytes(call.bytes.as_slice())),
-        Given::Units => print_units(f, call.units.as_slice()),
-        Given::Other => {
-            write!(f, " {text}")?;
-            match &call.other {
-                Some(start) => {
-                    f.write_str(" other")?;
-                    print_making(f, start)
-                }
-                None => Ok(()),
-            }
-        }
-    }
-}
-
-/// Prints the character that a call is given.
-fn print_chars<W: Write>(f: &mut Formatter<W>, call: &Call) -> fmt::Result {
-    for ch in call.text.chars() {
-        f.write_char(' ')?;
-        print_quoted_char(f, ch)?;
-    }
-    Ok(())
-}
-
-fn print_list<W: Write>(f: &mut Formatter<W>, texts: &[String]) -> fmt::Result {
-    let mut mark = "";
-    f.write_str(" [")?;
-    for text in texts {
-        write!(f, "{mark}{}", Quoted(text.as_str()))?;
-        mark = ", ";
-    }
-    f.write_char(']')
-}
-
-fn print_units<W: Write>(f: &mut Formatter<W>, units: &[u16]) -> fmt::Result {
-    let mut mark = "";
-    f.write_str(" [")?;
-    for unit in units {
-        write!(f, "{mark}{unit}")?;
-        mark = ", ";
-    }
-    f.write_char(']')
-}
-
 impl fmt::Display for Answer {
     fn fmt<W: Write>(&self, f: &mut Formatter<W>) -> fmt::Result {
         match self {
             Answer::Word(word) => f.write_str(word),
             Answer::Number(number) => write!(f, "{number}"),
-            Answer::Truth(truth) => write!(f, "{truth}"),
-            Answer::Order(Ordering::Less) => f.write_str("less"),
-            Answer::Order(Ordering::Equal) => f.write_str("equal"),
-            Answer::Order(Ordering::Greater) => f.write_str("greater"),
             Answer::Char(ch) => print_quoted_char(f, *ch),
             Answer::Text(text) => Quoted(text.as_str()).fmt(f),
             Answer::Placed(text, storage) => {
@@ -201,58 +103,22 @@ impl fmt::Display for Answer {
     }
 }
 
-impl fmt::Display for Seen {
+/// What was found after a step. An answer that is given several times is printed once.
+impl fmt::Display for Found {
     fn fmt<W: Write>(&self, f: &mut Formatter<W>) -> fmt::Result {
-        match self {
-            Seen::Unchanged => f.write_str("unchanged"),
-            Seen::Text(text, None) => Quoted(text.as_str()).fmt(f),
-            Seen::Text(text, Some(storage)) => {
-                write!(f, "{} {}", Quoted(text.as_str()), storage_word(*storage))
+        let mut last = None;
+        for answer in &self.answers {
+            if last != Some(answer) {
+                let mark = if last.is_some() { " or " } else { "" };
+                write!(f, "{mark}{answer}")?;
             }
+            last = Some(answer);
         }
-    }
-}
-
-impl fmt::Display for Wanted {
-    fn fmt<W: Write>(&self, f: &mut Formatter<W>) -> fmt::Result {
-        write!(f, " = {}, {}", self.answer, self.seen)
-    }
-}
-
-impl fmt::Display for Step {
-    fn fmt<W: Write>(&self, f: &mut Formatter<W>) -> fmt::Result {
-        let times = self.times;
-        if times != 1 {
-            write!(f, "{times} times ")?;
-        }
-        match self.memory {
-            Memory::Ample => {}
-            Memory::Held => f.write_str("held ")?,
-            Memory::Block(size) => write!(f, "block {size} ")?,
-        }
-        if let Some(requests) = self.requests {
-            write!(f, "requests {requests} ")?;
-        }
-        write!(f, "{}", self.call)?;
-        match &self.wanted {
-            Some(wanted) => write!(f, "{wanted}"),
+        let mark = if last.is_some() { ", " } else { "" };
+        write!(f, "{mark}{}", Quoted(self.text.as_str()))?;
+        match self.storage {
+            Some(storage) => write!(f, " {}", storage_word(storage)),
             None => Ok(()),
         }
-    }
-}
-
-impl fmt::Display for Row {
-    fn fmt<W: Write>(&self, f: &mut Formatter<W>) -> fmt::Result {
-        match &self.kind {
-            Some(kind) => write!(f, "{kind}")?,
-            None => f.write_str("every")?,
-        }
-        write!(f, " {}", self.start)?;
-        let mut mark = ":";
-        for step in &self.steps {
-            write!(f, "{mark} {step}")?;
-            mark = ";";
-        }
-        Ok(())
     }
 }

@@ -1,9 +1,8 @@
 //! A row: a type, how its text is made, and steps on it.
 use crate::answer::Answer;
-use crate::begin::{kind_of, start_of};
-use crate::call::{Call, Memory};
-use crate::fault::{Problem, RowFault};
-use crate::kind::{Kind, Start};
+use crate::begin::{Kind, Start, kind_of, start_of};
+use crate::call::Call;
+use crate::fault::{Fault, NO_MEMORY, RowFault};
 use crate::lex::RowReader;
 use crate::step::{step_of, wanted_of};
 use inlinable_string::Storage;
@@ -28,8 +27,20 @@ pub struct Step {
     /// How many requests for memory it makes, if the row says so.
     pub requests: Option<usize>,
     pub call: Call,
+    /// How many bytes of the row come after its call.
+    pub left: usize,
     /// `None` in a question.
     pub wanted: Option<Wanted>,
+}
+
+/// What memory a call has.
+#[derive(Clone, Copy, Debug, PartialEq, Eq)]
+pub enum Memory {
+    Ample,
+    /// None: each request is refused.
+    Held,
+    /// One block, which serves one request of this many bytes.
+    Block(usize),
 }
 
 /// What a call must answer, and what must be seen after it.
@@ -73,13 +84,18 @@ pub fn rows_of(alloc: Global, file: &str) -> Result<Vec<Row>, RowFault> {
             text.clear();
             first = number;
         } else if text.is_empty() {
-            return Err(RowFault::of(alloc, number, Problem::NoRowBefore, line));
+            return Err(RowFault::of(
+                alloc,
+                number,
+                Fault("no row comes before this line, which begins with a space"),
+                line,
+            ));
         }
-        add_line(&mut text, line).map_err(|_| RowFault::of(alloc, number, Problem::NoMemory, ""))?;
+        add_line(&mut text, line).map_err(|_| RowFault::of(alloc, number, NO_MEMORY, ""))?;
     }
     add_row(alloc, &mut rows, first, text.as_str())?;
     if rows.is_empty() {
-        return Err(RowFault::of(alloc, number, Problem::NoRow, ""));
+        return Err(RowFault::of(alloc, number, Fault("no row is in the file"), ""));
     }
     Ok(rows)
 }
@@ -102,7 +118,7 @@ fn add_row(alloc: Global, rows: &mut Vec<Row>, first: usize, text: &str) -> Resu
     }
     let row = row_of(alloc, first, text, Form::Answered)?;
     rows.push(row)
-        .map_err(|_| RowFault::of(alloc, first, Problem::NoMemory, ""))
+        .map_err(|_| RowFault::of(alloc, first, NO_MEMORY, ""))
 }
 
 /// Reads the row whose first line has this number.
@@ -110,19 +126,19 @@ fn row_of(alloc: Global, line: usize, text: &str, form: Form) -> Result<Row, Row
     let mut reader = RowReader { alloc, rest: text };
     match read_row(&mut reader, line, form) {
         Ok(row) => Ok(row),
-        Err(problem) => Err(RowFault::of(alloc, line, problem, reader.rest)),
+        Err(fault) => Err(RowFault::of(alloc, line, fault, reader.rest)),
     }
 }
 
-fn read_row(reader: &mut RowReader, line: usize, form: Form) -> Result<Row, Problem> {
+fn read_row(reader: &mut RowReader, line: usize, form: Form) -> Result<Row, Fault> {
     let kind = kind_of(reader)?;
     let start = start_of(reader)?;
     if !reader.takes(":") {
-        return Err(Problem::NoColon);
+        return Err(Fault("no colon comes after the start of the text"));
     }
     let steps = steps_of(reader, kind, form)?;
     if !reader.rest.is_empty() {
-        return Err(Problem::NotEnd);
+        return Err(Fault("neither a semicolon nor the end of the row"));
     }
     Ok(Row {
         line,
@@ -133,7 +149,7 @@ fn read_row(reader: &mut RowReader, line: usize, form: Form) -> Result<Row, Prob
 }
 
 /// Reads the steps on a text of this type, of which there must be one.
-fn steps_of(reader: &mut RowReader, kind: Option<Kind>, form: Form) -> Result<Vec<Step>, Problem> {
+fn steps_of(reader: &mut RowReader, kind: Option<Kind>, form: Form) -> Result<Vec<Step>, Fault> {
     let mut steps = Vec::new(reader.alloc);
     let mut kind = kind;
     for _ in 0..reader.rest.len() {
@@ -143,12 +159,12 @@ fn steps_of(reader: &mut RowReader, kind: Option<Kind>, form: Form) -> Result<Ve
             step.wanted = Some(wanted);
             kind = after;
         } else if reader.is_at("=") {
-            return Err(Problem::HasAnswer);
+            return Err(Fault("a question has an answer"));
         }
         steps.push(step)?;
         if !reader.takes(";") {
             return Ok(steps);
         }
     }
-    Err(Problem::NoCall)
+    Err(Fault("no call"))
 }

@@ -1,19 +1,16 @@
 //! The steps of a row.
 
 use crate::answer::{Answer, WITH_TEXT, WORDS};
-use crate::begin::{making_of, start_of};
-use crate::call::{Call, Memory};
-use crate::fault::Problem;
-use crate::kind::{Kind, Start};
+use crate::begin::{Kind, Start, making_of, start_of};
+use crate::call::{Arguments, Call};
+use crate::fault::Fault;
 use crate::lex::RowReader;
-use crate::row::{Seen, Step, Wanted};
+use crate::row::{Memory, Seen, Step, Wanted};
 use crate::value::{character, list, pieces, text};
-use crate::word::{Given, call_named};
 use inlinable_string::Storage;
-use std::cmp::Ordering;
 
 /// Reads a step, without what is wanted of it.
-pub fn step_of(reader: &mut RowReader) -> Result<Step, Problem> {
+pub fn step_of(reader: &mut RowReader) -> Result<Step, Fault> {
     let times = times_of(reader)?;
     let memory = if reader.takes_word("held") {
         Memory::Held
@@ -32,89 +29,73 @@ pub fn step_of(reader: &mut RowReader) -> Result<Step, Problem> {
         memory,
         requests,
         call,
+        left: reader.rest.len(),
         wanted: None,
     })
 }
 
 /// Reads how often a call is given.
-fn times_of(reader: &mut RowReader) -> Result<usize, Problem> {
+fn times_of(reader: &mut RowReader) -> Result<usize, Fault> {
     if !reader.is_at_digit() {
         return Ok(1);
     }
     let times = reader.number()?;
     if times == 0 || !reader.takes_word("times") {
-        return Err(Problem::NotTimes);
+        return Err(Fault("not a number above zero and `times`"));
     }
     Ok(times)
 }
 
 /// Reads a call.
-fn call_of(reader: &mut RowReader) -> Result<Call, Problem> {
-    let alloc = reader.alloc;
+fn call_of(reader: &mut RowReader) -> Result<Call, Fault> {
     let from = reader.rest;
     let name = reader.word();
-    let Some((word, given)) = call_named(name) else {
+    let Some(mut call) = Call::named(reader.alloc, name) else {
         reader.rest = from;
-        return Err(if name.is_empty() {
-            Problem::NoCall
-        } else {
-            Problem::NotCall
-        });
+        return Err(Fault("no call has this name"));
     };
-    let mut call = Call {
-        word,
-        number: 0,
-        end: 0,
-        text: String::new(alloc),
-        bytes: Vec::new(alloc),
-        units: Vec::new(alloc),
-        list: Vec::new(alloc),
-        other: None,
-    };
-    match give(reader, &mut call, given) {
-        Ok(()) => Ok(call),
-        Err(Problem::NotText | Problem::NotNumber | Problem::NotChar | Problem::NotBytes) => {
-            Err(Problem::NotGiven(given.words()))
-        }
-        Err(Problem::NotList | Problem::NotUnits) => Err(Problem::NotGiven(given.words())),
-        Err(problem) => Err(problem),
-    }
+    give(reader, &mut call)?;
+    Ok(call)
 }
 
 /// Reads what a call is given.
-fn give(reader: &mut RowReader, call: &mut Call, given: Given) -> Result<(), Problem> {
-    match given {
-        Given::Nothing => {}
-        Given::Number => call.number = reader.number()?,
-        Given::Char => call.text.push(character(reader)?)?,
-        Given::Text => call.text = text(reader)?,
-        Given::NumberAndChar => {
+fn give(reader: &mut RowReader, call: &mut Call) -> Result<(), Fault> {
+    match call.arguments {
+        Arguments::Nothing => {}
+        Arguments::Number => call.number = reader.number()?,
+        Arguments::Char => call.text.push(character(reader)?)?,
+        Arguments::Text => call.text = text(reader)?,
+        Arguments::NumberAndChar => {
             call.number = reader.number()?;
             call.text.push(character(reader)?)?;
         }
-        Given::NumberAndText => {
+        Arguments::NumberAndText => {
             call.number = reader.number()?;
             call.text = text(reader)?;
         }
-        Given::RangeAndText => {
-            call.number = reader.number()?;
-            if !reader.takes("..") {
-                return Err(Problem::NotNumber);
-            }
-            call.end = reader.number()?;
+        Arguments::TextAndNumber => {
             call.text = text(reader)?;
+            call.number = reader.number()?;
         }
-        Given::List => call.list = list(reader)?,
-        Given::TextOrList if reader.is_at("[") => {
+        Arguments::TextAndList => {
+            call.text = text(reader)?;
             call.list = list(reader)?;
-            if call.list.is_empty() {
-                return Err(Problem::NotList);
+        }
+        Arguments::Range => give_range(reader, call)?,
+        Arguments::RangeAndText => {
+            give_range(reader, call)?;
+            call.text = text(reader)?;
+        }
+        Arguments::TextOrList if !reader.is_at("[") => call.text = text(reader)?,
+        Arguments::List | Arguments::TextOrList => {
+            call.list = list(reader)?;
+            if call.list.is_empty() && call.arguments == Arguments::TextOrList {
+                return Err(Fault("not a list of one text at least"));
             }
         }
-        Given::TextOrList => call.text = text(reader)?,
-        Given::Bytes => call.bytes = pieces(reader)?,
-        Given::Units => call.units = pieces(reader)?,
-        Given::Other => {
+        Arguments::Bytes => call.bytes = pieces(reader)?,
+        Arguments::Units => call.units = pieces(reader)?,
+        Arguments::Other => {
             call.text = text(reader)?;
             call.other = other_of(reader, call.text.as_str())?;
         }
@@ -122,8 +103,18 @@ fn give(reader: &mut RowReader, call: &mut Call, given: Given) -> Result<(), Pro
     Ok(())
 }
 
+/// Reads the range that a call is given.
+fn give_range(reader: &mut RowReader, call: &mut Call) -> Result<(), Fault> {
+    call.number = reader.number()?;
+    if !reader.takes("..") {
+        return Err(Fault("not a range"));
+    }
+    call.end = reader.number()?;
+    Ok(())
+}
+
 /// Reads how the text is made that the call is given. It may be written again.
-fn other_of(reader: &mut RowReader, text: &str) -> Result<Option<Start>, Problem> {
+fn other_of(reader: &mut RowReader, text: &str) -> Result<Option<Start>, Fault> {
     if !reader.takes_word("other") {
         return Ok(None);
     }
@@ -135,7 +126,7 @@ fn other_of(reader: &mut RowReader, text: &str) -> Result<Option<Start>, Problem
     };
     let is_plain = start.room.is_none() && start.front.is_empty() && start.back.is_empty();
     if is_plain || start.text.as_str() != text {
-        return Err(Problem::NotOther);
+        return Err(Fault("`other` must be followed by how the text of the call is made"));
     }
     Ok(Some(start))
 }
@@ -145,14 +136,14 @@ pub fn wanted_of(
     reader: &mut RowReader,
     kind: Option<Kind>,
     call: &Call,
-) -> Result<(Wanted, Option<Kind>), Problem> {
+) -> Result<(Wanted, Option<Kind>), Fault> {
     if !reader.takes("=") {
-        return Err(Problem::NoAnswer);
+        return Err(Fault("no `=` and answer come after the call"));
     }
     let answer = answer_of(reader, kind, call)?;
     let kind = kind_after(kind, call, &answer);
     if !reader.takes(",") {
-        return Err(Problem::NothingSeen);
+        return Err(Fault("no comma and what is seen come after the answer"));
     }
     let seen = if reader.takes_word("unchanged") {
         Seen::Unchanged
@@ -178,7 +169,7 @@ fn kind_after(kind: Option<Kind>, call: &Call, answer: &Answer) -> Option<Kind> 
 }
 
 /// Reads where a text of this type is stored, which a row says of some types and not of others.
-fn storage_of(reader: &mut RowReader, kind: Option<Kind>) -> Result<Option<Storage>, Problem> {
+fn storage_of(reader: &mut RowReader, kind: Option<Kind>) -> Result<Option<Storage>, Fault> {
     let storage = if reader.takes_word("inline") {
         Some(Storage::Inline)
     } else if reader.takes_word("heap") {
@@ -187,14 +178,18 @@ fn storage_of(reader: &mut RowReader, kind: Option<Kind>) -> Result<Option<Stora
         None
     };
     match (kind, storage) {
-        (Some(Kind::Inlinable(_) | Kind::Boxable), None) => Err(Problem::NoStorage),
-        (None | Some(Kind::Array(_)), Some(_)) => Err(Problem::HasStorage),
+        (Some(Kind::Inlinable(_) | Kind::Boxable), None) => Err(Fault(
+            "where the text is stored is not stated",
+        )),
+        (None | Some(Kind::Array(_)), Some(_)) => Err(Fault(
+            "where the text is stored is stated, and must not be",
+        )),
         _ => Ok(storage),
     }
 }
 
 /// Reads what a call answers.
-fn answer_of(reader: &mut RowReader, kind: Option<Kind>, call: &Call) -> Result<Answer, Problem> {
+fn answer_of(reader: &mut RowReader, kind: Option<Kind>, call: &Call) -> Result<Answer, Fault> {
     if reader.is_at("'") {
         return Ok(Answer::Char(character(reader)?));
     }
@@ -203,7 +198,7 @@ fn answer_of(reader: &mut RowReader, kind: Option<Kind>, call: &Call) -> Result<
     }
     if reader.is_at("\"") {
         let text = text(reader)?;
-        if call.word != "split_off" {
+        if call.word != "split_off" && call.word != "drain" {
             return Ok(Answer::Text(text));
         }
         return Ok(match storage_of(reader, kind)? {
@@ -218,7 +213,7 @@ fn answer_of(reader: &mut RowReader, kind: Option<Kind>, call: &Call) -> Result<
 }
 
 /// Reads an answer that begins with a word.
-fn word_answer_of(reader: &mut RowReader) -> Result<Answer, Problem> {
+fn word_answer_of(reader: &mut RowReader) -> Result<Answer, Fault> {
     for &word in WITH_TEXT {
         if reader.takes_word(word) {
             return Ok(Answer::WordAndText(word, text(reader)?));
@@ -233,12 +228,5 @@ fn word_answer_of(reader: &mut RowReader) -> Result<Answer, Problem> {
             };
         }
     }
-    match reader.word() {
-        "true" => Ok(Answer::Truth(true)),
-        "false" => Ok(Answer::Truth(false)),
-        "less" => Ok(Answer::Order(Ordering::Less)),
-        "equal" => Ok(Answer::Order(Ordering::Equal)),
-        "greater" => Ok(Answer::Order(Ordering::Greater)),
-        _ => Err(Problem::NotAnswer),
-    }
+    Err(Fault("not an answer"))
 }

@@ -2,9 +2,9 @@
 //! of it.
 
 use crate::answer::Answer;
+use crate::begin::Kind;
 use crate::call::Call;
-use crate::kind::Kind;
-use crate::play::fault::PlayFault;
+use crate::fault::{Fault, NO_TYPE};
 use array::play_array;
 use given::Given;
 use inlinable::{play_inlinable, play_string};
@@ -54,21 +54,20 @@ pub enum Text {
 #[derive(Clone, Copy)]
 pub struct View<'a> {
     pub string: &'a str,
-    pub storage: Storage,
+    /// `None` in an array, which never moves.
+    pub storage: Option<Storage>,
     pub capacity: usize,
     /// The capacity inline, of a type that has one.
     pub limit: Option<usize>,
-    /// Whether the text is in the value itself, and never moves.
-    pub is_array: bool,
     /// Whether all calls that look at it agree.
     pub is_one: bool,
 }
 
 impl Text {
     /// The empty text of this type: new, or with capacity.
-    pub fn empty(alloc: Global, kind: Kind, room: Option<usize>) -> Result<Text, PlayFault> {
+    pub fn empty(alloc: Global, kind: Kind, room: Option<usize>) -> Result<Text, Fault> {
         Ok(match kind {
-            Kind::Array(limit) if limit < room.unwrap_or(0) => return Err(PlayFault::NoType),
+            Kind::Array(limit) if limit < room.unwrap_or(0) => return Err(NO_TYPE),
             Kind::Array(0) => Text::Array0(InlineStringN::new()),
             Kind::Array(1) => Text::Array1(InlineStringN::new()),
             Kind::Array(3) => Text::Array3(InlineStringN::new()),
@@ -90,12 +89,12 @@ impl Text {
             Kind::Boxable => Text::Boxable(BoxableString(EmptyText::empty(alloc, room)?)),
             Kind::String => Text::String(EmptyText::empty(alloc, room)?),
             Kind::User => Text::User(EmptyText::empty(alloc, room)?),
-            Kind::Array(_) | Kind::Inlinable(_) => return Err(PlayFault::NoType),
+            Kind::Array(_) | Kind::Inlinable(_) => return Err(NO_TYPE),
         })
     }
 
     /// What a call answers, which may change the text, or make it one of another type.
-    pub fn play(&mut self, call: &Call, given: &mut Given) -> Result<Answer, PlayFault> {
+    pub fn play(&mut self, call: &Call, given: &mut Given) -> Result<Answer, Fault> {
         if matches!(call.word, "with_limit" | "into_array" | "boxed") {
             return converted::convert(self, call);
         }
@@ -193,34 +192,28 @@ impl Text {
     }
 }
 
+/// What is seen of a text by all calls that look at it.
+macro_rules! viewed {
+    ($text:ident, $storage:expr, $capacity:expr, $limit:expr) => {{
+        let string = $text.as_str();
+        View {
+            string,
+            storage: $storage,
+            capacity: $capacity,
+            limit: $limit,
+            is_one: $text.eq_str(string)
+                && $text.as_bytes() == string.as_bytes()
+                && $text.len() == string.len()
+                && $text.is_empty() == string.is_empty()
+                && string.len() <= $capacity,
+        }
+    }};
+}
+
 fn view_of<S: StringExt>(text: &S, limit: Option<usize>) -> View<'_> {
-    let string = text.as_str();
-    View {
-        string,
-        storage: text.storage(),
-        capacity: text.capacity(),
-        limit,
-        is_array: false,
-        is_one: text.eq_str(string)
-            && text.as_bytes() == string.as_bytes()
-            && text.len() == string.len()
-            && text.is_empty() == string.is_empty()
-            && string.len() <= text.capacity(),
-    }
+    viewed!(text, Some(text.storage()), text.capacity(), limit)
 }
 
 fn view_array<const N: usize>(text: &InlineStringN<N>) -> View<'_> {
-    let string = text.as_str();
-    View {
-        string,
-        storage: Storage::Inline,
-        capacity: N,
-        limit: Some(N),
-        is_array: true,
-        is_one: text.eq_str(string)
-            && text.as_bytes() == string.as_bytes()
-            && text.len() == string.len()
-            && text.is_empty() == string.is_empty()
-            && string.len() <= N,
-    }
+    viewed!(text, None, N, Some(N))
 }

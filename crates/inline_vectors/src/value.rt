@@ -1,6 +1,6 @@
 //! Texts, bytes, units, lists and characters of a row.
 
-use crate::fault::Problem;
+use crate::fault::Fault;
 use crate::lex::RowReader;
 
 /// The most characters, bytes or units that a repeated piece has.
@@ -12,7 +12,7 @@ pub trait Element: Copy + Drop {
 
     const CLOSE: &'static str;
     /// What the value is not.
-    const PROBLEM: Problem;
+    const FAULT: Fault;
 
     /// Reads one, and what separates it from the next.
     fn read(reader: &mut RowReader) -> Option<Self>;
@@ -23,7 +23,7 @@ impl Element for char {
 
     const CLOSE: &'static str = "\"";
 
-    const PROBLEM: Problem = Problem::NotText;
+    const FAULT: Fault = Fault("not a text");
 
     fn read(reader: &mut RowReader) -> Option<char> {
         match reader.next_char()? {
@@ -42,7 +42,7 @@ impl Element for u8 {
 
     const CLOSE: &'static str = "\"";
 
-    const PROBLEM: Problem = Problem::NotBytes;
+    const FAULT: Fault = Fault("not bytes");
 
     fn read(reader: &mut RowReader) -> Option<u8> {
         let ch = match reader.next_char()? {
@@ -62,7 +62,7 @@ impl Element for u16 {
 
     const CLOSE: &'static str = "]";
 
-    const PROBLEM: Problem = Problem::NotUnits;
+    const FAULT: Fault = Fault("not units");
 
     /// In decimal, or with `0x` in hexadecimal.
     fn read(reader: &mut RowReader) -> Option<u16> {
@@ -78,9 +78,9 @@ impl Element for u16 {
 }
 
 /// Reads one piece, which is not repeated.
-fn piece<T: Element>(reader: &mut RowReader) -> Result<Vec<T>, Problem> {
+fn piece<T: Element>(reader: &mut RowReader) -> Result<Vec<T>, Fault> {
     if !reader.takes(T::OPEN) {
-        return Err(T::PROBLEM);
+        return Err(T::FAULT);
     }
     let mut items = Vec::new(reader.alloc);
     for _ in 0..=reader.rest.len() {
@@ -88,13 +88,13 @@ fn piece<T: Element>(reader: &mut RowReader) -> Result<Vec<T>, Problem> {
             reader.rest = rest;
             return Ok(items);
         }
-        items.push(T::read(reader).ok_or(T::PROBLEM)?)?;
+        items.push(T::read(reader).ok_or(T::FAULT)?)?;
     }
-    Err(T::PROBLEM)
+    Err(T::FAULT)
 }
 
 /// Reads pieces with `*` and `+`.
-pub fn pieces<T: Element>(reader: &mut RowReader) -> Result<Vec<T>, Problem> {
+pub fn pieces<T: Element>(reader: &mut RowReader) -> Result<Vec<T>, Fault> {
     let mut all = Vec::new(reader.alloc);
     for _ in 0..=reader.rest.len() {
         let items = piece(reader)?;
@@ -104,7 +104,7 @@ pub fn pieces<T: Element>(reader: &mut RowReader) -> Result<Vec<T>, Problem> {
             1
         };
         if items.len().max(1).saturating_mul(times) > MOST {
-            return Err(Problem::TooLong);
+            return Err(Fault("a piece is repeated past a mebibyte"));
         }
         for _ in 0..times {
             all.extend_from_slice(items.as_slice())?;
@@ -113,11 +113,11 @@ pub fn pieces<T: Element>(reader: &mut RowReader) -> Result<Vec<T>, Problem> {
             return Ok(all);
         }
     }
-    Err(T::PROBLEM)
+    Err(T::FAULT)
 }
 
 /// Reads a text.
-pub fn text(reader: &mut RowReader) -> Result<String, Problem> {
+pub fn text(reader: &mut RowReader) -> Result<String, Fault> {
     let mut text = String::new(reader.alloc);
     for ch in pieces(reader)?.iter() {
         text.push(*ch)?;
@@ -126,9 +126,9 @@ pub fn text(reader: &mut RowReader) -> Result<String, Problem> {
 }
 
 /// Reads a list of texts.
-pub fn list(reader: &mut RowReader) -> Result<Vec<String>, Problem> {
+pub fn list(reader: &mut RowReader) -> Result<Vec<String>, Fault> {
     if !reader.takes("[") {
-        return Err(Problem::NotList);
+        return Err(Fault("not a list of texts"));
     }
     let mut texts = Vec::new(reader.alloc);
     if reader.takes("]") {
@@ -143,18 +143,18 @@ pub fn list(reader: &mut RowReader) -> Result<Vec<String>, Problem> {
             break;
         }
     }
-    Err(Problem::NotList)
+    Err(Fault("not a list of texts"))
 }
 
 /// Reads a character in quotes.
-pub fn character(reader: &mut RowReader) -> Result<char, Problem> {
+pub fn character(reader: &mut RowReader) -> Result<char, Fault> {
     if !reader.takes("'") || reader.rest.starts_with('\'') {
-        return Err(Problem::NotChar);
+        return Err(Fault("not a character"));
     }
-    let ch = char::read(reader).ok_or(Problem::NotChar)?;
+    let ch = char::read(reader).ok_or(Fault("not a character"))?;
     match reader.next_char() {
         Some('\'') => Ok(ch),
-        _ => Err(Problem::NotChar),
+        _ => Err(Fault("not a character")),
     }
 }
 

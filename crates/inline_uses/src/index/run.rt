@@ -14,7 +14,7 @@ use std::alloc::{AllocError, Global};
 use std::cmp::Ordering;
 
 /// With fewer ids a longer front saves no more than it costs.
-const MANY: usize = 4;
+const MARKED_LEN: usize = 4;
 
 /// How long the front is at most, so that what all texts have in common is found in bounded time
 /// whatever their length.
@@ -79,7 +79,7 @@ impl Run {
             slice_get (map (T.text_of texts.now) (ids_of self.now)) at ≡ Some text.now) }
         ensures gap { IfErr result (IsGap (map (T.text_of texts.now) (ids_of self.now)) text.now) }
     {
-        if self.marks.len() < MANY {
+        if self.marks.len() < MARKED_LEN {
             return self.search_few(texts, text);
         }
         self.search_many(texts, text)
@@ -181,7 +181,7 @@ impl Run {
             → self.new.front ≤ self.old.front }
     {
         self.insert(texts, at, id);
-        if MANY <= self.len() && self.len().is_power_of_two() {
+        if MARKED_LEN <= self.len() && self.len().is_power_of_two() {
             self.lengthen_front(texts);
         }
     }

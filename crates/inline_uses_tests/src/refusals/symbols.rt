@@ -1,8 +1,8 @@
 //! The requests of a symbol table.
 use super::Start::{Rising, Two};
-use super::{Call, GREATEST, LEAST, SHORT, Start, assert_requests};
+use super::{Call, GREATEST, LEAST, SHORT, Start, UNKNOWN, assert_requests};
 use crate::names::name;
-use SymbolsCall::{Find, FindMany, Ids, Intern, Known, Same, Text};
+use SymbolsCall::{Find, FindMany, Ids, Intern, InternAll, Known, Same, Text};
 use inline_uses::symbols::{Symbols, have_same_id};
 use std::alloc::{AllocError, Global};
 use std::test::Fail;
@@ -12,6 +12,7 @@ use test_support::letters::LETTERS_31;
 #[derive(Clone, Copy)]
 enum SymbolsCall {
     Intern(&'static str),
+    InternAll,
     Known,
     Find,
     FindMany,
@@ -34,6 +35,11 @@ impl Call for SymbolsCall {
     fn make(self, alloc: Global, symbols: &mut Symbols) -> Result<bool, AllocError> {
         let is_right = match self {
             Intern(text) => symbols.intern(text)? < symbols.len(),
+            InternAll => {
+                let mut ids = Vec::new(alloc);
+                symbols.intern_all([SHORT, UNKNOWN].iter().copied(), &mut ids)?;
+                ids.len() == 2 && symbols.len() == 3
+            }
             Known => symbols.intern(SHORT)? == 0 && symbols.intern(LETTERS_31)? == 1,
             Find => symbols.find(LETTERS_31).is_some() && symbols.find("abc").is_none(),
             FindMany => are_found(symbols) && symbols.find("abcd").is_none(),
@@ -99,6 +105,12 @@ fn a_text_that_splits_the_second_run(rt: HostRuntime) -> Result<(), Fail> {
 #[test]
 fn intern_a_known_text(rt: HostRuntime) -> Result<(), Fail> {
     assert_requests(&rt, Two, 3, Known, 0)
+}
+
+/// Two ids request room once, and the new text, which is on the heap. There is room for a third.
+#[test]
+fn intern_a_known_text_and_a_new_one(rt: HostRuntime) -> Result<(), Fail> {
+    assert_requests(&rt, Two, 3, InternAll, 2)
 }
 
 #[test]

@@ -1,10 +1,9 @@
 //! Plays rows with the memory that their steps are to have.
 
-use super::fault::PlayFault;
 use super::playing::Playing;
-use super::wrong::frees;
-use crate::call::Memory;
-use crate::row::Step;
+use crate::call::Effect;
+use crate::fault::Fault;
+use crate::row::{Memory, Step};
 use std::alloc::Global;
 use test_support::Hoard;
 
@@ -17,8 +16,10 @@ const LARGEST_SHIFT: u32 = 20;
 /// The C library keeps freed blocks of up to this size for requests of about their own size.
 const MOST_KEPT: usize = 1040;
 
+const NOT_HELD: Fault = Fault("memory cannot be held here: this needs the proved build");
+
 /// Plays each to its end. To hold all memory takes long, so it is held for all of them at once.
-pub fn play_all(alloc: Global, playing: &mut Vec<Playing>) -> Result<(), PlayFault> {
+pub fn play_all(alloc: Global, playing: &mut Vec<Playing>) -> Result<(), Fault> {
     let rounds = playing.iter().map(|one| one.row.steps.len()).max();
     for _ in 0..=rounds.unwrap_or(0) {
         for one in playing.iter_mut() {
@@ -33,7 +34,7 @@ pub fn play_all(alloc: Global, playing: &mut Vec<Playing>) -> Result<(), PlayFau
 }
 
 /// Plays the steps that are to have no memory, of all that have come to one.
-fn play_held(alloc: Global, playing: &mut Vec<Playing>) -> Result<(), PlayFault> {
+fn play_held(alloc: Global, playing: &mut Vec<Playing>) -> Result<(), Fault> {
     if !playing
         .iter()
         .any(|one| one.next_memory() == Some(Memory::Held))
@@ -43,7 +44,7 @@ fn play_held(alloc: Global, playing: &mut Vec<Playing>) -> Result<(), PlayFault>
     let mut freed = Vec::new(alloc);
     freed.reserve(MOST_FREED.saturating_mul(playing.len()))?;
     let Some(hoard) = Hoard::take(alloc) else {
-        return Err(PlayFault::NotHeld);
+        return Err(NOT_HELD);
     };
     for one in playing.iter_mut() {
         play_without(alloc, one, &mut freed);
@@ -68,7 +69,7 @@ fn play_without(alloc: Global, one: &mut Playing, freed: &mut Vec<Vec<u8>>) {
 
 /// Whether a step may free memory while it is held.
 fn frees_while_held(step: &Step) -> bool {
-    step.memory == Memory::Held && frees(step.call.word)
+    step.memory == Memory::Held && step.call.effect != Effect::Keeps
 }
 
 /// Takes what a step freed, so that the next one has none of it: the longest blocks first.
@@ -94,12 +95,12 @@ fn take_some(alloc: Global, freed: &mut Vec<Vec<u8>>, size: usize) {
 }
 
 /// Plays the steps that are to have one block, if it has come to some.
-fn play_with_a_block(alloc: Global, one: &mut Playing) -> Result<(), PlayFault> {
+fn play_with_a_block(alloc: Global, one: &mut Playing) -> Result<(), Fault> {
     let Some(Memory::Block(size)) = one.next_memory() else {
         return Ok(());
     };
     let Some(hoard) = Hoard::take_but_one(alloc, size) else {
-        return Err(PlayFault::NotHeld);
+        return Err(NOT_HELD);
     };
     one.advance(Memory::Block(size), usize::MAX);
     drop(hoard);

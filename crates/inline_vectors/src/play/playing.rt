@@ -1,15 +1,14 @@
 //! A row that is being played on one text, and what was found so far.
 
 use super::commands::{answer_of, command_of};
-use super::fault::PlayFault;
 use super::start::text_of;
 use super::{Found, Made, Way};
 use crate::answer::Answer;
-use crate::call::{Call, Memory};
-use crate::row::{Row, Step};
+use crate::call::Call;
+use crate::fault::{Fault, NOT_THERE};
+use crate::row::{Memory, Row, Step};
 use crate::text::Text;
 use crate::text::given::Given;
-use inlinable_string::Storage;
 use inlinable_string::run::Reply;
 use std::alloc::Global;
 
@@ -18,7 +17,6 @@ use std::alloc::Global;
 pub struct Playing<'a> {
     pub row: &'a Row,
     pub made: Made,
-    pub way: Way,
     /// What was seen of the text before the first step.
     pub start: Found,
     /// What each step needs and what it found. The first `played` were played.
@@ -26,7 +24,7 @@ pub struct Playing<'a> {
     played: usize,
     text: Text,
     /// Why it was not played to its end.
-    pub fault: Option<PlayFault>,
+    pub fault: Option<Fault>,
 }
 
 /// What a step needs, which is made before memory is held, and freed after it.
@@ -38,12 +36,7 @@ pub struct Prepared<'a> {
 
 impl<'a> Playing<'a> {
     /// A text made so, before the first step of a row.
-    pub fn new(
-        alloc: Global,
-        row: &'a Row,
-        made: Made,
-        way: Way,
-    ) -> Result<Playing<'a>, PlayFault> {
+    pub fn new(alloc: Global, row: &'a Row, made: Made) -> Result<Playing<'a>, Fault> {
         let room = room_of(row);
         let text = text_of(alloc, &row.start, made)?;
         let mut start = nothing(alloc, 0, 0)?;
@@ -55,7 +48,6 @@ impl<'a> Playing<'a> {
         Ok(Playing {
             row,
             made,
-            way,
             start,
             steps,
             played: 0,
@@ -85,7 +77,7 @@ impl<'a> Playing<'a> {
                 break;
             }
             self.played = self.played.saturating_add(1);
-            if let Err(fault) = play_step(&mut self.text, step, self.way, prepared) {
+            if let Err(fault) = play_step(&mut self.text, step, self.made.way, prepared) {
                 self.fault = Some(fault);
                 break;
             }
@@ -116,20 +108,19 @@ fn length_of(call: &Call) -> usize {
     units
 }
 
-fn nothing(alloc: Global, times: usize, room: usize) -> Result<Found, PlayFault> {
+fn nothing(alloc: Global, times: usize, room: usize) -> Result<Found, Fault> {
     Ok(Found {
         answers: Vec::with_capacity(alloc, times)?,
         text: String::with_capacity(alloc, room)?,
-        storage: Storage::Inline,
+        storage: None,
         capacity: 0,
         limit: None,
-        is_array: false,
         is_one: false,
     })
 }
 
 /// What a step needs to be played, with texts of at most this length.
-fn prepare<'a>(alloc: Global, step: &'a Step, room: usize) -> Result<Prepared<'a>, PlayFault> {
+fn prepare<'a>(alloc: Global, step: &'a Step, room: usize) -> Result<Prepared<'a>, Fault> {
     let mut given = Vec::new(alloc);
     for _ in 0..step.times {
         given.push(Given::new(alloc, &step.call, room)?)?;
@@ -141,17 +132,12 @@ fn prepare<'a>(alloc: Global, step: &'a Step, room: usize) -> Result<Prepared<'a
 }
 
 /// Makes a step's call, and keeps what it answers and what is seen then.
-fn play_step(
-    text: &mut Text,
-    step: &Step,
-    way: Way,
-    prepared: &mut Prepared,
-) -> Result<(), PlayFault> {
+fn play_step(text: &mut Text, step: &Step, way: Way, prepared: &mut Prepared) -> Result<(), Fault> {
     let Prepared { given, found } = prepared;
     for given in given.iter_mut() {
         let answer = match way {
-            Way::Calls => text.play(&step.call, given)?,
-            _ => play_command(text, &step.call, way)?,
+            Way::Calls | Way::Moved => text.play(&step.call, given)?,
+            Way::Run | Way::Dyn => play_command(text, &step.call, way)?,
         };
         found.answers.push(with_room(text, &step.call, answer))?;
     }
@@ -159,21 +145,20 @@ fn play_step(
 }
 
 /// What is seen of a text.
-fn look_at(text: &Text, found: &mut Found) -> Result<(), PlayFault> {
+fn look_at(text: &Text, found: &mut Found) -> Result<(), Fault> {
     let view = text.view();
     found.text.push_str(view.string)?;
     found.storage = view.storage;
     found.capacity = view.capacity;
     found.limit = view.limit;
-    found.is_array = view.is_array;
     found.is_one = view.is_one;
     Ok(())
 }
 
 /// What a call answers that is a command.
-fn play_command(text: &mut Text, call: &Call, way: Way) -> Result<Answer, PlayFault> {
+fn play_command(text: &mut Text, call: &Call, way: Way) -> Result<Answer, Fault> {
     let Some(command) = command_of(call) else {
-        return Err(PlayFault::NotThere);
+        return Err(NOT_THERE);
     };
     let mut replies = [Reply::BadPlace];
     let is_there = match way {
@@ -183,7 +168,7 @@ fn play_command(text: &mut Text, call: &Call, way: Way) -> Result<Answer, PlayFa
     if is_there {
         Ok(answer_of(replies[0]))
     } else {
-        Err(PlayFault::NotThere)
+        Err(NOT_THERE)
     }
 }
 

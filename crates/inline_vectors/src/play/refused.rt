@@ -1,11 +1,10 @@
 //! A row with one request for memory refused, by whatever runs the program.
 
-use super::fault::PlayFault;
 use super::playing::Playing;
-use super::wrong::first_wrong;
+use super::wrong::{first_wrong, line_of};
 use super::{Made, Way};
-use crate::call::Memory;
-use crate::row::{Row, rows_of};
+use crate::fault::{Fault, NO_TYPE};
+use crate::row::{Memory, Row, rows_of};
 use std::alloc::{AllocError, Global};
 
 /// What came of calls, in words, and whether the request after them was granted.
@@ -13,9 +12,10 @@ pub type Ending = (String, bool);
 
 /// Plays the one row of a file by calls, by `run` or by `run_dyn`, with this number of other
 /// requests before the first call that states its own.
-pub fn row_after(alloc: Global, file: &str, way: &str, before: usize) -> Result<Ending, PlayFault> {
-    let Ok(rows) = rows_of(alloc, file) else {
-        return Err(PlayFault::Unplayed);
+pub fn row_after(alloc: Global, file: &str, way: &str, before: usize) -> Result<Ending, Fault> {
+    let rows = match rows_of(alloc, file) {
+        Ok(rows) => rows,
+        Err(error) => return Err(error.fault),
     };
     let way = match way {
         "run" => Way::Run,
@@ -24,18 +24,15 @@ pub fn row_after(alloc: Global, file: &str, way: &str, before: usize) -> Result<
     };
     match rows.as_slice() {
         [row] => play_row(alloc, row, way, before),
-        _ => Err(PlayFault::Unplayed),
+        _ => Err(Fault("the file has several rows")),
     }
 }
 
 /// Plays a row, and makes one request more.
-fn play_row(alloc: Global, row: &Row, way: Way, before: usize) -> Result<Ending, PlayFault> {
-    let made = Made {
-        kind: row.kind.ok_or(PlayFault::NoType)?,
-        room: row.start.room,
-        is_moved: false,
-    };
-    let mut one = Playing::new(alloc, row, made, way)?;
+fn play_row(alloc: Global, row: &Row, way: Way, before: usize) -> Result<Ending, Fault> {
+    let kind = row.kind.ok_or(NO_TYPE)?;
+    let room = row.start.room;
+    let mut one = Playing::new(alloc, row, Made { kind, room, way })?;
     let stated = row.steps.iter().position(|step| step.requests.is_some());
     one.advance(Memory::Ample, stated.unwrap_or(0));
     if let Some(ending) = refused_before(alloc, before)? {
@@ -46,11 +43,8 @@ fn play_row(alloc: Global, row: &Row, way: Way, before: usize) -> Result<Ending,
     if let Some(fault) = one.fault {
         return Err(fault);
     }
-    let line = match first_wrong(alloc, &one)? {
-        Some(wrong) => {
-            let (wanted, found) = (wrong.wanted.as_str(), wrong.found.as_str());
-            format!(in alloc; "step {}: wanted {wanted}, found {found}", wrong.step)?
-        }
+    let line = match first_wrong(&one) {
+        Some(wrong) => line_of(alloc, &one, wrong)?,
         None => String::from_str(alloc, "right")?,
     };
     Ok((line, is_granted))

@@ -1,21 +1,20 @@
 //! The text that a row begins with.
 
-use super::Made;
-use super::fault::PlayFault;
+use super::{Made, Way};
 use crate::answer::Answer;
+use crate::begin::Start;
 use crate::call::Call;
-use crate::kind::Start;
+use crate::fault::{Fault, NOT_THERE};
 use crate::text::Text;
 use crate::text::given::Given;
 use std::alloc::Global;
 
 /// The text that a row begins with.
-pub fn text_of(alloc: Global, start: &Start, made: Made) -> Result<Text, PlayFault> {
+pub fn text_of(alloc: Global, start: &Start, made: Made) -> Result<Text, Fault> {
     let mut text = Text::empty(alloc, made.kind, made.room)?;
-    let front = if made.is_moved {
-        "z"
-    } else {
-        start.front.as_str()
+    let front = match made.way {
+        Way::Moved => "z",
+        _ => start.front.as_str(),
     };
     for string in [front, start.text.as_str(), start.back.as_str()] {
         edit(alloc, &mut text, "push_str", 0, string)?;
@@ -33,22 +32,15 @@ pub fn text_of(alloc: Global, start: &Start, made: Made) -> Result<Text, PlayFau
 fn edit(
     alloc: Global,
     text: &mut Text,
-    word: &'static str,
+    word: &str,
     number: usize,
     string: &str,
-) -> Result<(), PlayFault> {
-    let call = Call {
-        word,
-        number,
-        end: 0,
-        text: String::from_str(alloc, string)?,
-        bytes: Vec::new(alloc),
-        units: Vec::new(alloc),
-        list: Vec::new(alloc),
-        other: None,
-    };
+) -> Result<(), Fault> {
+    let mut call = Call::named(alloc, word).ok_or(NOT_THERE)?;
+    call.number = number;
+    call.text.push_str(string)?;
     match text.play(&call, &mut Given::new(alloc, &call, 0)?)? {
         Answer::Word("done") | Answer::Char(_) => Ok(()),
-        _ => Err(PlayFault::NoStart),
+        _ => Err(Fault("the text that it begins with was not made")),
     }
 }

@@ -3,10 +3,10 @@ ghost use Rattle.std.specs.Prelude.{◌≤◌};
 
 use crate::answer::Answer;
 use crate::call::Call;
-use crate::play::fault::PlayFault;
+use crate::fault::Fault;
 use crate::text::given::Given;
 use crate::text::views::{
-    changed, compare, done_or, edited, filled, first, number, put, replaced, view,
+    changed, compare, done_or, edited, filled, first, number, put, replaced, truth, view,
 };
 use inlinable_string::{InlineStringN, NotEnoughSpaceError};
 
@@ -15,7 +15,7 @@ pub fn play_array<const N: usize>(
     text: &mut InlineStringN<N>,
     call: &Call,
     given: &mut Given,
-) -> Result<Answer, PlayFault>
+) -> Result<Answer, Fault>
     requires { N ≤ 300 }
 {
     let string = call.text.as_str();
@@ -35,10 +35,24 @@ pub fn play_array<const N: usize>(
         "try_from" => put(text, InlineStringN::try_from(string), "full"),
         "try_from_char" => put(text, InlineStringN::try_from(first(call)?), "full"),
         "from_string" => put(text, InlineStringN::try_from(given.take_string()), "full"),
+        "from_utf8" if N < call.bytes.len() => Ok(Answer::Word("too long")),
+        "from_utf8" => put(
+            text,
+            InlineStringN::from_utf8(call.bytes.as_slice()),
+            "not UTF-8",
+        ),
+        "repeat" => put(text, InlineStringN::repeat(string, call.number), "full"),
         "from_chars" => put(text, InlineStringN::from_chars(string.chars()), "full"),
         "from_strs" => {
             let made: Result<InlineStringN<N>, NotEnoughSpaceError> = InlineStringN::from_strs(
                 given.strs.iter().copied(),
+            );
+            put(text, made, "full")
+        }
+        "from_strs_with" => {
+            let items = given.strs.iter().copied();
+            let made: Result<InlineStringN<N>, NotEnoughSpaceError> = InlineStringN::from_strs_with(
+                string, items,
             );
             put(text, made, "full")
         }
@@ -49,7 +63,7 @@ pub fn play_array<const N: usize>(
 fn put_made<const N: usize>(
     text: &mut InlineStringN<N>,
     made: InlineStringN<N>,
-) -> Result<Answer, PlayFault> {
+) -> Result<Answer, Fault> {
     *text = made;
     Ok(Answer::Word("done"))
 }
@@ -59,7 +73,7 @@ fn edit<const N: usize>(
     text: &mut InlineStringN<N>,
     call: &Call,
     given: &mut Given,
-) -> Result<Answer, PlayFault>
+) -> Result<Answer, Fault>
     requires { N ≤ 300 }
 {
     edited!(text, call, given, "full", change(text, call, given))
@@ -70,7 +84,7 @@ fn change<const N: usize>(
     text: &mut InlineStringN<N>,
     call: &Call,
     given: &mut Given,
-) -> Result<Answer, PlayFault>
+) -> Result<Answer, Fault>
     requires { N ≤ 300 }
 {
     let string = call.text.as_str();
@@ -80,6 +94,15 @@ fn change<const N: usize>(
         "full",
         match call.word {
             "split_off" => given.text(text.split_off(call.number).as_str()),
+            "drain" => {
+                let (from, to) = (call.number, call.end);
+                if to < from || !text.is_char_boundary(from) || !text.is_char_boundary(to) {
+                    return Ok(Answer::Word("bad place"));
+                }
+                given.text(text.drain(from..to).as_str())
+            }
+            "remaining_capacity" => Ok(number(text.remaining_capacity())),
+            "is_full" => Ok(truth(text.is_full())),
             "extend_chars" => done_or(text.extend_chars(string.chars()), "full"),
             "extend_strs" => done_or(text.extend_strs(given.strs.iter().copied()), "full"),
             "add" if N - text.len() < string.len() => Ok(Answer::Word("full")),

@@ -3,7 +3,7 @@
 
 use crate::answer::Answer;
 use crate::call::Call;
-use crate::play::fault::PlayFault;
+use crate::fault::{BAD_CALL, Fault, NO_MEMORY};
 use inlinable_string::Storage;
 use serde_json::Value;
 use std::alloc::{AllocError, Global};
@@ -26,7 +26,7 @@ pub struct Given<'a> {
 
 impl<'a> Given<'a> {
     /// What this call is given, with capacity for an answer of this length.
-    pub fn new(alloc: Global, call: &'a Call, room: usize) -> Result<Given<'a>, PlayFault> {
+    pub fn new(alloc: Global, call: &'a Call, room: usize) -> Result<Given<'a>, Fault> {
         let mut strs = Vec::new(alloc);
         for string in &call.list {
             strs.push(string.as_str())?;
@@ -34,7 +34,7 @@ impl<'a> Given<'a> {
         let json = match call.word {
             "from_json" => match Value::from_str(alloc, call.text.as_str()) {
                 Ok(value) => Some(value),
-                Err(_) => return Err(PlayFault::BadCall),
+                Err(_) => return Err(BAD_CALL),
             },
             _ => None,
         };
@@ -67,37 +67,45 @@ impl<'a> Given<'a> {
     }
 
     /// A copy of a text.
-    pub fn copy_text(&mut self, text: &str) -> Result<String, PlayFault> {
+    pub fn copy_text(&mut self, text: &str) -> Result<String, Fault> {
         match String::from_utf8(self.copy(text.as_bytes())?) {
             Ok(copy) => Ok(copy),
-            Err(_) => Err(PlayFault::BadCall),
+            Err(_) => Err(BAD_CALL),
         }
     }
 
     /// The answer of this value's JSON text. The value is kept, and not freed.
-    pub fn json_text(&mut self, value: Value) -> Result<Answer, PlayFault> {
+    pub fn json_text(&mut self, value: Value) -> Result<Answer, Fault> {
         let mut text = self.copy_text("")?;
         let is_written = write!(text, "{value}").is_ok();
         self.json = Some(value);
         if is_written {
             Ok(Answer::Text(text))
         } else {
-            Err(PlayFault::NoMemory)
+            Err(NO_MEMORY)
         }
     }
 
     /// The answer of these bytes.
-    pub fn bytes(&mut self, bytes: &[u8]) -> Result<Answer, PlayFault> {
+    pub fn bytes(&mut self, bytes: &[u8]) -> Result<Answer, Fault> {
         Ok(Answer::Bytes(self.copy(bytes)?))
     }
 
     /// The answer of this text.
-    pub fn text(&mut self, text: &str) -> Result<Answer, PlayFault> {
+    pub fn text(&mut self, text: &str) -> Result<Answer, Fault> {
         Ok(Answer::Text(self.copy_text(text)?))
     }
 
+    /// The answer of two texts, with a bar between them.
+    pub fn pair(&mut self, before: &str, after: &str) -> Result<Answer, Fault> {
+        let mut both = self.copy_text(before)?;
+        both.push('|')?;
+        both.push_str(after)?;
+        Ok(Answer::Text(both))
+    }
+
     /// The answer of this text, which has this storage.
-    pub fn placed(&mut self, text: &str, storage: Storage) -> Result<Answer, PlayFault> {
+    pub fn placed(&mut self, text: &str, storage: Storage) -> Result<Answer, Fault> {
         Ok(Answer::Placed(self.copy_text(text)?, storage))
     }
 }

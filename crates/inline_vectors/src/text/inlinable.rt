@@ -3,7 +3,7 @@ ghost use Rattle.std.specs.Prelude.{◌≤◌};
 
 use crate::answer::Answer;
 use crate::call::Call;
-use crate::play::fault::PlayFault;
+use crate::fault::{Fault, NO_MEMORY};
 use crate::text::given::Given;
 use crate::text::traits::make;
 use crate::text::views::{changed, compare, done_or, filled, put, view};
@@ -18,7 +18,7 @@ pub fn play_inlinable<const N: usize>(
     text: &mut InlinableStringN<N>,
     call: &Call,
     given: &mut Given,
-) -> Result<Answer, PlayFault>
+) -> Result<Answer, Fault>
     requires { N ≤ 300 }
 {
     let (alloc, string) = (given.alloc, call.text.as_str());
@@ -30,8 +30,12 @@ pub fn play_inlinable<const N: usize>(
             let made: InlinableStringN<N> = given.take_string().into();
             Ok(made)
         }
+        "repeat" => InlinableStringN::repeat(alloc, string, call.number),
         "from_chars" => InlinableStringN::from_chars(alloc, string.chars()),
         "from_strs" => InlinableStringN::from_strs(alloc, given.strs.iter().copied()),
+        "from_strs_with" => {
+            InlinableStringN::from_strs_with(alloc, string, given.strs.iter().copied())
+        }
         "collect" if given.strs.is_empty() => string.chars().collect(alloc),
         "collect" => given.strs.iter().copied().collect(alloc),
         "from_json" => match from_json(alloc, given) {
@@ -95,7 +99,7 @@ fn change<const N: usize>(
     text: &mut InlinableStringN<N>,
     call: &Call,
     given: &mut Given,
-) -> Result<Answer, PlayFault>
+) -> Result<Answer, Fault>
     requires { N ≤ 300 }
 {
     changed!(
@@ -107,6 +111,16 @@ fn change<const N: usize>(
                 Ok(rest) => placed(rest, given),
                 Err(_) => Ok(Answer::Word("no memory")),
             },
+            "drain" => {
+                let (from, to) = (call.number, call.end);
+                if to < from || !text.is_char_boundary(from) || !text.is_char_boundary(to) {
+                    return Ok(Answer::Word("bad place"));
+                }
+                match text.drain(from..to) {
+                    Ok(part) => placed(part, given),
+                    Err(_) => Ok(Answer::Word("no memory")),
+                }
+            }
             "into_string" => {
                 match mem::replace(text, InlinableStringN::new(given.alloc)).into_string() {
                     Ok(string) => Ok(Answer::Text(string)),
@@ -125,22 +139,19 @@ fn change<const N: usize>(
     )
 }
 
-/// The answer of a text that was split off. Its allocation is handed over, and not freed.
-fn placed<const N: usize>(
-    rest: InlinableStringN<N>,
-    given: &mut Given,
-) -> Result<Answer, PlayFault> {
+/// The answer of a text that was split off or drained. Its allocation is handed over, not freed.
+fn placed<const N: usize>(rest: InlinableStringN<N>, given: &mut Given) -> Result<Answer, Fault> {
     match rest.storage() {
         Storage::Inline => given.placed(rest.as_str(), Storage::Inline),
         Storage::Heap => match rest.into_string() {
             Ok(string) => Ok(Answer::Placed(string, Storage::Heap)),
-            Err(_) => Err(PlayFault::NoMemory),
+            Err(_) => Err(NO_MEMORY),
         },
     }
 }
 
 /// What a call of `String` answers.
-pub fn play_string(text: &mut String, call: &Call, given: &mut Given) -> Result<Answer, PlayFault> {
+pub fn play_string(text: &mut String, call: &Call, given: &mut Given) -> Result<Answer, Fault> {
     let (alloc, string) = (given.alloc, call.text.as_str());
     match call.word {
         "from" | "from_str" => put(text, String::from_str(alloc, string), "no memory"),
@@ -156,7 +167,7 @@ fn play_value<S: StringMake + Clone + Debug + Display + Drop + Hash + Ord + Writ
     text: &mut S,
     call: &Call,
     given: &mut Given,
-) -> Result<Answer, PlayFault> {
+) -> Result<Answer, Fault> {
     match call.word {
         "clone" => put(text, text.clone(), "no memory"),
         "eq" | "cmp" | "partial_cmp" => {

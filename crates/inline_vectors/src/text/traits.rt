@@ -2,10 +2,10 @@
 
 use crate::answer::Answer;
 use crate::call::Call;
-use crate::play::fault::PlayFault;
+use crate::fault::{Fault, NOT_THERE};
 use crate::text::given::Given;
-use crate::text::views::{done_or, edited, first, number, put, replaced};
-use inlinable_string::string_ext::{extend_chars, extend_strs};
+use crate::text::views::{done_or, edited, first, number, put, replaced, truth};
+use inlinable_string::string_ext::{extend_chars, extend_strs, split_once};
 use inlinable_string::{Storage, StringExt, StringMake, Utf16Error};
 use std::alloc::AllocError;
 use std::borrow::CowStr;
@@ -16,7 +16,7 @@ pub fn make<S: StringMake + Drop>(
     text: &mut S,
     call: &Call,
     given: &mut Given,
-) -> Result<Answer, PlayFault> {
+) -> Result<Answer, Fault> {
     let alloc = given.alloc;
     let units = call.units.as_slice();
     match call.word {
@@ -59,17 +59,17 @@ pub fn make<S: StringMake + Drop>(
 }
 
 /// What a call of `StringExt` answers.
-pub fn edit<S: StringExt>(
-    text: &mut S,
-    call: &Call,
-    given: &mut Given,
-) -> Result<Answer, PlayFault> {
+pub fn edit<S: StringExt>(text: &mut S, call: &Call, given: &mut Given) -> Result<Answer, Fault> {
     edited!(
         text,
         call,
         given,
         "no memory",
         match call.word {
+            "split_once" => match split_once(text, first(call)?) {
+                Some((before, after)) => given.pair(before, after),
+                None => Ok(Answer::Word("none")),
+            },
             "reserve" => done_or(text.reserve(call.number), "no memory"),
             "reserve_exact" => done_or(text.reserve_exact(call.number), "no memory"),
             "shrink_to_fit" => done_or(text.shrink_to_fit(), "no memory"),
@@ -80,7 +80,7 @@ pub fn edit<S: StringExt>(
                 Storage::Heap if text.capacity() < text.len() => Answer::Word("no room"),
                 Storage::Heap => Answer::Word("room"),
             }),
-            _ => Err(PlayFault::NotThere),
+            _ => Err(NOT_THERE),
         }
     )
 }

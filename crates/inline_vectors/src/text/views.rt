@@ -2,7 +2,7 @@
 
 use crate::answer::Answer;
 use crate::call::Call;
-use crate::play::fault::PlayFault;
+use crate::fault::{BAD_CALL, Fault, NOT_THERE};
 use crate::text::given::Given;
 use inlinable_string::ReplaceError;
 use std::cmp::Ordering::{Equal, Greater, Less};
@@ -41,10 +41,10 @@ macro_rules! edited {
             }
             "replace_bytes" => Ok(replaced($text.replace_bytes($call.bytes.as_slice()))),
             "len" => Ok(number($text.len())),
-            "is_empty" => Ok(Answer::Truth($text.is_empty())),
+            "is_empty" => Ok(truth($text.is_empty())),
             "as_bytes" => $given.bytes($text.as_bytes()),
             "as_str" => $given.text($text.as_str()),
-            "eq_str" => Ok(Answer::Truth($text.eq_str($call.text.as_str()))),
+            "eq_str" => Ok(truth($text.eq_str($call.text.as_str()))),
             _ => $others,
         }
     };
@@ -74,6 +74,18 @@ macro_rules! changed {
             }
             "make_ascii_lowercase" => {
                 $text.make_ascii_lowercase();
+                Ok(Answer::Word("done"))
+            }
+            "trim_in_place" => {
+                $text.trim_in_place();
+                Ok(Answer::Word("done"))
+            }
+            "trim_start_in_place" => {
+                $text.trim_start_in_place();
+                Ok(Answer::Word("done"))
+            }
+            "trim_end_in_place" => {
+                $text.trim_end_in_place();
                 Ok(Answer::Word("done"))
             }
             "replace_range" => {
@@ -117,16 +129,20 @@ macro_rules! filled {
 pub(crate) use filled;
 
 /// The character that a call is given.
-pub fn first(call: &Call) -> Result<char, PlayFault> {
-    call.text.chars().next().ok_or(PlayFault::BadCall)
+pub fn first(call: &Call) -> Result<char, Fault> {
+    call.text.chars().next().ok_or(BAD_CALL)
 }
 
 pub fn number(number: usize) -> Answer {
     Answer::Number(number as u64)
 }
 
+pub fn truth(is_so: bool) -> Answer {
+    Answer::Word(if is_so { "true" } else { "false" })
+}
+
 /// That it was done, or else why not.
-pub fn done_or<E: Drop>(done: Result<(), E>, fault: &'static str) -> Result<Answer, PlayFault> {
+pub fn done_or<E: Drop>(done: Result<(), E>, fault: &'static str) -> Result<Answer, Fault> {
     Ok(Answer::Word(match done {
         Ok(()) => "done",
         Err(_) => fault,
@@ -138,7 +154,7 @@ pub fn put<S: Drop, E: Drop>(
     text: &mut S,
     made: Result<S, E>,
     fault: &'static str,
-) -> Result<Answer, PlayFault> {
+) -> Result<Answer, Fault> {
     match made {
         Ok(made) => {
             *text = made;
@@ -169,11 +185,14 @@ pub fn compare<T: Ord>(text: &T, other: &T, word: &str) -> Answer {
         && (text <= other) == (order != Greater)
         && (text > other) == (order == Greater)
         && (text >= other) == (order != Less);
-    match word {
-        _ if !is_ordered => Answer::Word("none"),
-        "eq" => Answer::Truth(order == Equal),
-        _ => Answer::Order(order),
-    }
+    Answer::Word(match (word, order) {
+        _ if !is_ordered => "none",
+        ("eq", Equal) => "true",
+        ("eq", _) => "false",
+        (_, Less) => "less",
+        (_, Equal) => "equal",
+        (_, Greater) => "greater",
+    })
 }
 
 /// How a text hashes or prints, by the call's word, or what it answers to `fmt::Write`.
@@ -181,7 +200,7 @@ pub fn view<T: Hash + Display + Debug + Write>(
     text: &mut T,
     call: &Call,
     given: &mut Given,
-) -> Result<Answer, PlayFault> {
+) -> Result<Answer, Fault> {
     match call.word {
         "hash" => {
             let mut state = DefaultHasher::new();
@@ -196,11 +215,7 @@ pub fn view<T: Hash + Display + Debug + Write>(
 }
 
 /// How a text prints, in several formats of the call's number.
-fn print<T: Display + Debug>(
-    text: &T,
-    call: &Call,
-    given: &mut Given,
-) -> Result<Answer, PlayFault> {
+fn print<T: Display + Debug>(text: &T, call: &Call, given: &mut Given) -> Result<Answer, Fault> {
     let (alloc, number) = (given.alloc, call.number);
     Ok(Answer::Text(match call.word {
         "display" => format!(in alloc; "{text}")?,
@@ -211,6 +226,6 @@ fn print<T: Display + Debug>(
         "cut" => format!(in alloc;
             "{text:.number$}|{text:<9.number$}|{text:0>12.number$}|{text:😀^12.number$}"
         )?,
-        _ => return Err(PlayFault::NotThere),
+        _ => return Err(NOT_THERE),
     }))
 }

@@ -8,7 +8,7 @@ use inlinable_string::{InlinableString, StringMake};
 use std::alloc::{AllocError, Global};
 
 /// With fewer entries those after an index move, whichever are fewer: that is as fast.
-const MANY: usize = 64;
+const LONG_ROW: usize = 64;
 
 /// The least number of places by which the memory grows.
 const LEAST: usize = 4;
@@ -129,7 +129,7 @@ impl Row {
         ensures { result ≡ moves_head (length (entries self.now)) at }
     {
         let len = self.len();
-        MANY <= len && at < len / 2
+        LONG_ROW <= len && at < len / 2
     }
 
     /// Makes room for an insertion: before the entries if those before its index are to move, and
@@ -138,7 +138,7 @@ impl Row {
     #[inline]
     fn make_room(&mut self, head: bool) -> Result<(), AllocError>
         requires row { IsRow self.old }
-        requires many { head ≡ true → MANY ≤ length (entries self.old) }
+        requires many { head ≡ true → LONG_ROW ≤ length (entries self.old) }
         ensures entries { entries self.new ≡ entries self.old }
         ensures row { IsRow self.new }
         ensures room { OnOk result (vec_len self.new.cells ≡ places self.new
@@ -172,7 +172,7 @@ impl Row {
     #[inline(never)]
     fn make_room_before(&mut self)
         requires start { self.old.start ≡ 0 }
-        requires many { MANY ≤ vec_len self.old.cells }
+        requires many { LONG_ROW ≤ vec_len self.old.cells }
         ensures entries { entries self.new ≡ entries self.old }
         ensures row { IsRow self.new }
         ensures room { vec_len self.old.cells + vec_len self.old.cells / 4 ≤ places self.new
