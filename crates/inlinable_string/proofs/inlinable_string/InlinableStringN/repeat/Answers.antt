@@ -1,6 +1,5 @@
-use Rattle.inlinable_string.proofs.Common.{◌∙◌, encodes-chars, IsUtf8-string_bytes}
+use Rattle.inlinable_string.proofs.Common.{IsUtf8-string_bytes}
 use Rattle.inlinable_string.proofs.Repeated.{copies_of}
-use Rattle.inlinable_string.proofs.Text.{size-string}
 use Rattle.inlinable_string.proofs.inlinable_string.InlinableStringN.repeat.Goals as goal
 
 pub returns-clause-text : goal.returns-clause-text

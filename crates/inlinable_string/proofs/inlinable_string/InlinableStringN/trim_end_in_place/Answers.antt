@@ -1,4 +1,4 @@
-use Rattle.inlinable_string.proofs.Common.{◌∙◌, sym, ap, take, encodes-chars, IsUtf8-string_bytes, string_bytes}
+use Rattle.inlinable_string.proofs.Common.{◌∙◌, sym, ap, take, encodes-chars, IsUtf8-string_bytes}
 use Rattle.std.specs.Str.{trim_end}
 use Rattle.inlinable_string.proofs.Cut.{place_of_taken}
 use Rattle.inlinable_string.proofs.Text.{split_point}

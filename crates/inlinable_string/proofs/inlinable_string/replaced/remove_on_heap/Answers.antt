@@ -1,4 +1,4 @@
-use Rattle.inlinable_string.proofs.Common.{◌+◌, ◌≤◌, arith, append-nil, chars-nil, IsOk, size}
+use Rattle.inlinable_string.proofs.Common.{arith, append-nil, chars-nil}
 use Rattle.inlinable_string.proofs.Ranges.{granted}
 use Rattle.inlinable_string.proofs.inlinable_string.replaced.remove_on_heap.Goals as goal
 

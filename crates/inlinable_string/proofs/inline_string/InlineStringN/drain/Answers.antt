@@ -1,4 +1,4 @@
-use Rattle.inlinable_string.proofs.Common.{◌≤◌, ◌+◌, ◌-◌, sym, ap, ◌∙◌, arith, length, size}
+use Rattle.inlinable_string.proofs.Common.{◌≤◌, ◌+◌, ◌-◌, ap, ◌∙◌, arith, length, size}
 use Rattle.std.specs.List.{slice_range}
 use Rattle.inlinable_string.proofs.Ranges.{drained}
 use Rattle.inlinable_string.proofs.inline_string.InlineStringN.drain.Goals as goal

@@ -1,4 +1,4 @@
-use Rattle.inlinable_string.proofs.Common.{◌≡◌, ◌≤◌, ap, sym, arith, subst, [], length, rules, eqb-true, nil_from_length, size}
+use Rattle.inlinable_string.proofs.Common.{◌≡◌, sym, arith, subst, [], rules, eqb-true, nil_from_length}
 use Rattle.inlinable_string.proofs.Repeated.{Copies, copied, none, of_nothing, above}
 use Rattle.inlinable_string.proofs.inline_string.InlineStringN.repeat.Goals as goal
 
