@@ -1,11 +1,12 @@
 //! Rows that the prover computes from the definitions that contracts cite.
-ghost use Rattle.std.specs.Prelude.{◌≡◌, [], ◌∷◌, true, false, map, Some, None, codes};
+ghost use Rattle.std.specs.Prelude.{◌≡◌, ℕ, List, [], ◌∷◌, true, false, map, Some, None, codes};
+ghost use Rattle.std.specs.Borrow.{Bor};
 ghost use Rattle.std.specs.Str.{chars};
 ghost use Rattle.serde_json.specs.Data.{null, string, object, no_members, member};
 ghost use Rattle.inline_uses.specs.Editor.{parts_of, text_of};
 ghost use Rattle.inline_uses.specs.Rows.{moves_head};
 ghost use Rattle.inline_uses.specs.Store.{entries_between, value_of, with_members, with_value, without};
-ghost use Rattle.inline_uses.specs.Symbols.{key_order, text_at, with_ids};
+ghost use Rattle.inline_uses.specs.Symbols.{AreIdsOf, HasAppended, key_order, text_at, with_ids};
 ghost use Rattle.inline_uses.specs.Tokens.{continues, column_after, escape_of, is_solid_kind, kind_at, newlines, unescaped, AreTokens, Fails, IsStop, IsToken, StopsAt};
 ghost use Rattle.inline_uses.specs.Tree.{node_at, joined, listed, walk, IsFaultOf};
 ghost use Rattle.inline_uses.specs.declared.tokens.Fault.TheVariants.{TooLong, Unterminated, BadEscape};
@@ -74,6 +75,16 @@ pub fn ids_have_their_texts()
     ensures none { text_at (codes "a" ∷ []) 1 ≡ [] }
     ensures ids { with_ids (codes "a" ∷ codes "b" ∷ []) (1 ∷ 0 ∷ [])
         ≡ (codes "b", 1) ∷ (codes "a", 0) ∷ [] }
+{}
+
+/// The ids of items: of each its own, in its place, after those that were there.
+pub fn items_have_their_ids()
+    ensures each { (a b : Bor (List ℕ)) → a.now ≡ codes "a" → b.now ≡ codes "b"
+        → AreIdsOf (codes "a" ∷ codes "b" ∷ []) (b ∷ a ∷ []) (1 ∷ 0 ∷ []) }
+    ensures other { (a : Bor (List ℕ)) → a.now ≡ codes "a"
+        → ¬ (AreIdsOf (codes "b" ∷ codes "a" ∷ []) (a ∷ []) (0 ∷ [])) }
+    ensures after { (a : Bor (List ℕ)) → a.now ≡ codes "a"
+        → HasAppended (codes "a" ∷ []) (7 ∷ []) (a ∷ []) (7 ∷ 0 ∷ []) }
 {}
 
 /// What is put, found, deleted and between two keys.
