@@ -62,7 +62,7 @@ HOSTILE = {'accepted': 1_200, **dict.fromkeys((
     'done', 'char', 'none', 'bad place', 'not utf-8', 'wrong length', 'no memory'), 30)}
 
 # Edits in `wrong-definitions/`, by crate: just as many.
-WRONG_DEFINITIONS = {'inlinable_string': 166, 'inline_uses': 38, 'script_language': 87}
+WRONG_DEFINITIONS = {'inlinable_string': 166, 'inline_uses': 39, 'script_language': 87}
 
 # Edits in `wrong-clauses/`, by crate: just as many. Public functions of `callers` that promise something.
 # READMEs whose first program is proved and run: exactly this number.

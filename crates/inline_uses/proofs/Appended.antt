@@ -1,13 +1,13 @@
 -- The ids of texts that an iterator gives, appended one by one.
 use Rattle.std.proofs.Common.{◌≡◌, ℕ, List, [], ◌∷◌, ◌++◌, Option, Some, None, Result, Ok, Err, OnOk, OnErr, slice_get, sym, ap, ◌∙◌, subst, append-nil}
 use Rattle.std.proofs.lemmas.List.{append_assoc}
-use Rattle.std.proofs.iter.runs.Made.{run_of_exit}
+use Rattle.std.proofs.iter.runs.Made.{run_of_exit, run_of_turn}
 use Rattle.std.proofs.lemmas.Bool.{false≢true}
 use Rattle.std.specs.Borrow.{Bor}
 use Rattle.std.specs.Iterator.{Yields}
-use Rattle.std.specs.Iterator.Runs.{WholeRun}
+use Rattle.std.specs.Iterator.Runs.{SomeRun, WholeRun}
 use Rattle.std.specs.Result.{IsErr}
-use Rattle.inline_uses.specs.Symbols.{AreIdsOf, HasAppended}
+use Rattle.inline_uses.specs.Symbols.{AreIdsOf, HasAppended, HasAppendedAllButLast}
 
 -- each text of the table has the same id in another
 abbrev pub Keeps : List (List ℕ) → List (List ℕ) → Type 0
@@ -61,6 +61,16 @@ pub all_appended : {S : Type 0} (gives : S → Option (Bor (List ℕ)) → S →
 all_appended gives {here = here} rest items from led texts old new h step =
     let run = run_of_exit gives _ items here (rw from at led) rest step in
     (run.0, run.1, run.2, subst (λ l. HasAppended texts old l new) (sym run.3.0) h)
+
+-- and all before the last that it gave
+pub all_but_last_appended : {S : Type 0} (gives : S → Option (Bor (List ℕ)) → S → Type 0)
+    {begin it here : S} (rest : S) (items : List (Bor (List ℕ))) (s : Bor (List ℕ)) → begin ≡ it
+    → Yields gives begin items here → (texts : List (List ℕ)) (old new : List ℕ)
+    → HasAppended texts old items new → gives here (Some s) rest
+    → SomeRun gives it (λ run. HasAppendedAllButLast texts old run.items new)
+all_but_last_appended gives {here = here} rest items s from led texts old new h step =
+    let run = run_of_turn gives _ items here (rw from at led) s rest step in
+    (run.0, run.1, (items, s, run.2.0, h))
 
 -- what a call says of its refusal, and of the other end
 pub refused : {T E Q : Type 0} (P : Type 0) (r : Result T E) → IsErr r → Q → OnOk r P × OnErr r Q

@@ -1,6 +1,6 @@
 -- What the contracts of a symbol table cite: its texts, each as its bytes, by their ids, and the
 -- order of texts, in which it looks them up.
-use Rattle.std.specs.Prelude.{◌≡◌, ◌↔◌, ◌<◌, ◌≤◌, ◌++◌, ℕ, List, [], Some, map, length, slice_get, slice_index_or}
+use Rattle.std.specs.Prelude.{◌≡◌, ◌↔◌, ◌<◌, ◌≤◌, ◌++◌, ℕ, List, [], ◌∷◌, Some, map, length, slice_get, slice_index_or}
 use Rattle.std.specs.declared.cmp.Ordering.{Ordering}
 use Rattle.std.specs.declared.cmp.Ordering.TheVariants.{Less, Greater}
 use Rattle.std.specs.Cmp.Lexicographic.{slice_cmp}
@@ -54,6 +54,11 @@ AreIdsOf texts items ids = AllZip (λ s id. slice_get texts id ≡ Some s.now) i
 -- the list of ids became another by those of the items, one after the other
 abbrev pub HasAppended : List (List ℕ) → List ℕ → List (Bor (List ℕ)) → List ℕ → Type 0
 HasAppended texts old items new = (ids : List ℕ) × AreIdsOf texts items ids × (new ≡ old ++ ids)
+
+-- it did so by the ids of all items but the last, which was refused
+abbrev pub HasAppendedAllButLast : List (List ℕ) → List ℕ → List (Bor (List ℕ)) → List ℕ → Type 0
+HasAppendedAllButLast texts old items new = (taken : List (Bor (List ℕ))) × (last : Bor (List ℕ))
+    × (items ≡ taken ++ last ∷ []) × HasAppended texts old taken new
 
 -- all ids are in the order of their texts, and each text is found under its own
 pub record IsOrderOf (texts : List (List ℕ)) (ids : List ℕ) : Type 0 where

@@ -5,8 +5,8 @@ ghost use Rattle.std.specs.List.{range_with_len};
 ghost use Rattle.std.specs.List.Sorted.{IsPermutation, IsStrictlySortedBy};
 ghost use Rattle.std.specs.Borrow.{Bor};
 ghost use Rattle.std.specs.Iterator.{IsFinite};
-ghost use Rattle.std.specs.Iterator.Runs.{WholeRun};
-ghost use Rattle.inline_uses.specs.Symbols.{IsGap, HasAppended, bytes_at, key_order, text_at, with_ids};
+ghost use Rattle.std.specs.Iterator.Runs.{SomeRun, WholeRun};
+ghost use Rattle.inline_uses.specs.Symbols.{IsGap, HasAppended, HasAppendedAllButLast, bytes_at, key_order, text_at, with_ids};
 
 use crate::index::{Index, Texts};
 use inlinable_string::laws::bytes_of_parts;
@@ -119,8 +119,8 @@ impl Symbols {
         requires ends { IsFinite (I.remaining items) }
         ensures ids { OnOk result (WholeRun I.next_gives items
             (λ run. HasAppended self.new ids.old.items run.items ids.new.items)) }
-        ensures err { OnErr result ((before : List (Bor (List ℕ)))
-            × HasAppended self.new ids.old.items before ids.new.items) }
+        ensures err { OnErr result (SomeRun I.next_gives items
+            (λ run. HasAppendedAllButLast self.new ids.old.items run.items ids.new.items)) }
         ensures kept { (i : ℕ) (known : List ℕ) → slice_get self.old i ≡ Some known
             → slice_get self.new i ≡ Some known }
     {

@@ -6,7 +6,7 @@ ghost use Rattle.serde_json.specs.Data.{null, string, object, no_members, member
 ghost use Rattle.inline_uses.specs.Editor.{parts_of, text_of};
 ghost use Rattle.inline_uses.specs.Rows.{moves_head};
 ghost use Rattle.inline_uses.specs.Store.{entries_between, value_of, with_members, with_value, without};
-ghost use Rattle.inline_uses.specs.Symbols.{AreIdsOf, HasAppended, key_order, text_at, with_ids};
+ghost use Rattle.inline_uses.specs.Symbols.{AreIdsOf, HasAppended, HasAppendedAllButLast, key_order, text_at, with_ids};
 ghost use Rattle.inline_uses.specs.Tokens.{continues, column_after, escape_of, is_solid_kind, kind_at, newlines, unescaped, AreTokens, Fails, IsStop, IsToken, StopsAt};
 ghost use Rattle.inline_uses.specs.Tree.{node_at, joined, listed, walk, IsFaultOf};
 ghost use Rattle.inline_uses.specs.declared.tokens.Fault.TheVariants.{TooLong, Unterminated, BadEscape};
@@ -85,6 +85,8 @@ pub fn items_have_their_ids()
         → ¬ (AreIdsOf (codes "b" ∷ codes "a" ∷ []) (a ∷ []) (0 ∷ [])) }
     ensures after { (a : Bor (List ℕ)) → a.now ≡ codes "a"
         → HasAppended (codes "a" ∷ []) (7 ∷ []) (a ∷ []) (7 ∷ 0 ∷ []) }
+    ensures refused { (a b : Bor (List ℕ)) → a.now ≡ codes "a"
+        → HasAppendedAllButLast (codes "a" ∷ []) [] (a ∷ b ∷ []) (0 ∷ []) }
 {}
 
 /// What is put, found, deleted and between two keys.

@@ -1,4 +1,4 @@
-use Rattle.inline_uses.proofs.Appended.{none_appended, appended_more, appended_kept, all_appended, refused}
+use Rattle.inline_uses.proofs.Appended.{none_appended, appended_more, appended_kept, all_appended, all_but_last_appended, refused}
 use Rattle.inline_uses.proofs.symbols.Symbols.intern_all.Goals as goal
 
 pub loop-text-init : goal.loop-text-init
@@ -15,8 +15,11 @@ loop-text-preserved g c =
 pub returns-in_err-intern_next : goal.returns-in_err-intern_next
 returns-in_err-intern_next g c =
     let known = c.in_err-intern_next.ensures in
+    let same = appended_kept _ _ _ _ _ _ known.kept known.err c.loop-text.invariant.0 in
     let ended = refused _ c.from_residual.result c.from_residual.ensures.0
-    (_, appended_kept _ _ _ _ _ _ known.kept known.err c.loop-text.invariant.0) in
+    (all_but_last_appended _ c.next.new.self _ c.in-Some.text
+    c.into_iter-text-iterator.ensures.into_iter_gives c.loop-text.yielded_by _ _ _ same
+    c.in-Some.ensures.steps) in
     record {
       ids = ended.0;
       err = ended.1;
