@@ -250,7 +250,14 @@ impl<const N: usize> InlinableStringN<N> {
             ≡ (inlinable_state N self.old).policy }
     {
         let mut buffer = [0; 4];
-        self.push_str(ch.encode_utf8(&mut buffer))
+        let string = ch.encode_utf8(&mut buffer);
+        match self {
+            InlinableStringN::Heap(text, _) => StringExt::push_str(text, string),
+            InlinableStringN::Inline(text, _) => match text.push_str(string) {
+                Ok(()) => Ok(()),
+                Err(_) => self.promote_and_append(string),
+            },
+        }
     }
 }
 

@@ -86,6 +86,7 @@ impl<const N: usize> InlinableStringN<N> {
 }
 
 /// Concatenates both texts on the heap. `AllocError` on capacity overflow.
+#[inline(always)]
 fn concat_to_heap(alloc: Global, text: &str, added: &str) -> Result<String, AllocError>
     ensures bytes { IfOk result (λ made. string_bytes made ≡ text.now ++ added.now) }
     ensures room { IfOk result
