@@ -14,14 +14,20 @@ CRATE = 'inline_vectors'
 
 
 def rows_of(text):
-    """Each row of a file: the number of its first line, and its lines as one."""
+    """Each row of a file: the number of its first line, and its lines as one. A row of several types is one of each."""
     rows = []
     for number, line in enumerate(text.split('\n'), 1):
         if line.startswith(' ') and rows:
             rows[-1][1] += ' ' + line.strip(' ')
         elif line and not line.startswith('#'):
             rows.append([number, line.strip(' ')])
-    return rows
+    return [[number, each] for number, row in rows for each in of_each_type(row)]
+
+
+def of_each_type(row):
+    """The row of each type that it names: the text comes after the types, and begins with a quote."""
+    types, quote, rest = row.partition('"')
+    return [f'{each} {quote}{rest}' for each in types.rstrip().split(', ')] if quote else [row]
 
 
 def files_of(folder):

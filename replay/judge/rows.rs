@@ -69,7 +69,8 @@ fn played(row: &[Token], name: &str, room: Option<usize>) -> Result<Vec<(String,
 pub fn check(paths: &[String]) -> Result<bool, Box<dyn Error>> {
     let (mut answered, mut differing, mut unanswered) = (0, 0, BTreeMap::<String, usize>::new());
     for path in paths {
-        for (line, row) in rows_of(&read_to_string(path)?) {
+        let rows = rows_of(&read_to_string(path)?);
+        for (line, row) in rows.iter().flat_map(|(line, row)| of_each_type(row).map(move |row| (line, row))) {
             match unexpected(&tokens(&row).unwrap_or_default()) {
                 Err(reason) if reason != NO_ROW => *unanswered.entry(reason).or_default() += 1,
                 Ok(None) => answered += 1,
@@ -96,6 +97,12 @@ fn rows_of(file: &str) -> Vec<(usize, String)> {
         }
     }
     rows
+}
+
+/// The row of each type that it names: the text comes after the types, and begins with a quote.
+fn of_each_type(row: &str) -> impl Iterator<Item = String> + '_ {
+    let (types, rest) = row.split_at(row.find('"').unwrap_or(0));
+    types.trim_end().split(", ").map(move |name| format!("{name} {rest}"))
 }
 
 /// What is found first that a row does not expect; or why it can't be played.

@@ -33,6 +33,18 @@ pub struct Start {
     pub back: String,
 }
 
+/// Reads the types of a row, which has one at least.
+pub fn kinds_of(reader: &mut RowReader) -> Result<Vec<Option<Kind>>, Fault> {
+    let mut kinds = Vec::new(reader.alloc);
+    for _ in 0..reader.rest.len() {
+        kinds.push(kind_of(reader)?)?;
+        if !reader.takes(",") {
+            return Ok(kinds);
+        }
+    }
+    Err(NOT_TYPE)
+}
+
 /// Reads a type; `None` is that of `every`.
 pub fn kind_of(reader: &mut RowReader) -> Result<Option<Kind>, Fault> {
     let kind = match reader.word() {

@@ -1,6 +1,6 @@
 //! A row: a type, how its text is made, and steps on it.
 use crate::answer::Answer;
-use crate::begin::{Kind, Start, kind_of, start_of};
+use crate::begin::{Kind, Start, kind_of, kinds_of, start_of};
 use crate::call::Call;
 use crate::fault::{Fault, NO_MEMORY, RowFault};
 use crate::lex::RowReader;
@@ -100,9 +100,18 @@ pub fn rows_of(alloc: Global, file: &str) -> Result<Vec<Row>, RowFault> {
     Ok(rows)
 }
 
-/// Reads one row without answers.
+/// Reads one row without answers, of one type.
 pub fn question_of(alloc: Global, line: &str) -> Result<Row, RowFault> {
-    row_of(alloc, 1, line, Form::Question)
+    let mut reader = RowReader { alloc, rest: line };
+    match read_question(&mut reader) {
+        Ok(row) => Ok(row),
+        Err(fault) => Err(RowFault::of(alloc, 1, fault, reader.rest)),
+    }
+}
+
+fn read_question(reader: &mut RowReader) -> Result<Row, Fault> {
+    let kind = kind_of(reader)?;
+    read_row(reader, 1, kind, Form::Question)
 }
 
 /// Adds a line to those of a row, and a line feed before it, which no text of the row can have.
@@ -111,27 +120,35 @@ fn add_line(text: &mut String, line: &str) -> Result<(), AllocError> {
     text.push_str(line)
 }
 
-/// Adds the row of these lines, if there is one.
+/// Adds the rows of these lines: one of each type that they name, if there are lines.
 fn add_row(alloc: Global, rows: &mut Vec<Row>, first: usize, text: &str) -> Result<(), RowFault> {
     if text.is_empty() {
         return Ok(());
     }
-    let row = row_of(alloc, first, text, Form::Answered)?;
-    rows.push(row)
-        .map_err(|_| RowFault::of(alloc, first, NO_MEMORY, ""))
-}
-
-/// Reads the row whose first line has this number.
-fn row_of(alloc: Global, line: usize, text: &str, form: Form) -> Result<Row, RowFault> {
     let mut reader = RowReader { alloc, rest: text };
-    match read_row(&mut reader, line, form) {
-        Ok(row) => Ok(row),
-        Err(fault) => Err(RowFault::of(alloc, line, fault, reader.rest)),
+    match read_rows(&mut reader, first, rows) {
+        Ok(()) => Ok(()),
+        Err(fault) => Err(RowFault::of(alloc, first, fault, reader.rest)),
     }
 }
 
-fn read_row(reader: &mut RowReader, line: usize, form: Form) -> Result<Row, Fault> {
-    let kind = kind_of(reader)?;
+fn read_rows(reader: &mut RowReader, line: usize, rows: &mut Vec<Row>) -> Result<(), Fault> {
+    let kinds = kinds_of(reader)?;
+    let rest = reader.rest;
+    for &kind in &kinds {
+        reader.rest = rest;
+        rows.push(read_row(reader, line, kind, Form::Answered)?)?;
+    }
+    Ok(())
+}
+
+/// Reads what comes after the type of a row whose first line has this number.
+fn read_row(
+    reader: &mut RowReader,
+    line: usize,
+    kind: Option<Kind>,
+    form: Form,
+) -> Result<Row, Fault> {
     let start = start_of(reader)?;
     if !reader.takes(":") {
         return Err(Fault("no colon comes after the start of the text"));
