@@ -122,7 +122,8 @@ def rows_are_swept():
     faults = [fault for case, fault in found if case.place not in SPOILED]
     faults += [f'this row is not found wrong: {row}' for row in SPOILED if row not in {case.place for case, _ in found}]
     tried = [case for case in cases() if case.place not in SPOILED]
-    counts = {'rows': len({case.place for case in tried}), 'meetings': sum(not case.is_last for case in tried)}
+    # (the rows of a line of several types have one place)
+    counts = {'rows': len({case[:2] for case in tried}), 'meetings': sum(not case.is_last for case in tried)}
     faults += too_few(counts, dict(zip(counts, REFUSALS.get(CRATE, (1, 1)))))
     print(f'{CRATE}: {counts["rows"]} rows, {counts["meetings"]} requests refused', *faults, sep='\n')
     return not faults
