@@ -251,6 +251,8 @@ impl<const N: usize> InlinableStringN<N> {
     {
         let mut buffer = [0; 4];
         let string = ch.encode_utf8(&mut buffer);
+        // Not by `push_str`: a promotion with one caller alone is compiled into `push_str`, which
+        // is then no longer inlined where it is called.
         match self {
             InlinableStringN::Heap(text, _) => StringExt::push_str(text, string),
             InlinableStringN::Inline(text, _) => match text.push_str(string) {

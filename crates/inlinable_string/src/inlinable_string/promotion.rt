@@ -85,7 +85,8 @@ impl<const N: usize> InlinableStringN<N> {
     }
 }
 
-/// Concatenates both texts on the heap. `AllocError` on capacity overflow.
+/// Concatenates both texts on the heap. `AllocError` on capacity overflow. Inlined, so that the
+/// `String` does not come back through memory.
 #[inline(always)]
 fn concat_to_heap(alloc: Global, text: &str, added: &str) -> Result<String, AllocError>
     ensures bytes { IfOk result (λ made. string_bytes made ≡ text.now ++ added.now) }
