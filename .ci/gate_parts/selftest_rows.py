@@ -20,6 +20,10 @@ UNREAD = {
     'a row without an answer': ('InlineString "": len = 0, ""\nInlineString "a": pop\n', 2),
     'a line that is no row': ('InlineString "": len = 0, ""\nInlineString "" len = 0, ""\n', 2),
     'a line that goes on with no row': ('  InlineString "": len = 0, ""\n', 1)}
+# Files with a row that is wrong on one of its two types alone.
+OF_ONE_TYPE = {
+    'a row that is wrong on its first type': 'InlinableString, String "ab": pop = \'b\', "a" heap\n',
+    'a row that is wrong on its second type': 'InlinableString, String "ab": pop = \'b\', "a" inline\n'}
 
 
 def unquoted(row):
@@ -75,6 +79,7 @@ def shown():
     except Failure as failure:
         return [(str(failure), False)]
     files += [(what, text, line, (2,)) for what, (text, line) in UNREAD.items()]
+    files += [(what, text, 1, (1,)) for what, text in OF_ONE_TYPE.items()]
     with tempfile.TemporaryDirectory() as place:
         whats, runs = [], []
         for at, (what, text, number, statuses) in enumerate(files):
