@@ -1,5 +1,5 @@
 -- Fronts of what is to be written, where a write fails.
-use Rattle.std.proofs.Common.{List, ℕ, ◌++◌, ap, sym, ◌∙◌, append_assoc, Option, IfErr, Result, Ok, Err}
+use Rattle.std.proofs.Common.{◌≡◌, refl, List, ℕ, ◌++◌, ap, sym, ◌∙◌, append_assoc, Option, IfErr, Result, Ok, Err}
 use Rattle.std.specs.Io.KnownBytes.{Appends}
 use Rattle.std.proofs.KnownBytes.{Appends-trans}
 use Rattle.script_language.specs.Output.{WritesFront}
@@ -34,3 +34,9 @@ pub of_error : {T E : Type 0} (r : Result T E) (P Q : Type 0) → (P → Q) → 
     → IfErr r (λ _. Q)
 of_error (Ok x) P Q f p = tt
 of_error (Err e) P Q f p = f p
+
+-- what stayed is unchanged, whatever the error is
+pub unchanged_on_error : {T E S : Type 0} (r : Result T E) (P : E → Type 0) (s : S)
+    → IfErr r (λ e. P e → s ≡ s)
+unchanged_on_error (Ok x) P s = tt
+unchanged_on_error (Err e) P s = λ _. refl

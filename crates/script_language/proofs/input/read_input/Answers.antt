@@ -24,3 +24,15 @@ returns-then-length-gt-MOST_BYTES-clause-too_long g c is =
     let count = sym (length-take-le c.in_ok-length.length room filled.bound) in
     let more = subst (λ n. MOST_BYTES < n) count c.if-length-gt-MOST_BYTES.true in
     input_is_longer MOST_BYTES _ _ _ filled.bytes more
+
+pub returns-then-length-gt-MOST_BYTES-clause-bound :
+    goal.returns-then-length-gt-MOST_BYTES-clause-bound
+returns-then-length-gt-MOST_BYTES-clause-bound g c = tt
+
+pub returns-then-length-gt-MOST_BYTES-clause-whole :
+    goal.returns-then-length-gt-MOST_BYTES-clause-whole
+returns-then-length-gt-MOST_BYTES-clause-whole g c = tt
+
+pub returns-then-length-gt-MOST_BYTES-clause-at_end :
+    goal.returns-then-length-gt-MOST_BYTES-clause-at_end
+returns-then-length-gt-MOST_BYTES-clause-at_end g c = tt

@@ -3,6 +3,15 @@ use Rattle.script_language.proofs.Scripts.{IsNextLine, ask_more, ask_no_more, re
 use Rattle.script_language.proofs.script.commands_of.Goals as goal
 use Rattle.script_language.proofs.script.commands_of.Goals.{then-not-is_empty+in-Some-command_of+in_ok-push, else-not-is_empty}
 
+pub loop-unread-init : goal.loop-unread-init
+loop-unread-init c = search rules steps 1000000
+
+pub returns-in_err-commands-clause-fault : goal.returns-in_err-commands-clause-fault
+returns-in_err-commands-clause-fault c = search rules steps 1000000
+
+pub returns-in_err-push-clause-fault : goal.returns-in_err-push-clause-fault
+returns-in_err-push-clause-fault c = search rules steps 1500000
+
 pub loop-unread-preserved : goal.loop-unread-preserved
 loop-unread-preserved c =
     let before = c.loop-unread.invariant in
