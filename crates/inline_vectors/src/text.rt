@@ -1,5 +1,6 @@
 //! The texts that rows are played on, in one type: what each answers to a call, and what is seen
 //! of it.
+ghost use Rattle.std.specs.Prelude.{◌≡◌, length};
 
 use crate::answer::Answer;
 use crate::begin::Kind;
@@ -76,16 +77,16 @@ impl Text {
             Kind::Array(10) => Text::Array10(InlineStringN::new()),
             Kind::Array(30) => Text::Array30(InlineString::new()),
             Kind::Array(300) => Text::Array300(InlineStringN::new()),
-            Kind::Inlinable(0) => Text::Inlinable0(EmptyText::empty(alloc, room)?),
-            Kind::Inlinable(1) => Text::Inlinable1(EmptyText::empty(alloc, room)?),
-            Kind::Inlinable(3) => Text::Inlinable3(EmptyText::empty(alloc, room)?),
-            Kind::Inlinable(4) => Text::Inlinable4(EmptyText::empty(alloc, room)?),
-            Kind::Inlinable(8) => Text::Inlinable8(EmptyText::empty(alloc, room)?),
-            Kind::Inlinable(10) => Text::Inlinable10(EmptyText::empty(alloc, room)?),
-            Kind::Inlinable(30) => Text::Inlinable30(EmptyText::empty(alloc, room)?),
-            Kind::Inlinable(39) => Text::Inlinable39(EmptyText::empty(alloc, room)?),
-            Kind::Inlinable(48) => Text::Inlinable48(EmptyText::empty(alloc, room)?),
-            Kind::Inlinable(300) => Text::Inlinable300(EmptyText::empty(alloc, room)?),
+            Kind::Inlinable(0) => Text::Inlinable0(empty_inlinable(alloc, room)?),
+            Kind::Inlinable(1) => Text::Inlinable1(empty_inlinable(alloc, room)?),
+            Kind::Inlinable(3) => Text::Inlinable3(empty_inlinable(alloc, room)?),
+            Kind::Inlinable(4) => Text::Inlinable4(empty_inlinable(alloc, room)?),
+            Kind::Inlinable(8) => Text::Inlinable8(empty_inlinable(alloc, room)?),
+            Kind::Inlinable(10) => Text::Inlinable10(empty_inlinable(alloc, room)?),
+            Kind::Inlinable(30) => Text::Inlinable30(empty_inlinable(alloc, room)?),
+            Kind::Inlinable(39) => Text::Inlinable39(empty_inlinable(alloc, room)?),
+            Kind::Inlinable(48) => Text::Inlinable48(empty_inlinable(alloc, room)?),
+            Kind::Inlinable(300) => Text::Inlinable300(empty_inlinable(alloc, room)?),
             Kind::Boxable => Text::Boxable(BoxableString(EmptyText::empty(alloc, room)?)),
             Kind::String => Text::String(EmptyText::empty(alloc, room)?),
             Kind::User => Text::User(EmptyText::empty(alloc, room)?),
@@ -129,16 +130,16 @@ impl Text {
             return false;
         }
         match self {
-            Text::Inlinable0(text) => run(text, commands, replies),
-            Text::Inlinable1(text) => run(text, commands, replies),
-            Text::Inlinable3(text) => run(text, commands, replies),
-            Text::Inlinable4(text) => run(text, commands, replies),
-            Text::Inlinable8(text) => run(text, commands, replies),
-            Text::Inlinable10(text) => run(text, commands, replies),
-            Text::Inlinable30(text) => run(text, commands, replies),
-            Text::Inlinable39(text) => run(text, commands, replies),
-            Text::Inlinable48(text) => run(text, commands, replies),
-            Text::Inlinable300(text) => run(text, commands, replies),
+            Text::Inlinable0(text) => run_inlinable(text, commands, replies),
+            Text::Inlinable1(text) => run_inlinable(text, commands, replies),
+            Text::Inlinable3(text) => run_inlinable(text, commands, replies),
+            Text::Inlinable4(text) => run_inlinable(text, commands, replies),
+            Text::Inlinable8(text) => run_inlinable(text, commands, replies),
+            Text::Inlinable10(text) => run_inlinable(text, commands, replies),
+            Text::Inlinable30(text) => run_inlinable(text, commands, replies),
+            Text::Inlinable39(text) => run_inlinable(text, commands, replies),
+            Text::Inlinable48(text) => run_inlinable(text, commands, replies),
+            Text::Inlinable300(text) => run_inlinable(text, commands, replies),
             Text::Boxable(text) => run(text, commands, replies),
             Text::String(text) => run(text, commands, replies),
             Text::User(text) => run(text, commands, replies),
@@ -170,16 +171,16 @@ impl Text {
             Text::Boxable(text) => view_of(text, Some(30)),
             Text::String(text) => view_of(text, None),
             Text::User(text) => view_of(text, None),
-            Text::Inlinable0(text) => view_of(text, Some(0)),
-            Text::Inlinable1(text) => view_of(text, Some(1)),
-            Text::Inlinable3(text) => view_of(text, Some(3)),
-            Text::Inlinable4(text) => view_of(text, Some(4)),
-            Text::Inlinable8(text) => view_of(text, Some(8)),
-            Text::Inlinable10(text) => view_of(text, Some(10)),
-            Text::Inlinable30(text) => view_of(text, Some(30)),
-            Text::Inlinable39(text) => view_of(text, Some(39)),
-            Text::Inlinable48(text) => view_of(text, Some(48)),
-            Text::Inlinable300(text) => view_of(text, Some(300)),
+            Text::Inlinable0(text) => view_inlinable(text),
+            Text::Inlinable1(text) => view_inlinable(text),
+            Text::Inlinable3(text) => view_inlinable(text),
+            Text::Inlinable4(text) => view_inlinable(text),
+            Text::Inlinable8(text) => view_inlinable(text),
+            Text::Inlinable10(text) => view_inlinable(text),
+            Text::Inlinable30(text) => view_inlinable(text),
+            Text::Inlinable39(text) => view_inlinable(text),
+            Text::Inlinable48(text) => view_inlinable(text),
+            Text::Inlinable300(text) => view_inlinable(text),
             Text::Array0(text) => view_array(text),
             Text::Array1(text) => view_array(text),
             Text::Array3(text) => view_array(text),
@@ -190,6 +191,29 @@ impl Text {
             Text::Array300(text) => view_array(text),
         }
     }
+}
+
+/// The empty text of a capacity. Here and below a trait of `InlinableStringN` is found once for all
+/// capacities: where it is found at each, a proof pays for each.
+fn empty_inlinable<const N: usize>(
+    alloc: Global,
+    room: Option<usize>,
+) -> Result<InlinableStringN<N>, Fault> {
+    Ok(EmptyText::empty(alloc, room)?)
+}
+
+fn run_inlinable<const N: usize>(
+    text: &mut InlinableStringN<N>,
+    commands: &[Command],
+    replies: &mut [Reply],
+)
+    requires { length replies.old ≡ length commands.now }
+{
+    run(text, commands, replies)
+}
+
+fn view_inlinable<const N: usize>(text: &InlinableStringN<N>) -> View<'_> {
+    view_of(text, Some(N))
 }
 
 /// What is seen of a text by all calls that look at it.
