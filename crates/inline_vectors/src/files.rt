@@ -5,6 +5,7 @@ use crate::play::refused::row_after;
 use crate::row::rows_of;
 use crate::scripts::{script_after, words_after};
 use std::env::Env;
+use std::fmt::Display;
 use std::rt::Files;
 use std::{fs, io};
 
@@ -63,28 +64,25 @@ fn play_file<R: Files + Print + AllocGlobal>(rt: &R, file: &str) -> io::Result<O
     let alloc = rt.alloc();
     let content = match fs::read_to_string(rt, file) {
         Ok(content) => content,
-        Err(error) => {
-            println!(rt; "{file}: {error}")?;
-            return Ok(Outcome::Faulty);
-        }
+        Err(error) => return print_fault(rt, file, &error),
     };
     let rows = match rows_of(alloc, content.as_str()) {
         Ok(rows) => rows,
-        Err(fault) => {
-            println!(rt; "{file}: {fault}")?;
-            return Ok(Outcome::Faulty);
-        }
+        Err(fault) => return print_fault(rt, file, &fault),
     };
     let wrong = match wrong_rows(alloc, &rows) {
         Ok(wrong) => wrong,
-        Err(fault) => {
-            println!(rt; "{file}: {fault}")?;
-            return Ok(Outcome::Faulty);
-        }
+        Err(fault) => return print_fault(rt, file, &fault),
     };
     let outcome = print_wrong(rt, file, &wrong)?;
     println!(rt; "{file}: {} rows, {} wrong", rows.len(), wrong.len())?;
     Ok(outcome)
+}
+
+/// Prints why a file is not played.
+fn print_fault<R: Print, F: Display>(rt: &R, file: &str, fault: &F) -> io::Result<Outcome> {
+    println!(rt; "{file}: {fault}")?;
+    Ok(Outcome::Faulty)
 }
 
 /// Prints each row that is wrong, or that was not played.
