@@ -38,22 +38,23 @@ impl<'a> Playing<'a> {
     /// A text made so, before the first step of a row.
     pub fn new(alloc: Global, row: &'a Row, made: Made) -> Result<Playing<'a>, Fault> {
         let room = room_of(row);
-        let text = text_of(alloc, &row.start, made)?;
-        let mut start = nothing(alloc, 0, 0)?;
-        look_at(&text, &mut start)?;
+        let start = nothing(alloc, 0, 0)?;
         let mut steps = Vec::new(alloc);
         for step in &row.steps {
             steps.push(prepare(alloc, step, room)?)?;
         }
-        Ok(Playing {
+        let mut playing = Playing {
             row,
             made,
             start,
             steps,
             played: 0,
-            text,
+            text: text_of(alloc, &row.start, made)?,
             fault: None,
-        })
+        };
+        let Playing { text, start, .. } = &mut playing;
+        look_at(text, start)?;
+        Ok(playing)
     }
 
     /// The memory that the next step is to have; `None` at the end, or after a fault.

@@ -33,7 +33,16 @@ fn play_row(alloc: Global, row: &Row, way: Way, before: usize) -> Result<Ending,
     let kind = row.kind.ok_or(NO_TYPE)?;
     let room = row.start.room;
     let mut one = Playing::new(alloc, row, Made { kind, room, way })?;
-    let stated = row.steps.iter().position(|step| step.requests.is_some());
+    play_to_end(alloc, &mut one, before)
+}
+
+/// The same of a row that has begun. The caller drops it, at one place.
+fn play_to_end(alloc: Global, one: &mut Playing, before: usize) -> Result<Ending, Fault> {
+    let stated = one
+        .row
+        .steps
+        .iter()
+        .position(|step| step.requests.is_some());
     one.advance(Memory::Ample, stated.unwrap_or(0));
     if let Some(ending) = refused_before(alloc, before)? {
         return Ok(ending);
@@ -43,8 +52,8 @@ fn play_row(alloc: Global, row: &Row, way: Way, before: usize) -> Result<Ending,
     if let Some(fault) = one.fault {
         return Err(fault);
     }
-    let line = match first_wrong(&one) {
-        Some(wrong) => line_of(alloc, &one, wrong)?,
+    let line = match first_wrong(one) {
+        Some(wrong) => line_of(alloc, one, wrong)?,
         None => String::from_str(alloc, "right")?,
     };
     Ok((line, is_granted))

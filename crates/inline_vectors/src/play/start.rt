@@ -12,20 +12,26 @@ use std::alloc::Global;
 /// The text that a row begins with.
 pub fn text_of(alloc: Global, start: &Start, made: Made) -> Result<Text, Fault> {
     let mut text = Text::empty(alloc, made.kind, made.room)?;
-    let front = match made.way {
+    fill(alloc, &mut text, start, made.way)?;
+    Ok(text)
+}
+
+/// Gives an empty text what a row begins with.
+fn fill(alloc: Global, text: &mut Text, start: &Start, way: Way) -> Result<(), Fault> {
+    let front = match way {
         Way::Moved => "z",
         _ => start.front.as_str(),
     };
     for string in [front, start.text.as_str(), start.back.as_str()] {
-        edit(alloc, &mut text, "push_str", 0, string)?;
+        edit(alloc, text, "push_str", 0, string)?;
     }
     for _ in front.chars() {
-        edit(alloc, &mut text, "remove", 0, "")?;
+        edit(alloc, text, "remove", 0, "")?;
     }
     if !start.back.is_empty() {
-        edit(alloc, &mut text, "truncate", start.text.len(), "")?;
+        edit(alloc, text, "truncate", start.text.len(), "")?;
     }
-    Ok(text)
+    Ok(())
 }
 
 /// Makes a call that must succeed.
