@@ -166,7 +166,7 @@ impl<const N: usize> InlinableStringN<N> {
     {
         let mut made = Self::new(alloc);
         made.extend_strs(items)?;
-        Ok(made)
+        Ok(made.copied_in_parts())
     }
 
     /// Concatenates the strings of an iterator that ends, with `separator` between each two. The
@@ -201,6 +201,23 @@ impl<const N: usize> InlinableStringN<N> {
             before = separator;
         }
         Ok(made)
+    }
+
+    /// Returns the text unchanged.
+    ///
+    /// The length of an inline text is written again, so that LLVM copies it by itself, from a
+    /// register. Otherwise one read takes the length and what is beside it, and the processor waits
+    /// until the last push has stored both.
+    #[inline]
+    fn copied_in_parts(self) -> Self
+        ensures { result ≡ self.entry }
+    {
+        let mut text = self;
+        if let InlinableStringN::Inline(inline, _) = &mut text {
+            let len = inline.len();
+            inline.truncate(len);
+        }
+        text
     }
 
     /// Appends `before` and then `string`. After an error `before` may have been appended.

@@ -12,5 +12,6 @@ returns-in_err-extend_strs-clause-err g c =
 pub returns-clause-text : goal.returns-clause-text
 returns-clause-text g c =
     let made = c.new-made in
-    joined_text text_of_strs g.row.N _ _ made.result made.ensures.text made.ensures.storage _
-    c.in_ok-extend_strs.ensures.ok
+    rw c.copied_in_parts.ensures
+    (joined_text text_of_strs g.row.N _ _ made.result made.ensures.text made.ensures.storage _
+    c.in_ok-extend_strs.ensures.ok)
