@@ -49,18 +49,18 @@ impl<const N: usize> StringExt for InlinableStringN<N> {
 
     #[inline]
     fn push(&mut self, ch: char) -> Result<(), AllocError> {
-        if !ch.is_ascii() {
-            return self.push_general(ch);
-        }
-        match self {
-            InlinableStringN::Heap(text, _) => StringExt::push(text, ch),
-            InlinableStringN::Inline(text, _) => {
-                if text.try_push_ascii(ch) {
-                    return Ok(());
+        if ch.is_ascii() {
+            match self {
+                InlinableStringN::Heap(text, _) => return StringExt::push(text, ch),
+                InlinableStringN::Inline(text, _) => {
+                    if text.try_push_ascii(ch) {
+                        return Ok(());
+                    }
                 }
-                self.push_general(ch)
             }
         }
+        // One call: where the answers of two meet, LLVM tests for an error after each push.
+        self.push_general(ch)
     }
 
     #[inline]
@@ -81,6 +81,10 @@ impl<const N: usize> StringExt for InlinableStringN<N> {
             InlinableStringN::Inline(text, _) => match text.insert(idx, ch) {
                 Ok(()) => Ok(()),
                 Err(_) => {
+                    // A push: with `push` as its one caller, `push_general` is compiled into it.
+                    if idx == text.len() {
+                        return self.push_general(ch);
+                    }
                     let mut buffer = [0; 4];
                     self.promote_and_insert(idx, ch.encode_utf8(&mut buffer), 0)
                 }
@@ -249,6 +253,11 @@ impl<const N: usize> InlinableStringN<N> {
         ensures policy { (inlinable_state N self.new).policy
             ≡ (inlinable_state N self.old).policy }
     {
+        if let InlinableStringN::Inline(text, _) = self {
+            if ch.is_ascii() && text.len() == N {
+                return self.promote_and_push(ch);
+            }
+        }
         let mut buffer = [0; 4];
         let string = ch.encode_utf8(&mut buffer);
         // Not by `push_str`: a promotion with one caller alone is compiled into `push_str`, which

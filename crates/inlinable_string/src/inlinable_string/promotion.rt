@@ -2,7 +2,7 @@
 //! and a copy of a heap text.
 //!
 //! Each function allocates once, exactly, before it changes anything.
-ghost use Rattle.std.specs.Prelude.{◌≡◌, ◌+◌, ◌≤◌, ◌++◌, length, IfOk, OnOk, OnErr};
+ghost use Rattle.std.specs.Prelude.{◌≡◌, ◌+◌, ◌≤◌, ◌++◌, [], ◌∷◌, length, IfOk, OnOk, OnErr};
 ghost use Rattle.std.specs.List.{insert_slice};
 ghost use Rattle.std.specs.Str.{chars, IsCharBoundary};
 ghost use Rattle.std.specs.String.{string_bytes, string_capacity};
@@ -72,6 +72,31 @@ impl<const N: usize> InlinableStringN<N> {
         Ok(())
     }
 
+    /// Like `promote_and_append`, of one character, without a second text to copy.
+    #[inline(always)]
+    pub(super) fn promote_and_push(&mut self, ch: char) -> Result<(), AllocError>
+        requires inline { (inlinable_state N self.old).storage ≡ Storage.Inline }
+        ensures text { OnOk result ((inlinable_state N self.new).text
+            ≡ (inlinable_state N self.old).text ++ ch ∷ []) }
+        ensures len { OnOk result (size (inlinable_state N self.new).text
+            ≡ size (inlinable_state N self.old).text + size (ch ∷ [])) }
+        ensures storage { OnOk result ((inlinable_state N self.new).storage ≡ Storage.Heap) }
+        ensures room { OnOk result
+            (size (inlinable_state N self.old).text + size (ch ∷ [])
+            ≤ (inlinable_state N self.new).capacity) }
+        ensures err { OnErr result
+            (IsSameText (inlinable_state N self.old) (inlinable_state N self.new)) }
+    {
+        let InlinableStringN::Inline(text, alloc) = self else {
+            unreachable!();
+        };
+        let alloc = *alloc;
+        let mut heap = copy_to_heap(alloc, text.as_str(), ch.len_utf8())?;
+        heap.push(ch)?;
+        *self = InlinableStringN::Heap(heap, alloc);
+        Ok(())
+    }
+
     /// Copies a heap text, onto the heap. Out of line, to keep the copy of an inline text small.
     #[cold]
     #[inline(never)]
@@ -102,6 +127,21 @@ fn concat_to_heap(alloc: Global, text: &str, added: &str) -> Result<String, Allo
     let mut made = String::with_capacity(alloc, size)?;
     made.push_str(text)?;
     made.push_str(added)?;
+    Ok(made)
+}
+
+/// Copies the text to the heap, with capacity for `spare` more bytes. `AllocError` on capacity
+/// overflow. Inlined, as `concat_to_heap`, which takes longer if it calls this.
+#[inline(always)]
+fn copy_to_heap(alloc: Global, text: &str, spare: usize) -> Result<String, AllocError>
+    ensures bytes { IfOk result (λ made. string_bytes made ≡ text.now) }
+    ensures room { IfOk result (λ made. length text.now + spare ≤ string_capacity made) }
+{
+    let Some(size) = text.len().checked_add(spare) else {
+        return Err(AllocError);
+    };
+    let mut made = String::with_capacity(alloc, size)?;
+    made.push_str(text)?;
     Ok(made)
 }
 
