@@ -8,7 +8,7 @@ use std::alloc::Global;
 pub struct Call {
     /// Its name in the library.
     pub word: &'static str,
-    pub arguments: Arguments,
+    pub arguments: &'static [Argument],
     pub effect: Effect,
     /// A place, an amount, a width or a capacity, and the start of a range.
     pub number: usize,
@@ -23,22 +23,15 @@ pub struct Call {
     pub other: Option<Start>,
 }
 
-/// What a call is given.
-#[derive(Clone, Copy, PartialEq, Eq)]
-pub enum Arguments {
-    Nothing,
+/// One thing that a call is given.
+#[derive(Clone, Copy)]
+pub enum Argument {
     /// A place, an amount, a width or a capacity.
     Number,
-    Char,
-    Text,
-    NumberAndChar,
-    NumberAndText,
-    TextAndNumber,
-    TextAndList,
     /// A range of places.
     Range,
-    /// A range of places and a text.
-    RangeAndText,
+    Char,
+    Text,
     List,
     /// A text, or a list of one text at least.
     TextOrList,
@@ -60,56 +53,53 @@ pub enum Effect {
     RemakesOnHeap,
 }
 
-use Arguments::{
-    Bytes, Char, List, Nothing, Number, NumberAndChar, NumberAndText, Other, Range, RangeAndText,
-    Text, TextAndList, TextAndNumber, TextOrList, Units,
-};
+use Argument::{Bytes, Char, List, Number, Other, Range, Text, TextOrList, Units};
 use Effect::{Keeps, Remakes, RemakesOnHeap, Shrinks};
 
 /// The words of the calls.
-const CALLS: &[(Arguments, Effect, &[&str])] = &[
-    (Char, Keeps, &["push", "write_char", "split_once"]),
-    (Text, Keeps, &["push_str", "add", "write", "write_str"]),
-    (Text, Keeps, &["extend_chars", "extend_char_refs"]),
-    (Text, Keeps, &["retain", "eq_str"]),
-    (NumberAndChar, Keeps, &["insert"]),
-    (NumberAndText, Keeps, &["insert_str"]),
-    (RangeAndText, Keeps, &["replace_range"]),
-    (Range, Keeps, &["drain"]),
-    (List, Keeps, &["extend_strs"]),
-    (TextOrList, Keeps, &["extend"]),
-    (Bytes, Keeps, &["replace_bytes", "from_utf8_lossy"]),
-    (Other, Keeps, &["eq", "cmp", "partial_cmp"]),
-    (Number, Keeps, &["truncate", "remove", "split_off"]),
-    (Number, Keeps, &["reserve", "reserve_exact"]),
-    (Number, Keeps, &["padded", "cut"]),
-    (Nothing, Keeps, &["pop", "clear", "retain_odd"]),
-    (Nothing, Keeps, &["make_ascii_uppercase"]),
-    (Nothing, Keeps, &["make_ascii_lowercase", "trim_in_place"]),
+const CALLS: &[(&[Argument], Effect, &[&str])] = &[
+    (&[Char], Keeps, &["push", "write_char", "split_once"]),
+    (&[Text], Keeps, &["push_str", "add", "write", "write_str"]),
+    (&[Text], Keeps, &["extend_chars", "extend_char_refs"]),
+    (&[Text], Keeps, &["retain", "eq_str"]),
+    (&[Number, Char], Keeps, &["insert"]),
+    (&[Number, Text], Keeps, &["insert_str"]),
+    (&[Range, Text], Keeps, &["replace_range"]),
+    (&[Range], Keeps, &["drain"]),
+    (&[List], Keeps, &["extend_strs"]),
+    (&[TextOrList], Keeps, &["extend"]),
+    (&[Bytes], Keeps, &["replace_bytes", "from_utf8_lossy"]),
+    (&[Other], Keeps, &["eq", "cmp", "partial_cmp"]),
+    (&[Number], Keeps, &["truncate", "remove", "split_off"]),
+    (&[Number], Keeps, &["reserve", "reserve_exact"]),
+    (&[Number], Keeps, &["padded", "cut"]),
+    (&[], Keeps, &["pop", "clear", "retain_odd"]),
+    (&[], Keeps, &["make_ascii_uppercase"]),
+    (&[], Keeps, &["make_ascii_lowercase", "trim_in_place"]),
+    (&[], Keeps, &["trim_start_in_place", "trim_end_in_place"]),
+    (&[], Keeps, &["len", "capacity", "is_empty", "hash"]),
+    (&[], Keeps, &["as_str", "as_bytes", "to_json"]),
+    (&[], Keeps, &["display", "debug"]),
+    (&[], Keeps, &["remaining_capacity", "is_full"]),
+    (&[], Shrinks, &["shrink_to_fit"]),
+    (&[], Remakes, &["new", "default", "clone", "copy"]),
+    (&[], Remakes, &["into_bytes", "into_string"]),
+    (&[], Remakes, &["into_array", "boxed"]),
+    (&[Number], Remakes, &["with_capacity", "with_limit"]),
+    (&[Char], Remakes, &["try_from_char"]),
+    (&[Text], Remakes, &["from", "from_str", "from_string"]),
+    (&[Text], Remakes, &["from_chars", "from_json", "try_from"]),
+    (&[Text], Remakes, &["parse"]),
+    (&[Text, Number], Remakes, &["repeat"]),
+    (&[List], Remakes, &["from_strs"]),
+    (&[Text, List], Remakes, &["from_strs_with"]),
+    (&[TextOrList], Remakes, &["collect"]),
     (
-        Nothing,
-        Keeps,
-        &["trim_start_in_place", "trim_end_in_place"],
+        &[Bytes],
+        RemakesOnHeap,
+        &["from_utf8", "from_utf8_unchecked"],
     ),
-    (Nothing, Keeps, &["len", "capacity", "is_empty", "hash"]),
-    (Nothing, Keeps, &["as_str", "as_bytes", "to_json"]),
-    (Nothing, Keeps, &["display", "debug"]),
-    (Nothing, Keeps, &["remaining_capacity", "is_full"]),
-    (Nothing, Shrinks, &["shrink_to_fit"]),
-    (Nothing, Remakes, &["new", "default", "clone", "copy"]),
-    (Nothing, Remakes, &["into_bytes", "into_string"]),
-    (Nothing, Remakes, &["into_array", "boxed"]),
-    (Number, Remakes, &["with_capacity", "with_limit"]),
-    (Char, Remakes, &["try_from_char"]),
-    (Text, Remakes, &["from", "from_str", "from_string"]),
-    (Text, Remakes, &["from_chars", "from_json", "try_from"]),
-    (Text, Remakes, &["parse"]),
-    (TextAndNumber, Remakes, &["repeat"]),
-    (List, Remakes, &["from_strs"]),
-    (TextAndList, Remakes, &["from_strs_with"]),
-    (TextOrList, Remakes, &["collect"]),
-    (Bytes, RemakesOnHeap, &["from_utf8", "from_utf8_unchecked"]),
-    (Units, RemakesOnHeap, &["from_utf16", "from_utf16_lossy"]),
+    (&[Units], RemakesOnHeap, &["from_utf16", "from_utf16_lossy"]),
 ];
 
 impl Call {

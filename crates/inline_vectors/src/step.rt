@@ -2,7 +2,7 @@
 
 use crate::answer::{Answer, WITH_TEXT, WORDS};
 use crate::begin::{Kind, Start, making_of, start_of};
-use crate::call::{Arguments, Call};
+use crate::call::{Argument, Call};
 use crate::fault::Fault;
 use crate::lex::RowReader;
 use crate::row::{Memory, Seen, Step, Wanted};
@@ -60,44 +60,25 @@ fn call_of(reader: &mut RowReader) -> Result<Call, Fault> {
 
 /// Reads what a call is given.
 fn give(reader: &mut RowReader, call: &mut Call) -> Result<(), Fault> {
-    match call.arguments {
-        Arguments::Nothing => {}
-        Arguments::Number => call.number = reader.number()?,
-        Arguments::Char => call.text.push(character(reader)?)?,
-        Arguments::Text => call.text = text(reader)?,
-        Arguments::NumberAndChar => {
-            call.number = reader.number()?;
-            call.text.push(character(reader)?)?;
-        }
-        Arguments::NumberAndText => {
-            call.number = reader.number()?;
-            call.text = text(reader)?;
-        }
-        Arguments::TextAndNumber => {
-            call.text = text(reader)?;
-            call.number = reader.number()?;
-        }
-        Arguments::TextAndList => {
-            call.text = text(reader)?;
-            call.list = list(reader)?;
-        }
-        Arguments::Range => give_range(reader, call)?,
-        Arguments::RangeAndText => {
-            give_range(reader, call)?;
-            call.text = text(reader)?;
-        }
-        Arguments::TextOrList if !reader.is_at("[") => call.text = text(reader)?,
-        Arguments::List | Arguments::TextOrList => {
-            call.list = list(reader)?;
-            if call.list.is_empty() && call.arguments == Arguments::TextOrList {
-                return Err(Fault("not a list of one text at least"));
+    for &argument in call.arguments {
+        match argument {
+            Argument::Number => call.number = reader.number()?,
+            Argument::Range => give_range(reader, call)?,
+            Argument::Char => call.text.push(character(reader)?)?,
+            Argument::TextOrList if reader.is_at("[") => {
+                call.list = list(reader)?;
+                if call.list.is_empty() {
+                    return Err(Fault("not a list of one text at least"));
+                }
             }
-        }
-        Arguments::Bytes => call.bytes = pieces(reader)?,
-        Arguments::Units => call.units = pieces(reader)?,
-        Arguments::Other => {
-            call.text = text(reader)?;
-            call.other = other_of(reader, call.text.as_str())?;
+            Argument::Text | Argument::TextOrList => call.text = text(reader)?,
+            Argument::List => call.list = list(reader)?,
+            Argument::Bytes => call.bytes = pieces(reader)?,
+            Argument::Units => call.units = pieces(reader)?,
+            Argument::Other => {
+                call.text = text(reader)?;
+                call.other = other_of(reader, call.text.as_str())?;
+            }
         }
     }
     Ok(())
