@@ -54,51 +54,35 @@ pub(crate) use edited;
 
 /// What a call answers that `String` has and the traits lack; else what `others` do.
 macro_rules! changed {
-    ($text:ident, $call:ident, $fault:literal, $others:expr) => {
+    ($text:ident, $call:ident, $fault:literal, $others:expr) => {{
         match $call.word {
-            "retain" => {
-                $text.retain(|ch| $call.text.contains(ch));
-                Ok(Answer::Word("done"))
-            }
+            "retain" => $text.retain(|ch| $call.text.contains(ch)),
             "retain_odd" => {
                 let mut is_odd = false;
                 $text.retain(|_| {
                     is_odd = !is_odd;
                     is_odd
                 });
-                Ok(Answer::Word("done"))
             }
-            "make_ascii_uppercase" => {
-                $text.make_ascii_uppercase();
-                Ok(Answer::Word("done"))
-            }
-            "make_ascii_lowercase" => {
-                $text.make_ascii_lowercase();
-                Ok(Answer::Word("done"))
-            }
-            "trim_in_place" => {
-                $text.trim_in_place();
-                Ok(Answer::Word("done"))
-            }
-            "trim_start_in_place" => {
-                $text.trim_start_in_place();
-                Ok(Answer::Word("done"))
-            }
-            "trim_end_in_place" => {
-                $text.trim_end_in_place();
-                Ok(Answer::Word("done"))
-            }
+            "make_ascii_uppercase" => $text.make_ascii_uppercase(),
+            "make_ascii_lowercase" => $text.make_ascii_lowercase(),
+            "trim_in_place" => $text.trim_in_place(),
+            "trim_start_in_place" => $text.trim_start_in_place(),
+            "trim_end_in_place" => $text.trim_end_in_place(),
             "replace_range" => {
                 let (from, to) = ($call.number, $call.end);
                 if to < from || !$text.is_char_boundary(from) || !$text.is_char_boundary(to) {
                     return Ok(Answer::Word("bad place"));
                 }
-                done_or($text.replace_range(from..to, $call.text.as_str()), $fault)
+                return done_or($text.replace_range(from..to, $call.text.as_str()), $fault);
             }
-            "split_off" if !$text.is_char_boundary($call.number) => Ok(Answer::Word("bad place")),
-            _ => $others,
+            "split_off" if !$text.is_char_boundary($call.number) => {
+                return Ok(Answer::Word("bad place"));
+            }
+            _ => return $others,
         }
-    };
+        Ok(Answer::Word("done"))
+    }};
 }
 
 pub(crate) use changed;
