@@ -38,32 +38,21 @@ pub fn play_inlinable<const N: usize>(
         }
         "collect" if given.strs.is_empty() => string.chars().collect(alloc),
         "collect" => given.strs.iter().copied().collect(alloc),
-        "from_json" => match from_json(alloc, given) {
-            Ok(made) => Ok(made),
-            Err(word) => return Ok(Answer::Word(word)),
-        },
+        "from_json" => {
+            let Some(value) = &given.json else {
+                return Ok(Answer::Word("no string"));
+            };
+            match InlinableStringN::from_json(alloc, value) {
+                Err(JsonError::NotString) => return Ok(Answer::Word("no string")),
+                made => made.map_err(|_| AllocError),
+            }
+        }
         "add" | "extend" | "extend_chars" | "extend_char_refs" | "extend_strs" => {
             return done_or(join(text, call, given), "no memory");
         }
         _ => return change(text, call, given),
     };
     put(text, made, "no memory")
-}
-
-/// The text of a JSON value, or why there is none.
-fn from_json<const N: usize>(
-    alloc: Global,
-    given: &Given,
-) -> Result<InlinableStringN<N>, &'static str>
-    requires { N ≤ 300 }
-{
-    let Some(value) = &given.json else {
-        return Err("no string");
-    };
-    InlinableStringN::from_json(alloc, value).map_err(|error| match error {
-        JsonError::NotString => "no string",
-        JsonError::NoMemory => "no memory",
-    })
 }
 
 /// The calls that add several pieces.
@@ -107,19 +96,13 @@ fn change<const N: usize>(
         call,
         "no memory",
         match call.word {
-            "split_off" => match text.split_off(call.number) {
-                Ok(rest) => placed(rest, given),
-                Err(_) => Ok(Answer::Word("no memory")),
-            },
+            "split_off" => placed(text.split_off(call.number), given),
             "drain" => {
                 let (from, to) = (call.number, call.end);
                 if to < from || !text.is_char_boundary(from) || !text.is_char_boundary(to) {
                     return Ok(Answer::Word("bad place"));
                 }
-                match text.drain(from..to) {
-                    Ok(part) => placed(part, given),
-                    Err(_) => Ok(Answer::Word("no memory")),
-                }
+                placed(text.drain(from..to), given)
             }
             "into_string" => {
                 match mem::replace(text, InlinableStringN::new(given.alloc)).into_string() {
@@ -140,10 +123,16 @@ fn change<const N: usize>(
 }
 
 /// The answer of a text that was split off or drained. Its allocation is handed over, not freed.
-fn placed<const N: usize>(rest: InlinableStringN<N>, given: &mut Given) -> Result<Answer, Fault> {
-    match rest.storage() {
-        Storage::Inline => given.placed(rest.as_str(), Storage::Inline),
-        Storage::Heap => match rest.into_string() {
+fn placed<const N: usize>(
+    part: Result<InlinableStringN<N>, AllocError>,
+    given: &mut Given,
+) -> Result<Answer, Fault> {
+    let Ok(part) = part else {
+        return Ok(Answer::Word("no memory"));
+    };
+    match part.storage() {
+        Storage::Inline => given.placed(part.as_str(), Storage::Inline),
+        Storage::Heap => match part.into_string() {
             Ok(string) => Ok(Answer::Placed(string, Storage::Heap)),
             Err(_) => Err(NO_MEMORY),
         },
