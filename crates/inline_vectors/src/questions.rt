@@ -61,14 +61,8 @@ fn answered<'a>(alloc: Global, line: &str, row: &'a Row) -> Result<String, Fault
         }
         for (step, prepared) in row.steps.iter().zip(&one.steps) {
             let end = line.len().saturating_sub(step.left);
-            write!(
-                answered,
-                "{} = {}",
-                part_of(line, start, end),
-                prepared.found
-            )
-            .ok()
-            .ok_or(NO_MEMORY)?;
+            let part = part_of(line, start, end);
+            write!(answered, "{part} = {}", prepared.found).map_err(|_| NO_MEMORY)?;
             start = end;
         }
     }

@@ -103,10 +103,7 @@ pub fn rows_of(alloc: Global, file: &str) -> Result<Vec<Row>, RowFault> {
 /// Reads one row without answers, of one type.
 pub fn question_of(alloc: Global, line: &str) -> Result<Row, RowFault> {
     let mut reader = RowReader { alloc, rest: line };
-    match read_question(&mut reader) {
-        Ok(row) => Ok(row),
-        Err(fault) => Err(RowFault::of(alloc, 1, fault, reader.rest)),
-    }
+    read_question(&mut reader).map_err(|fault| RowFault::of(alloc, 1, fault, reader.rest))
 }
 
 fn read_question(reader: &mut RowReader) -> Result<Row, Fault> {

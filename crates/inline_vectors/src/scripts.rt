@@ -16,10 +16,7 @@ const PRINTED: usize = 1_000;
 
 /// The line with its answer; `None` where it is no script.
 pub fn script_line(alloc: Global, line: &str) -> Result<Option<String>, AllocError> {
-    Ok(match script_after(alloc, line, 0)? {
-        Some((line, _)) => Some(line),
-        None => None,
-    })
+    Ok(script_after(alloc, line, 0)?.map(|(line, _)| line))
 }
 
 /// The same with this number of other requests before those of the script.
@@ -79,16 +76,10 @@ fn input_of(reader: &mut RowReader) -> Option<Vec<u8>> {
 
 /// Bytes as a row has them: as a text, if they are one.
 fn quoted(alloc: Global, bytes: &[u8]) -> Result<String, AllocError> {
-    match str::from_utf8(bytes) {
-        Ok(string) => {
-            let string = Quoted(string);
-            Ok(format!(in alloc; "{string}")?)
-        }
-        Err(_) => {
-            let bytes = QuotedBytes(bytes);
-            Ok(format!(in alloc; "{bytes}")?)
-        }
-    }
+    Ok(match str::from_utf8(bytes) {
+        Ok(string) => format!(in alloc; "{}", Quoted(string))?,
+        Err(_) => format!(in alloc; "{}", QuotedBytes(bytes))?,
+    })
 }
 
 /// The status of a script, of which a fault is printed.

@@ -13,10 +13,7 @@ pub type Ending = (String, bool);
 /// Plays the one row of a file by calls, by `run` or by `run_dyn`, with this number of other
 /// requests before the first call that states its own.
 pub fn row_after(alloc: Global, file: &str, way: &str, before: usize) -> Result<Ending, Fault> {
-    let rows = match rows_of(alloc, file) {
-        Ok(rows) => rows,
-        Err(error) => return Err(error.fault),
-    };
+    let rows = rows_of(alloc, file).map_err(|error| error.fault)?;
     let way = match way {
         "run" => Way::Run,
         "run_dyn" => Way::Dyn,

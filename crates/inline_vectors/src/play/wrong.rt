@@ -143,11 +143,7 @@ fn is_done(found: &Found) -> bool {
 /// shrinking and by what makes another text, and a command that fails changes nothing.
 fn is_capacity_right(step: &Step, before: &Found, found: &Found) -> bool {
     let (old, new) = (before.capacity, found.capacity);
-    if step
-        .wanted
-        .as_ref()
-        .is_some_and(|wanted| wanted.seen == Seen::Unchanged)
-    {
+    if matches!(&step.wanted, Some(wanted) if wanted.seen == Seen::Unchanged) {
         return old == new;
     }
     let is_command = command_of(&step.call).is_some();

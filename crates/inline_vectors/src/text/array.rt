@@ -8,7 +8,7 @@ use crate::text::given::Given;
 use crate::text::views::{
     changed, compare, done_or, edited, filled, first, number, put, replaced, truth, view,
 };
-use inlinable_string::{InlineStringN, NotEnoughSpaceError};
+use inlinable_string::InlineStringN;
 
 /// What a call answers, which may change the text: first those that make another, or compare.
 pub fn play_array<const N: usize>(
@@ -44,17 +44,12 @@ pub fn play_array<const N: usize>(
         "repeat" => put(text, InlineStringN::repeat(string, call.number), "full"),
         "from_chars" => put(text, InlineStringN::from_chars(string.chars()), "full"),
         "from_strs" => {
-            let made: Result<InlineStringN<N>, NotEnoughSpaceError> = InlineStringN::from_strs(
-                given.strs.iter().copied(),
-            );
-            put(text, made, "full")
+            let items = given.strs.iter().copied();
+            put(text, InlineStringN::from_strs(items), "full")
         }
         "from_strs_with" => {
             let items = given.strs.iter().copied();
-            let made: Result<InlineStringN<N>, NotEnoughSpaceError> = InlineStringN::from_strs_with(
-                string, items,
-            );
-            put(text, made, "full")
+            put(text, InlineStringN::from_strs_with(string, items), "full")
         }
         _ => edit(text, call, given),
     }

@@ -31,13 +31,11 @@ impl<'a> Given<'a> {
         for string in &call.list {
             strs.push(string.as_str())?;
         }
-        let json = match call.word {
-            "from_json" => match Value::from_str(alloc, call.text.as_str()) {
-                Ok(value) => Some(value),
-                Err(_) => return Err(BAD_CALL),
-            },
-            _ => None,
-        };
+        let mut json = None;
+        if call.word == "from_json" {
+            let value = Value::from_str(alloc, call.text.as_str());
+            json = Some(value.map_err(|_| BAD_CALL)?);
+        }
         Ok(Given {
             alloc,
             string: String::from_str(alloc, call.text.as_str())?,
@@ -68,10 +66,8 @@ impl<'a> Given<'a> {
 
     /// A copy of a text.
     pub fn copy_text(&mut self, text: &str) -> Result<String, Fault> {
-        match String::from_utf8(self.copy(text.as_bytes())?) {
-            Ok(copy) => Ok(copy),
-            Err(_) => Err(BAD_CALL),
-        }
+        let copy = String::from_utf8(self.copy(text.as_bytes())?);
+        copy.map_err(|_| BAD_CALL)
     }
 
     /// The answer of this value's JSON text. The value is kept, and not freed.
