@@ -84,11 +84,11 @@ def is_swept(crate):
     return not faults
 
 
-def tried(top, crate):
+def tried(top, crate, names):
     """What the tests of a crate print where an allocation fails, and by name that of those that go wrong; of
-    the program of rows, what its rows print."""
+    the program of rows, what its rows with these names print."""
     if crate == CRATE:
-        return wrong_rows(top)
+        return wrong_rows(top, names)
     request = PREPARED[crate] + REQUEST_OF_A_CALL if crate in PREPARED else REQUEST
     said = run_in(crate_folder(crate, top), 'rt', 'try', '--test', '--fail-alloc', str(request))[0]
     return said, {name: printed for name, how, printed in TEST.findall(said)
@@ -109,7 +109,7 @@ def are_refused(library, edits, named=None):
     crate, own = goals[0].crate, {goal.function for goal in goals}
     with copies([library, crate], 1) as (top,), Room(top, library) as room:
         room.write(texts_with(crate_folder(library), edits))
-        said, found = tested(top, library, crate) if named is None else tried(top, crate)
+        said, found = tested(top, library, crate) if named is None else tried(top, crate, named)
     others = found.keys() - own if named is None else named & found.keys() - own
     faults = [f'{goal.function} does not go wrong with `{goal.name}`' for goal in goals
               if goal.name not in re.findall(r'\w+', found.get(goal.function, ''))]

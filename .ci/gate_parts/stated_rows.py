@@ -75,10 +75,10 @@ def cases():
     return [*(case for place, row in rows for case in cases_of(place, row)), *scripts, *words]
 
 
-def played(top, befores):
-    """What the program prints of each case, with this number of requests before its calls."""
+def played(top, prepared):
+    """What the program prints of each of these cases, with that number of requests before its calls."""
     with TemporaryDirectory() as folder:
-        for number, (case, before) in enumerate(zip(cases(), befores)):
+        for number, (case, before) in enumerate(prepared):
             write_text(os.path.join(folder, f'{number:04}'), case.file)
             write_text(os.path.join(folder, f'{number:04}.args'), f'{case.way}\n{before}\n')
         ran = subprocess.run(
@@ -86,7 +86,7 @@ def played(top, befores):
             cwd=crate_folder(CRATE, top), stdin=subprocess.DEVNULL, stdout=subprocess.PIPE,
             stderr=subprocess.PIPE, check=False)
     said = re.findall('^== ([0-9]{4})\n(.*)$', ran.stdout.decode(errors='replace'), re.MULTILINE)
-    if [int(number) for number, _ in said] != list(range(len(cases()))):
+    if [int(number) for number, _ in said] != list(range(len(prepared))):
         raise Failure(f'{CRATE}: not each case has an answer: {ran.stdout[-2000:]}, {ran.stderr[-2000:]}')
     return [answer for _, answer in said]
 
@@ -94,25 +94,28 @@ def played(top, befores):
 @lru_cache(maxsize=None)
 def befores():
     """How many requests come before the calls of each case, so that its own is the one that is refused."""
-    granted = [re.match(r'(\d+) granted', answer) or answer for answer in played(TOP, [REQUEST] * len(cases()))]
+    said = played(TOP, [(case, REQUEST) for case in cases()])
+    granted = [re.match(r'(\d+) granted', answer) or answer for answer in said]
     for case, count in zip(cases(), granted):
         if isinstance(count, str) or int(count[1]) < case.request:
             raise Failure(f'{case.place}: no request is refused before its calls: {count}')
     return [int(count[1]) - case.request + 1 for case, count in zip(cases(), granted)]
 
 
-def faults_of(top):
-    """Each case that goes wrong, with what is printed of it."""
-    for case, answer in zip(cases(), played(top, befores())):
+def faults_of(top, names=None):
+    """Each case that goes wrong, of the rows with these names or of all, with what is printed of it."""
+    prepared = [(case, before) for case, before in zip(cases(), befores()) if names is None or case.name in names]
+    for (case, _), answer in zip(prepared, played(top, prepared)):
         if answer != f'{case.wanted}, and the next request {"refused" if case.is_last else "granted"}':
             yield case, f'{case.place}, {case.name} by {case.way}, request {case.request}: {answer}'
 
 
-def wrong_rows(top):
-    """What is printed of the rows that go wrong: together, and by their names."""
+def wrong_rows(top, names):
+    """What is printed of those of the rows with these names that go wrong: together, and by their names."""
     found = defaultdict(str)
-    for case, fault in ((case, fault) for case, fault in faults_of(top) if case.place not in SPOILED):
-        found[case.name] += fault + '\n'
+    for case, fault in faults_of(top, names):
+        if case.place not in SPOILED:
+            found[case.name] += fault + '\n'
     return ''.join(found.values()), found
 
 
