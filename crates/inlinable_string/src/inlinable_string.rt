@@ -283,7 +283,7 @@ impl<const N: usize> Clone for InlinableStringN<N> {
     #[inline]
     fn clone(&self) -> Result<Self, AllocError> {
         match self {
-            InlinableStringN::Heap(text, alloc) => Self::clone_heap(*alloc, text),
+            InlinableStringN::Heap(text, alloc) => Self::clone_heap_inlined(*alloc, text),
             InlinableStringN::Inline(text, alloc) => {
                 let copy = text.copy();
                 Ok(InlinableStringN::Inline(copy, *alloc))

@@ -108,6 +108,17 @@ impl<const N: usize> InlinableStringN<N> {
         let copy = text.clone()?;
         Ok(InlinableStringN::Heap(copy, alloc))
     }
+
+    /// The same. Inlined, so that the place of what `clone_heap` returns is cleared in the branch
+    /// that calls it, and not for an inline text too.
+    #[inline(always)]
+    pub(super) fn clone_heap_inlined(alloc: Global, text: &String) -> Result<Self, AllocError>
+        ensures text { IfOk result
+            (λ made. (inlinable_state N made).text ≡ chars (string_bytes text.now)) }
+        ensures storage { IfOk result (λ made. (inlinable_state N made).storage ≡ Storage.Heap) }
+    {
+        Self::clone_heap(alloc, text)
+    }
 }
 
 /// Concatenates both texts on the heap. `AllocError` on capacity overflow. Inlined, so that the
