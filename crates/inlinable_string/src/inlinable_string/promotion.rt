@@ -47,9 +47,9 @@ impl<const N: usize> InlinableStringN<N> {
         Ok(())
     }
 
-    /// Like `promote_and_insert` at the end, without splitting the text.
-    #[cold]
-    #[inline(never)]
+    /// Like `promote_and_insert` at the end, without splitting the text. Inlined, so that an empty
+    /// text comes at once to what copies `added` alone.
+    #[inline(always)]
     pub(super) fn promote_and_append(&mut self, added: &str) -> Result<(), AllocError>
         requires inline { (inlinable_state N self.old).storage ≡ Storage.Inline }
         ensures text { OnOk result ((inlinable_state N self.new).text
@@ -67,9 +67,61 @@ impl<const N: usize> InlinableStringN<N> {
             unreachable!();
         };
         let alloc = *alloc;
+        if text.is_empty() {
+            return self.become_copy(alloc, added);
+        }
+        self.promote_joined(added)
+    }
+
+    /// The same, of any text. Out of line, to keep the inline path small.
+    #[cold]
+    #[inline(never)]
+    fn promote_joined(&mut self, added: &str) -> Result<(), AllocError>
+        requires inline { (inlinable_state N self.old).storage ≡ Storage.Inline }
+        ensures text { OnOk result ((inlinable_state N self.new).text
+            ≡ (inlinable_state N self.old).text ++ chars added.now) }
+        ensures len { OnOk result (size (inlinable_state N self.new).text
+            ≡ size (inlinable_state N self.old).text + length added.now) }
+        ensures storage { OnOk result ((inlinable_state N self.new).storage ≡ Storage.Heap) }
+        ensures room { OnOk result
+            (size (inlinable_state N self.old).text + length added.now
+            ≤ (inlinable_state N self.new).capacity) }
+        ensures err { OnErr result
+            (IsSameText (inlinable_state N self.old) (inlinable_state N self.new)) }
+    {
+        let InlinableStringN::Inline(text, alloc) = self else {
+            unreachable!();
+        };
+        let alloc = *alloc;
         let heap = concat_to_heap(alloc, text.as_str(), added)?;
-        *self = InlinableStringN::Heap(heap, alloc);
+        self.become_heap(alloc, heap);
         Ok(())
+    }
+
+    /// Becomes a copy of `string` on the heap. Out of line, so that few registers are saved.
+    #[cold]
+    #[inline(never)]
+    fn become_copy(&mut self, alloc: Global, string: &str) -> Result<(), AllocError>
+        ensures text { OnOk result ((inlinable_state N self.new).text ≡ chars string.now) }
+        ensures storage { OnOk result ((inlinable_state N self.new).storage ≡ Storage.Heap) }
+        ensures room { OnOk result (length string.now ≤ (inlinable_state N self.new).capacity) }
+        ensures err { OnErr result
+            (IsSameText (inlinable_state N self.old) (inlinable_state N self.new)) }
+    {
+        let heap = String::from_str(alloc, string)?;
+        self.become_heap(alloc, heap);
+        Ok(())
+    }
+
+    /// Becomes a heap text. Inlined, so that the bytes that such a text leaves unused are cleared
+    /// where it is written.
+    #[inline(always)]
+    fn become_heap(&mut self, alloc: Global, heap: String)
+        ensures text { (inlinable_state N self.new).text ≡ chars (string_bytes heap) }
+        ensures capacity { (inlinable_state N self.new).capacity ≡ string_capacity heap }
+        ensures storage { (inlinable_state N self.new).storage ≡ Storage.Heap }
+    {
+        *self = InlinableStringN::Heap(heap, alloc);
     }
 
     /// Like `promote_and_append`, of one character, without a second text to copy.
@@ -129,6 +181,7 @@ fn concat_to_heap(alloc: Global, text: &str, added: &str) -> Result<String, Allo
     ensures room { IfOk result
         (λ made. length text.now + length added.now ≤ string_capacity made) }
 {
+    // No empty text comes here. With this case LLVM's code for the others is shorter.
     if text.is_empty() {
         return String::from_str(alloc, added);
     }

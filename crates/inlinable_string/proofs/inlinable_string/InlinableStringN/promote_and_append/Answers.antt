@@ -1,12 +1,12 @@
-use Rattle.inlinable_string.proofs.Common.{ap, ◌∙◌, ◌++◌, chars, chars-append}
+use Rattle.inlinable_string.proofs.Common.{on_ok_weaker, refl}
 use Rattle.inlinable_string.proofs.Text.{size-pushed_str}
 use Rattle.inlinable_string.proofs.inlinable_string.InlinableStringN.promote_and_append.Goals as goal
 
-pub returns-clause-text : goal.returns-clause-text
-returns-clause-text g c =
-    rw c.in-Inline.is
-    (ap chars c.in_ok-heap.ensures.bytes ∙ chars-append _ _ c.as_str.utf8
-    ∙ ap (λ t. t ++ chars c.args.added.now) c.as_str.ensures.text)
+pub returns-then-is_empty-clause-text : goal.returns-then-is_empty-clause-text
+returns-then-is_empty-clause-text g c =
+    rw (c.in-Inline.is, c.if-is_empty.ensures.text.0 refl) c.become_copy.ensures.text
 
-pub returns-clause-len : goal.returns-clause-len
-returns-clause-len g c = size-pushed_str c.utf8.added _ _ (returns-clause-text g c)
+pub returns-then-is_empty-clause-len : goal.returns-then-is_empty-clause-len
+returns-then-is_empty-clause-len g c =
+    on_ok_weaker c.become_copy.result (size-pushed_str c.utf8.added _ _)
+    (returns-then-is_empty-clause-text g c)
