@@ -65,9 +65,11 @@ const LONG: usize = 300;
 fn a_long_text_gets_an_id_and_a_value(rt: HostRuntime) -> Result<(), Fail> {
     let alloc = rt.alloc();
     let (mut symbols, mut map) = (Symbols::new(alloc), TextMap::new(alloc));
-    let long = "a".repeat(alloc, LONG)?;
-    let are_put = [symbols.intern(&long).is_ok(), map.put(&long, 0).is_ok()];
-    assert!(rt; are_put == [true; 2], "{are_put:?} refused");
+    for bytes in [LONG, 100_000] {
+        let long = "a".repeat(alloc, bytes)?;
+        let are_put = [symbols.intern(&long).is_ok(), map.put(&long, 0).is_ok()];
+        assert!(rt; are_put == [true; 2], "{are_put:?} refused");
+    }
     Ok(())
 }
 

@@ -1,5 +1,5 @@
 //! The words of a text: how often each is used, and where first.
-ghost use Rattle.std.specs.Prelude.{◌≡◌, ◌-◌, ◌^◌, List, [], ℕ, map, IfOk, OnOk, OnErr};
+ghost use Rattle.std.specs.Prelude.{◌≡◌, ◌-◌, ◌^◌, List, [], ℕ, map, IfOk, IsOk, IsSome, OnOk, OnErr};
 ghost use Rattle.std.specs.List.Sorted.{IsPermutation, IsNonDecreasingBy};
 ghost use Rattle.word_index.specs.Index.{use_of, with_use, used, with_words, shown, AreWords};
 
@@ -52,10 +52,12 @@ impl Index {
         Ok(())
     }
 
-    /// Counts one use of a word. If an allocation fails, nothing changes.
+    /// Counts one use of a word. Fails only if an allocation does, and never if the word is known;
+    /// nothing changes then.
     pub fn add(&mut self, word: &str, line: usize) -> Result<(), AllocError>
         ensures ok { OnOk result
             (self.new ≡ with_use self.old word.now (used (use_of self.old word.now) line)) }
+        ensures known { IsSome (use_of self.old word.now) → IsOk result }
         ensures err { OnErr result (self.new ≡ self.old) }
     {
         let uses = self.words.get_or_put(word, Uses { count: 0, line })?;
