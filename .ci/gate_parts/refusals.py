@@ -30,6 +30,7 @@ TEST = re.compile(r'^test (?!result:)(\S+) [^\n]*?(\S+)$(.*?)(?=^test |\Z)', re.
 OF_REFUSALS = re.compile(r'(^|::)refusals::')
 SAYING = re.compile(r'^ +(one|last|none) refused of (\d+) requests, (\d+) unseen$', re.MULTILINE)
 ENDED = re.compile(r'^test result:', re.MULTILINE)
+MODULE = re.compile(r'^(#\[cfg\(test\)\]\nmod (\w+);\n)', re.MULTILINE)
 
 
 def tests_of(said):
@@ -66,22 +67,30 @@ def is_swept(crate):
     """Fails each allocation of a crate in turn; whether all was well."""
     unseen, meetings = {}, 0
     request = requests = PREPARED.get(crate, 0)
-    while request <= requests:
-        request += 1
-        said = run_in(crate_folder(crate), 'rt', 'try', '--test', '--fail-alloc', str(request))[0]
-        sayings, failed = tests_of(said)
-        faults = list(faults_of(request, sayings, unseen))
-        met = sum(which == 'one' for each in sayings.values() for which, _, _ in each)
-        print(f'{crate}: allocation {request} fails: {len(sayings)} tests, {failed} failed, {met} met it', flush=True)
-        if not sayings or failed or faults:
-            print(said, *faults, sep='\n')
-            return False
-        meetings += met
-        requests = max(int(count) for each in sayings.values() for _, count, _ in each)
+    with copies([], 1) as (top,):
+        while request <= requests:
+            request += 1
+            said = said_by_refusals(top, crate, request)
+            sayings, failed = tests_of(said)
+            faults = list(faults_of(request, sayings, unseen))
+            met = sum(which == 'one' for each in sayings.values() for which, _, _ in each)
+            print(f'{crate}: allocation {request} fails: {len(sayings)} tests, {failed} failed, {met} met it', flush=True)
+            if not sayings or failed or faults:
+                print(said, *faults, sep='\n')
+                return False
+            meetings += met
+            requests = max(int(count) for each in sayings.values() for _, count, _ in each)
     least = zip(('requests', 'meetings'), REFUSALS.get(crate, (1, 1)))
     faults = list(too_few({'requests': requests, 'meetings': meetings}, dict(least)))
     print(f'{crate}: up to request {requests} each failed, {meetings} meetings', *faults, sep='\n')
     return not faults
+
+
+def said_by_refusals(top, crate, request):
+    """What the tests of the modules `refusals` print in a copy where an allocation fails."""
+    with Room(top, crate) as room:
+        room.write(with_tests_of({'refusals'}, room))
+        return run_in(room.folder, 'rt', 'try', '--test', '--fail-alloc', str(request))[0]
 
 
 def tried(top, crate, names):
@@ -90,26 +99,42 @@ def tried(top, crate, names):
     if crate == CRATE:
         return wrong_rows(top, names)
     request = PREPARED[crate] + REQUEST_OF_A_CALL if crate in PREPARED else REQUEST
-    said = run_in(crate_folder(crate, top), 'rt', 'try', '--test', '--fail-alloc', str(request))[0]
+    said = said_by_refusals(top, crate, request)
     return said, {name: printed for name, how, printed in TEST.findall(said)
                   if how != 'ok' or list(faults_of(request, {name: SAYING.findall(printed)}, {}))}
 
 
-def tested(top, library, crate):
-    """The same of the proved build, over a library whose bodies keep each contract."""
+def tested(top, library, crate, modules):
+    """The same of the proved build, over a library whose bodies keep each contract, with the tests of these modules
+    alone: each costs a proof."""
     require_proof(top, library, PROCESSORS)
-    said = run_in(crate_folder(crate, top), 'rt', 'test')[0]
+    with Room(top, crate) as room:
+        room.write(with_tests_of(modules, room))
+        said = run_in(room.folder, 'rt', 'test')[0]
     return said, {name: printed for name, how, printed in TEST.findall(said) if how != 'ok'}
+
+
+def with_tests_of(modules, room):
+    """The texts of a crate of tests with those modules of tests alone, and what has no tests."""
+    root, texts = room.text('src/lib.rt'), {}
+    for line, module in MODULE.findall(root):
+        paths = [os.path.relpath(path, room.folder) for end in ('.rt', '/*.rt')
+                 for path in glob(os.path.join(room.folder, 'src', module + end))]
+        if module not in modules and any('#[test]' in room.text(path) for path in paths):
+            texts.update(dict.fromkeys(paths))
+            root = root.replace(line, '')
+    return {**texts, 'src/lib.rt': root}
 
 
 def are_refused(library, edits, named=None):
     """Whether tests go wrong over these wrong bodies of a library as they say, and no other that is named; where
-    no names are given, those of the proved build do, and no other."""
+    no names are given, those of the proved build do, and no other of their modules."""
     goals = [goal for edit in edits for goal in edit.goals]
     crate, own = goals[0].crate, {goal.function for goal in goals}
     with copies([library, crate], 1) as (top,), Room(top, library) as room:
         room.write(texts_with(crate_folder(library), edits))
-        said, found = tested(top, library, crate) if named is None else tried(top, crate, named)
+        modules = {function.split('::')[0] for function in own}
+        said, found = tested(top, library, crate, modules) if named is None else tried(top, crate, named)
     others = found.keys() - own if named is None else named & found.keys() - own
     faults = [f'{goal.function} does not go wrong with `{goal.name}`' for goal in goals
               if goal.name not in re.findall(r'\w+', found.get(goal.function, ''))]

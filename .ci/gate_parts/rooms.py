@@ -88,12 +88,12 @@ class Room(ExitStack):
         return text_of(whole) if os.path.exists(whole) else None
 
     def write(self, texts):
-        """Gives files these texts."""
+        """Gives files these texts, or takes those away that are to have none."""
         for path, text in texts.items():
             whole, before = os.path.join(self.folder, path), self.text(path)
             self.callback(*((os.remove, whole) if before is None else (write_text, whole, before)))
             os.makedirs(os.path.dirname(whole), exist_ok=True)
-            write_text(whole, text)
+            os.remove(whole) if text is None else write_text(whole, text)
 
     def add(self, path, text):
         """Adds to a file that the crate has or lacks."""
