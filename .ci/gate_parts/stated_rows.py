@@ -93,12 +93,14 @@ def played(top, prepared):
 
 @lru_cache(maxsize=None)
 def befores():
-    """How many requests come before the calls of each case, so that its own is the one that is refused."""
-    said = played(TOP, [(case, REQUEST) for case in cases()])
-    granted = [re.match(r'(\d+) granted', answer) or answer for answer in said]
+    """How many requests come before the calls of each case, so that its own is the one that is refused. Which of
+    them that is, and how the calls are made, adds none."""
+    files = {case.file: case for case in cases()}
+    said = dict(zip(files, played(TOP, [(case, REQUEST) for case in files.values()])))
+    granted = [re.match(r'(\d+) granted', said[case.file]) for case in cases()]
     for case, count in zip(cases(), granted):
-        if isinstance(count, str) or int(count[1]) < case.request:
-            raise Failure(f'{case.place}: no request is refused before its calls: {count}')
+        if not count or int(count[1]) < case.request:
+            raise Failure(f'{case.place}: no request is refused before its calls: {said[case.file]}')
     return [int(count[1]) - case.request + 1 for case, count in zip(cases(), granted)]
 
 
