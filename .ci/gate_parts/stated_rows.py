@@ -105,8 +105,9 @@ def befores():
 
 
 def faults_of(top, names=None):
-    """Each case that goes wrong, of the rows with these names or of all, with what is printed of it."""
-    prepared = [(case, before) for case, before in zip(cases(), befores()) if names is None or case.name in names]
+    """Each case that goes wrong, of the rows with these names, or of all and the spoiled ones, with what is printed."""
+    prepared = [(case, before) for case, before in zip(cases(), befores())
+                if names is None or case.name in names and case.place not in SPOILED]
     for (case, _), answer in zip(prepared, played(top, prepared)):
         if answer != f'{case.wanted}, and the next request {"refused" if case.is_last else "granted"}':
             yield case, f'{case.place}, {case.name} by {case.way}, request {case.request}: {answer}'
@@ -116,8 +117,7 @@ def wrong_rows(top, names):
     """What is printed of those of the rows with these names that go wrong: together, and by their names."""
     found = defaultdict(str)
     for case, fault in faults_of(top, names):
-        if case.place not in SPOILED:
-            found[case.name] += fault + '\n'
+        found[case.name] += fault + '\n'
     return ''.join(found.values()), found
 
 
