@@ -52,8 +52,8 @@ impl Index {
         Ok(())
     }
 
-    /// Counts one use of a word. Fails only if an allocation does, and never if the word is known;
-    /// nothing changes then.
+    /// Counts one use of a word. This cannot fail if the word is known. If an allocation fails,
+    /// nothing changes.
     pub fn add(&mut self, word: &str, line: usize) -> Result<(), AllocError>
         ensures ok { OnOk result
             (self.new ≡ with_use self.old word.now (used (use_of self.old word.now) line)) }
