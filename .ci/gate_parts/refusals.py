@@ -4,7 +4,7 @@ The tests of the modules `refusals` must pass each time, and each says what its 
 it makes, and how many of them are unseen, as std does without (`shrink_to_fit` and `collect` do so). One request
 more of each test is its last. A test must say `one refused` where one of its requests fails, except as often as
 it has unseen ones, `last refused` at the next, and `none refused` after it. So a call that allocates where it need
-not is found, even if it does without where that fails. Each allocation is one build of a crate's tests. So that few are
+not is found, even if it does without where that fails. Each allocation is one build of these tests. So that few are
 needed where a call comes after many requests, each test of a crate may make a fixed number before it, which floors.py has; of these
 none fails. Rows of `inline_vectors` that state requests are played by its program, in two builds (`stated_rows.py`).
 Without CRATE the wrong bodies of `wrong-bodies/` and `wrong-bodies-proved/` are tried too, as docs/TESTING.md
