@@ -1,9 +1,11 @@
 //! Why no index was printed, or not to its end.
-ghost use Rattle.std.specs.Prelude.{◌≡◌};
+ghost use Rattle.std.specs.Prelude.{◌≡◌, ◌↔◌};
+ghost use Rattle.std.specs.IoError.{error_kind};
 ghost use Rattle.word_index.specs.declared.fault.Fault.TheVariants.{NoMemory};
 
 use std::alloc::AllocError;
-use std::{fmt, io};
+use std::fmt;
+use std::io::{self, ErrorKind};
 
 /// Why no index was printed, or not to its end.
 #[derive(Clone, Copy, Debug, PartialEq, Eq)]
@@ -22,18 +24,26 @@ pub enum Fault {
 
 impl Fault {
     /// What an error in reading means.
-    pub fn of_reading(error: io::Error) -> Fault {
+    pub fn of_reading(error: io::Error) -> Fault
+        ensures not_utf8 { (result ≡ Fault.NotUtf8) ↔ (error_kind error ≡ ErrorKind.InvalidData) }
+        ensures no_memory { (result ≡ NoMemory) ↔ (error_kind error ≡ ErrorKind.OutOfMemory) }
+        ensures read { (result ≡ Fault.Read) ↔ (¬ (error_kind error ≡ ErrorKind.InvalidData)
+            × ¬ (error_kind error ≡ ErrorKind.OutOfMemory)) }
+    {
         match error.kind() {
-            io::ErrorKind::InvalidData => Fault::NotUtf8,
-            io::ErrorKind::OutOfMemory => Fault::NoMemory,
+            ErrorKind::InvalidData => Fault::NotUtf8,
+            ErrorKind::OutOfMemory => Fault::NoMemory,
             _ => Fault::Read,
         }
     }
 
     /// What an error in writing means.
-    pub fn of_writing(error: io::Error) -> Fault {
+    pub fn of_writing(error: io::Error) -> Fault
+        ensures no_memory { (result ≡ NoMemory) ↔ (error_kind error ≡ ErrorKind.OutOfMemory) }
+        ensures write { (result ≡ Fault.Write) ↔ ¬ (error_kind error ≡ ErrorKind.OutOfMemory) }
+    {
         match error.kind() {
-            io::ErrorKind::OutOfMemory => Fault::NoMemory,
+            ErrorKind::OutOfMemory => Fault::NoMemory,
             _ => Fault::Write,
         }
     }
