@@ -51,8 +51,8 @@ BESIDE_OF_EACH = dict.fromkeys((
           'reserve_exact', 'promotes'),
     *each(f'{SCRIPTS} string', '0 2 command heap'), *each(SCRIPTS, 'inline')), 50)
 
-# The cases of `replay/named_cases.py`.
-NAMED_CASES = 70
+# The cases of `replay/named_cases.py`, of `inline_script` and of `word_index`.
+NAMED_CASES, WORD_CASES = 70, 13
 
 # Hostile inputs: how many, and how many of them must be accepted and so run, and lead to each fault and to
 # each reply. (No input brings about an allocation failure before a run.)

@@ -1,6 +1,6 @@
-"""Runs of `inline_script` with the outputs and statuses that they must have, by hand from the rules.
+"""Runs of `inline_script` and `word_index` with what they must print and end with, by hand from the rules.
 
-Each is named for what it shows: words, input, streams where they are not files, output, and status.
+Each is named for what it shows: words, input, streams where they are not files, what is printed, and status.
 """
 
 
@@ -88,3 +88,13 @@ CASES = (
     ('nobody_reads_a_long_text', ['heap'], b'push_str ' + b'a' * 65527, 'stdout-closed', b'', 1),
     ('line_of_a_fault_is_lost', ['inline'], b'?\n', 'stdout-full', b'', 2),
     ('line_of_a_long_input_is_lost', ['inline8'], b'\n' * 65537, 'stdout-closed', b'', 2))
+WORDS = (
+    *((f'bad_arguments_{words}', words, b'a', '', b'word_index: usage: word_index [--top N] < TEXT\n', 2)
+      for words in (['--top'], ['3'], ['--top', '-1'], ['--top', ''], ['--top', '3', '3'], ['--most', '3'], [b'\xff'])),
+    ('all_words', [], b' b c\n\nb  a\n', '', b'      2       1 b\n      1       3 a\n      1       1 c\n', 0),
+    ('no_word_of_them', ['--top', '0'], b'a', '', b'', 0),
+    ('input_that_is_not_utf8', [], b'a\nb \xff\n', '', b'word_index: the input is not UTF-8\n', 2),
+    ('failed_read_of_words', [], b'', 'stdin-dir', b'word_index: the input cannot be read\n', 2),
+    ('failed_write_of_words', [], b'a', 'stdout-full', b'word_index: the output cannot be written\n', 2),
+    ('long_words_and_progress', ['--top', '1'], b'a\n' * 100_000 + b'l' * 100_000, '',
+     b'word_index: 100000 lines\n %d       1 a\n' % 100_000, 0))

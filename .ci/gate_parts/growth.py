@@ -24,10 +24,9 @@ WORDS_OF_A_LINE = 8
 
 
 def text_of_words(size):
-    """As many lines, each of one word many times over, some two thirds of them different; then a word of 100,000 bytes."""
+    """As many lines, each of one word many times over. Some two thirds of these are different ones."""
     draw = Draw(SEED)
-    lines = [f'word{draw.randrange(size)} ' * WORDS_OF_A_LINE for _ in range(size)]
-    return '\n'.join([*lines, 'l' * 100_000 + '\n']).encode()
+    return ''.join(f'word{draw.randrange(size)} ' * WORDS_OF_A_LINE + '\n' for _ in range(size)).encode()
 
 
 def case_of(job, size):

@@ -1,9 +1,9 @@
 """gate hostile [PROGRAM ..]: runs each program on stored cases and on hostile inputs.
 
-Without PROGRAM they are the two builds of `inline_script` that `rt ci` leaves. Of each run the whole
-standard output and the exit status must be those of the case: of `replay/named_cases.py`, or for generated
-inputs those of `language.py`. Where the standard output takes no byte, or nobody reads it, the status alone
-can be compared. No input asks for memory that one machine grants and another refuses.
+Without PROGRAM they are the two builds of `inline_script` that `rt ci` leaves, and those of `word_index`, on
+stored cases alone. Of each run all that is printed and the exit status must be those of the case: of
+`replay/named_cases.py`, or for generated inputs those of `language.py`. What the standard output doesn't take
+can't be compared. No input asks for memory that one machine grants and another refuses.
 """
 import re
 import runpy
@@ -11,7 +11,7 @@ from collections import Counter
 from contextlib import suppress
 from functools import partial
 
-from floors import HOSTILE, HOSTILE_INPUTS, NAMED_CASES
+from floors import HOSTILE, HOSTILE_INPUTS, NAMED_CASES, WORD_CASES
 from gate_parts.draw import SEED, Draw
 from gate_parts.encodings import nearly_utf8
 from gate_parts.good_scripts import good_lines, good_script, line_of
@@ -119,9 +119,9 @@ def hostile_case(number):
             return case, ends, *('char' if reply.startswith('char ') else reply for reply in replies)
 
 
-def named_cases(count=NAMED_CASES, path=NAMED):
-    """Those of a file: so many, each with a name of its own, a status and a known stream."""
-    cases = [Case(*each) for each in runpy.run_path(path)['CASES']]
+def named_cases(count=NAMED_CASES, path=NAMED, program='CASES'):
+    """Those of a file for a program: so many, each with a name of its own, a status and a known stream."""
+    cases = [Case(*each) for each in runpy.run_path(path)[program]]
     whole = {case.name for case in cases if isinstance(case.status, int) and case.io in ('', *STREAMS)}
     if not len(whole) == len(cases) == count:
         raise Failure(f'{path} has not {count} cases of different names, with a status and a known stream')
@@ -160,4 +160,5 @@ def are_right(builds, cases, count):
 
 
 def main(given):
-    return are_right(chosen(given.programs, 'inline_script'), named_cases(), HOSTILE_INPUTS)
+    return all([are_right(chosen(given.programs, 'inline_script'), named_cases(), HOSTILE_INPUTS),
+                given.programs or are_right(chosen([], 'word_index'), named_cases(WORD_CASES, NAMED, 'WORDS'), 0)])

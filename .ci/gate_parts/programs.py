@@ -37,7 +37,7 @@ def chosen(words, crate):
 
 
 def run(program, case):
-    """The standard output and the exit status of one run; the status is in words where it did not end."""
+    """What one run prints, to either output, and its exit status; this is in words where it did not end."""
     stdin, feed = input_of(case)
     output = os.memfd_create('output')
     stdout = os.open('/dev/full', os.O_WRONLY) if case.io == 'stdout-full' else os.dup(
@@ -45,7 +45,7 @@ def run(program, case):
     try:
         if feed is not None:
             threading.Thread(target=feed_in_parts, args=(feed, case.input), daemon=True).start()
-        status = subprocess.run([program, *case.words], stdin=stdin, stdout=stdout, stderr=subprocess.DEVNULL,
+        status = subprocess.run([program, *case.words], stdin=stdin, stdout=stdout, stderr=output,
                                 timeout=SECONDS, check=False).returncode
     except subprocess.TimeoutExpired:
         status = 'too slow'

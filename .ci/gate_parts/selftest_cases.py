@@ -71,9 +71,9 @@ NO_REFUSAL = (
     './proofs/a/Answers.antt:1:1: error: `returns`: `c.requires` has no field `place`',
     './proofs/a/Answers.antt:1:1: error: `returns`: record `After-push`\n  has no field `new`')
 # Scripts of the shell, the streams of their runs, and what comes of it.
-RUNS = (('cat', '', (b'input', 0)), ('cat', 'stdin-pipe', (b'input', 0)), ('exec cat', 'stdin-dir', (b'', 1)),
-        ('echo told; exit 3', '', (b'told\n', 3)), ('echo told; kill -6 $$', '', (b'told\n', -6)),
-        ('head -c 2', 'stdin-zero', (b'\0\0', 0)), ('exec cat', 'stdout-full', (b'', 1)),
+RUNS = (('cat', '', (b'input', 0)), ('cat', 'stdin-pipe', (b'input', 0)), ('exec cat 2>&-', 'stdin-dir', (b'', 1)),
+        ('echo told >&2; exit 3', '', (b'told\n', 3)), ('echo told; kill -6 $$', '', (b'told\n', -6)),
+        ('head -c 2', 'stdin-zero', (b'\0\0', 0)), ('exec cat 2>&-', 'stdout-full', (b'', 1)),
         ('exec cat', 'stdout-closed', (b'', -13)))
 # What a program may do otherwise than it must.
 LINE_FAULTS = {
