@@ -48,18 +48,11 @@ fn boxed_texts_of_each_storage_have_the_same_replies(rt: HostRuntime) {
     let mut texts = texts_of(&rt, rt.alloc(), ["x", "x", "x", "x"]);
     assert!(&rt; texts.len() == 4);
     run_each(&mut texts, &[], &mut []);
-    assert!(&rt;
-        are_texts(
-            &texts,
-            &[("x", Heap), ("x", Inline), ("x", Heap), ("x", Heap)]
-        )
-    );
+    let same = [("x", Heap), ("x", Inline), ("x", Heap), ("x", Heap)];
+    assert!(&rt; are_texts(&texts, &same));
     let mut replies = [NotUtf8; 16];
-    run_each(
-        &mut texts,
-        &[PushStr("y"), Remove(0), Pop, Pop],
-        &mut replies,
-    );
+    let commands = [PushStr("y"), Remove(0), Pop, Pop];
+    run_each(&mut texts, &commands, &mut replies);
     for own in replies.chunks(4) {
         assert!(&rt; own == [Done, Char('x'), Char('y'), NoChar].as_slice());
     }
@@ -78,11 +71,8 @@ fn unlike_texts_have_unlike_replies(rt: HostRuntime) {
     let mut texts = texts_of(&rt, rt.alloc(), ["a", "é", "hello", "€"]);
     assert!(&rt; texts.len() == 4);
     let mut replies = [NotUtf8; 16];
-    run_each(
-        &mut texts,
-        &[Truncate(1), PushStr("7 bytes"), Pop, Remove(1)],
-        &mut replies,
-    );
+    let commands = [Truncate(1), PushStr("7 bytes"), Pop, Remove(1)];
+    run_each(&mut texts, &commands, &mut replies);
     let placed = [Done, Done, Char('s'), Char('7')];
     let misplaced = [BadPlace, Done, Char('s'), BadPlace];
     for (i, own) in replies.chunks(4).enumerate() {
@@ -117,11 +107,8 @@ fn each_text_fails_to_allocate_by_itself(rt: HostRuntime) {
     for (replies, own) in replies.chunks(2).zip(&own) {
         assert!(&rt; replies == own.as_slice());
     }
-    run_each(
-        &mut texts,
-        &[ReserveExact(usize::MAX), Push('é')],
-        &mut replies,
-    );
+    let commands = [ReserveExact(usize::MAX), Push('é')];
+    run_each(&mut texts, &commands, &mut replies);
     for replies in replies.chunks(2) {
         assert!(&rt; replies == [NoMemory, Done].as_slice());
     }

@@ -56,10 +56,8 @@ fn assert_failed_at(
     };
     assert!(rt; answer == wanted, "{error:?} at {write}");
     assert!(rt; OUTPUT.starts_with(written), "{error:?} at {write}");
-    assert!(rt;
-        has_failed == (taken < OUTPUT.len()),
-        "{error:?} at {write}"
-    );
+    let is_cut = taken < OUTPUT.len();
+    assert!(rt; has_failed == is_cut, "{error:?} at {write}");
     Ok(has_failed)
 }
 

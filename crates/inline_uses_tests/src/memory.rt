@@ -4,7 +4,6 @@ use crate::names::name;
 use inline_uses::store::Store;
 use inline_uses::symbols::Symbols;
 use inline_uses::text_map::TextMap;
-use std::alloc::{AllocError, Global};
 use std::process::Abort;
 use std::test::Fail;
 use test_support::{Hoard, NEEDS_THE_PROVED_BUILD};
@@ -94,12 +93,8 @@ fn room_is_doubled(rt: HostRuntime) {
 }
 
 /// Whether a new text gets an id after others, while all memory but these bytes is held.
-fn is_enough(
-    rt: &impl Abort,
-    alloc: Global,
-    texts: usize,
-    bytes: usize,
-) -> Result<bool, AllocError> {
+fn is_enough(rt: &(impl Abort + AllocGlobal), texts: usize, bytes: usize) -> Result<bool, Fail> {
+    let alloc = rt.alloc();
     let mut symbols = Symbols::new(alloc);
     assert!(rt; first_refused(&mut symbols, 0, texts).is_none());
     let spare: Vec<u8> = Vec::with_capacity(alloc, bytes)?;
@@ -113,7 +108,7 @@ fn is_enough(
 /// Room for four texts, and for an index of four.
 #[test]
 fn two_kib_are_enough_for_the_first_text(rt: HostRuntime) -> Result<(), Fail> {
-    let is_enough = is_enough(&rt, rt.alloc(), 0, 2048)?;
+    let is_enough = is_enough(&rt, 0, 2048)?;
     assert!(rt; is_enough, "more was needed");
     Ok(())
 }
@@ -121,7 +116,7 @@ fn two_kib_are_enough_for_the_first_text(rt: HostRuntime) -> Result<(), Fail> {
 /// Room for 512 texts, and for a run of its own for half of the ids.
 #[test]
 fn some_kib_are_enough_to_split_a_run(rt: HostRuntime) -> Result<(), Fail> {
-    let is_enough = is_enough(&rt, rt.alloc(), 256, 65_536)?;
+    let is_enough = is_enough(&rt, 256, 65_536)?;
     assert!(rt; is_enough, "more was needed");
     Ok(())
 }

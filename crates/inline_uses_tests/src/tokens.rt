@@ -2,24 +2,21 @@
 use inlinable_string::InlineStringN;
 use inline_uses::tokens::{Fault, Position, count_tokens};
 
-/// Texts with two faults, of which the first is found, where words have eight bytes.
-const FAULTS: &[(&str, Fault)] = &[
-    ("\"abcdefgh\\n\\q", Fault::TooLong),
-    ("\"abcdefghi\\q", Fault::TooLong),
-    ("\"abcdefghi", Fault::TooLong),
-    ("\"abcd\\nefgh", Fault::TooLong),
+/// Texts that are too long for a word of eight bytes, and then have a second fault.
+const TOO_LONG: [&str; 4] = [
+    "\"abcdefgh\\n\\q",
+    "\"abcdefghi\\q",
+    "\"abcdefghi",
+    "\"abcd\\nefgh",
 ];
 
 #[test]
 fn what_comes_first_is_found_first_and_the_buffer_is_empty(rt: HostRuntime) {
     let start = Position { line: 1, column: 1 };
-    for (source, fault) in FAULTS {
+    for source in TOO_LONG {
         let mut word: InlineStringN<8> = InlineStringN::new();
-        let counted = count_tokens(&mut word, source);
-        assert!(rt;
-            counted == Err((*fault, start)) && word.is_empty(),
-            "{source}"
-        );
+        let is_first = count_tokens(&mut word, source) == Err((Fault::TooLong, start));
+        assert!(rt; is_first && word.is_empty(), "{source}");
     }
 }
 

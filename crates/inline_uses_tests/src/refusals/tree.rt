@@ -36,22 +36,17 @@ impl Call for TreeCall {
     fn make(self, _: Global, tree: &mut Tree) -> Result<bool, AllocError> {
         match self {
             Add => is_added(tree, GREATEST),
-            NotAdded => {
-                let added = [
-                    tree.add(None, "000001"),
-                    tree.add(Some(2), "000001"),
-                    tree.add(None, UNKNOWN),
-                ];
-                Ok(added == [Err(Fault::Taken), Err(Fault::NoNode), Err(Fault::LongKey)])
-            }
-            Child => {
-                let found = [
-                    tree.child(None, "000001"),
-                    tree.child(Some(0), "000001"),
-                    tree.child(None, UNKNOWN),
-                ];
-                Ok(found == [Some(1), None, None] && tree.node(1).is_some())
-            }
+            NotAdded => Ok(
+                tree.add(None, "000001") == Err(Fault::Taken)
+                    && tree.add(Some(2), "000001") == Err(Fault::NoNode)
+                    && tree.add(None, UNKNOWN) == Err(Fault::LongKey),
+            ),
+            Child => Ok(
+                tree.child(None, "000001") == Some(1)
+                    && tree.child(Some(0), "000001").is_none()
+                    && tree.child(None, UNKNOWN).is_none()
+                    && tree.node(1).is_some(),
+            ),
         }
     }
 }
