@@ -10,12 +10,7 @@ use test_support::{Hoard, NEEDS_THE_PROVED_BUILD};
 
 /// Gives ids to the texts of these numbers. The first that gets none.
 fn first_refused(symbols: &mut Symbols, from: usize, to: usize) -> Option<usize> {
-    for number in from..to {
-        if symbols.intern(name(number).as_str()).is_err() {
-            return Some(number);
-        }
-    }
-    None
+    (from..to).find(|number| symbols.intern(name(*number).as_str()).is_err())
 }
 
 /// Puts the empty text under the keys of these numbers, and deletes the key that came `most` before

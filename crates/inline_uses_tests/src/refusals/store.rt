@@ -50,12 +50,7 @@ impl Call for StoreCall {
 
 /// Deletes these keys, and returns whether each was there.
 fn are_deleted(store: &mut Store, keys: &[&str]) -> bool {
-    for key in keys {
-        if !store.delete(key) {
-            return false;
-        }
-    }
-    true
+    keys.iter().all(|key| store.delete(key))
 }
 
 #[test]

@@ -53,12 +53,7 @@ impl Call for SymbolsCall {
 
 /// Whether each number is found by its text.
 fn are_found(symbols: &Symbols) -> bool {
-    for id in 0..symbols.len() {
-        if symbols.find(name(id).as_str()).is_none() {
-            return false;
-        }
-    }
-    true
+    (0..symbols.len()).all(|id| symbols.find(name(id).as_str()).is_some())
 }
 
 /// The texts, and the marks of the first run.

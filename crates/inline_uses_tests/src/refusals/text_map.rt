@@ -60,14 +60,8 @@ impl Call for MapCall {
 
 /// Deletes the keys of these numbers, and returns whether each was there.
 fn are_deleted(map: &mut TextMap<usize>, ranges: &[(usize, usize)]) -> bool {
-    for (from, to) in ranges {
-        for number in *from..*to {
-            if map.delete(name(number).as_str()).is_none() {
-                return false;
-            }
-        }
-    }
-    true
+    let mut numbers = ranges.iter().flat_map(|(from, to)| *from..*to);
+    numbers.all(|number| map.delete(name(number).as_str()).is_some())
 }
 
 /// The entries, and the marks of the first run.
