@@ -24,11 +24,8 @@ fn words_in(string: &str) -> usize {
 
 /// The sum of the bytes of any value that lends some.
 fn sum_of<T: AsSlice<u8>>(value: &T) -> usize {
-    let mut sum = 0usize;
-    for byte in value.as_slice() {
-        sum = sum.saturating_add(usize::from(*byte));
-    }
-    sum
+    let bytes = value.as_slice().iter();
+    bytes.fold(0usize, |sum, byte| sum.saturating_add(usize::from(*byte)))
 }
 
 /// Whether any value that lends a string lends this one.
