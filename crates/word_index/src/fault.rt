@@ -1,5 +1,5 @@
 //! Why no index was printed, or not to its end.
-ghost use Rattle.std.specs.Prelude.{◌≡◌, ◌↔◌};
+ghost use Rattle.std.specs.Prelude.{◌≡◌, ◌≢◌, ◌↔◌};
 ghost use Rattle.std.specs.IoError.{error_kind};
 ghost use Rattle.word_index.specs.declared.fault.Fault.TheVariants.{NoMemory};
 
@@ -26,9 +26,9 @@ impl Fault {
     /// What an error in reading means.
     pub fn of_reading(error: io::Error) -> Fault
         ensures not_utf8 { (result ≡ Fault.NotUtf8) ↔ (error_kind error ≡ ErrorKind.InvalidData) }
-        ensures no_memory { (result ≡ NoMemory) ↔ (error_kind error ≡ ErrorKind.OutOfMemory) }
-        ensures read { (result ≡ Fault.Read) ↔ (¬ (error_kind error ≡ ErrorKind.InvalidData)
-            × ¬ (error_kind error ≡ ErrorKind.OutOfMemory)) }
+        ensures no_memory { (result ≡ Fault.NoMemory) ↔ (error_kind error ≡ ErrorKind.OutOfMemory) }
+        ensures read { (result ≡ Fault.Read) ↔ (error_kind error ≢ ErrorKind.InvalidData
+            × error_kind error ≢ ErrorKind.OutOfMemory) }
     {
         match error.kind() {
             ErrorKind::InvalidData => Fault::NotUtf8,
@@ -39,8 +39,8 @@ impl Fault {
 
     /// What an error in writing means.
     pub fn of_writing(error: io::Error) -> Fault
-        ensures no_memory { (result ≡ NoMemory) ↔ (error_kind error ≡ ErrorKind.OutOfMemory) }
-        ensures write { (result ≡ Fault.Write) ↔ ¬ (error_kind error ≡ ErrorKind.OutOfMemory) }
+        ensures no_memory { (result ≡ Fault.NoMemory) ↔ (error_kind error ≡ ErrorKind.OutOfMemory) }
+        ensures write { (result ≡ Fault.Write) ↔ (error_kind error ≢ ErrorKind.OutOfMemory) }
     {
         match error.kind() {
             ErrorKind::OutOfMemory => Fault::NoMemory,
