@@ -8,16 +8,15 @@ by their last names: an edit that names another of the same name leaves that one
 import os
 import re
 from collections import Counter, namedtuple
-from concurrent.futures import ThreadPoolExecutor
 from functools import lru_cache
 from time import monotonic
 
 from floors import EDITS, MUST_FAIL
 from gate_parts.edit_files import (
     edits_of, place_of, read_edit, refuse_repetitions, require_as_many, texts_with)
-from gate_parts.rooms import Room, copy_kept, require_proof, require_proofs, said_of, tried_in_copies
+from gate_parts.rooms import Room, require_below, require_proofs, said_of, tried_in_copies
 from gate_parts.said import answers_of, refused_in
-from gate_parts.tree import TOP, Failure, below, crate_folder, crates_with, text_of
+from gate_parts.tree import Failure, crate_folder, crates_with, text_of
 
 OPTIONS = 'crates --named --proved --jobs'
 FOLDER, ALONE = 'must-fail-together', 'must-fail'
@@ -185,31 +184,15 @@ def prepared(crate, named):
     return [(crate, group) for group in groups]
 
 
-def tried_as_built(tasks, jobs, functions):
-    """Whether each group is refused, as soon as what its crate stands on is built. One job builds that, beside the groups of
-    crates that stand on none: several jobs would take a third more of the processor for it."""
-    with ThreadPoolExecutor(1) as builder:
-        built = {library: builder.submit(require_proof, TOP, library, 1) for library in sorted(below(functions))}
-
-        def tried_over(top, task):
-            for library in below(task[:1]):
-                built[library].result()
-                copy_kept(top, library)
-            return tried(top, task)
-
-        return tried_in_copies([], jobs, tried_over, tasks)
-
-
 def main(given):
     crates = given.crates or sorted({*crates_with(FOLDER), *crates_with(ALONE), *EDITS, *MUST_FAIL})
-    # those that wait for least, and of many edits, first, so that at the end no processor is left alone with a long check
+    # those of many edits first, so that at the end no processor is left alone with a long check
     tasks = sorted((task for crate in crates for task in prepared(crate, given.named)),
-                   key=lambda task: (len(below(task[:1])), -len(task[1])))
+                   key=lambda task: -len(task[1]))
     functions = {crate: functions_of([edit for other, group in tasks if other == crate for edit in group])
                  for crate, _ in tasks}
-    if not given.proved:
-        require_proofs(given.jobs, functions)
-    well = tried_as_built(tasks, given.jobs, functions)
+    (require_below if given.proved else require_proofs)(given.jobs, functions)
+    well = tried_in_copies(sorted(functions), given.jobs, tried, tasks)
     good = sum(len(group) for (_, group), is_well in zip(tasks, well) if is_well)
     others = sum(len(group) for _, group in tasks) - good
     print(f'{good} edits refused as they say, {others} in checks that are not as they must be')

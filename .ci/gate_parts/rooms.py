@@ -56,13 +56,6 @@ def copies(crates, count):
         yield tops
 
 
-def copy_kept(top, crate):
-    """Gives a copy of the crate what the tree's own checks have kept of it, if it has none yet."""
-    out = os.path.join(crate_folder(crate, top), 'out')
-    if not os.path.exists(out):
-        shutil.copytree(os.path.join(crate_folder(crate), 'out'), out, symlinks=True)
-
-
 def tried_in_copies(crates, jobs, work, tasks):
     """What `work` answers of each task and a copy of the crates that no other task uses meanwhile."""
     if not tasks:
