@@ -4,6 +4,9 @@ use crate::names::name;
 use inline_uses::store::Store;
 use inline_uses::symbols::Symbols;
 use inline_uses::text_map::TextMap;
+use inline_uses::tree::Tree;
+use serde_json::{Map, Value};
+use std::alloc::{AllocError, Global};
 use std::process::Abort;
 use std::test::Fail;
 use test_support::{Hoard, NEEDS_THE_PROVED_BUILD};
@@ -132,4 +135,67 @@ fn a_queue_needs_no_more_memory(rt: HostRuntime) {
     drop(hoard);
     assert!(rt; refused.is_none(), "{refused:?} refused");
     assert!(rt; is_little, "more was kept");
+}
+
+/// At the front, in the middle and at the end: the first number of 20 that are deleted, each two
+/// more than the one before it, the first number of those that are put, and their step.
+const PLACES: &[(usize, usize, usize)] = &[(400, 300, 1), (480, 401, 2), (560, 600, 1)];
+
+/// Fills a store with the keys of each second number from 400 to 600, and while all memory is held
+/// deletes those of a place and puts others there. How many, until one is refused.
+fn put_without_memory(
+    rt: &impl Abort,
+    alloc: Global,
+    is_falling: bool,
+    &(old, new, step): &(usize, usize, usize),
+) -> Result<usize, AllocError> {
+    let mut store = Store::new(alloc);
+    for turn in 0..100usize {
+        let at = if is_falling { 99 - turn } else { turn };
+        store.put(name(400 + 2 * at).as_str(), "")?;
+    }
+    let hoard = Hoard::take(alloc).expect(rt, NEEDS_THE_PROVED_BUILD);
+    for turn in 0..20usize {
+        store.delete(name(old.saturating_add(2 * turn)).as_str());
+    }
+    let mut put = 0;
+    for turn in 0..100usize {
+        let key = name(new.saturating_add(step.saturating_mul(turn)));
+        if store.put(key.as_str(), "").is_err() {
+            break;
+        }
+        put = turn + 1;
+    }
+    drop(hoard);
+    Ok(put)
+}
+
+/// There is room for 128, since it is doubled.
+#[test]
+fn without_memory_keys_take_what_room_there_is(rt: HostRuntime) -> Result<(), Fail> {
+    for is_falling in [false, true] {
+        for place in PLACES {
+            let put = put_without_memory(&rt, rt.alloc(), is_falling, place)?;
+            assert!(rt; put == 48, "{put} taken, {is_falling} {place:?}");
+        }
+    }
+    Ok(())
+}
+
+/// A JSON object of members that are each an empty object.
+fn flat(alloc: Global, members: usize) -> Result<Value, Fail> {
+    let mut value = Map::new(alloc);
+    for i in 0..members {
+        let key = format!(in alloc; "key {i}")?;
+        drop(value.insert(key, Value::Object(Map::new(alloc)))?);
+    }
+    Ok(Value::Object(value))
+}
+
+#[test]
+fn a_flat_object_of_many_is_read_and_written(rt: HostRuntime) -> Result<(), Fail> {
+    let (alloc, value) = (rt.alloc(), flat(rt.alloc(), 32_000)?);
+    let tree = Tree::from_json(alloc, &value).map_err(|_| "refused")?;
+    assert!(rt; tree.to_json(alloc).is_ok_and(|shown| shown == value));
+    Ok(())
 }

@@ -1,14 +1,11 @@
-//! Stores as bytes, and what room their entries use where there is no memory.
-use crate::names::name;
+//! Stores as bytes.
 use inlinable_string::InlinableString;
 use inline_uses::store::Store;
 use inline_uses::store::json::{ReadError, copied};
 use inline_uses::text_map::TextMap;
-use std::alloc::{AllocError, Global};
-use std::process::Abort;
+use std::alloc::Global;
 use std::test::Fail;
 use test_support::letters::LETTERS_31;
-use test_support::{Hoard, NEEDS_THE_PROVED_BUILD};
 
 /// Keys with their values, and the JSON of the store that has them.
 const ENTRIES: &[(&str, &str)] = &[("é\"", "\n€"), ("", ""), (LETTERS_31, LETTERS_31)];
@@ -54,49 +51,4 @@ fn bytes_of_no_store_are_told_from_an_allocation_failure(rt: HostRuntime) {
     for end in 0..JSON.len() {
         assert!(rt; is_no_store(rt.alloc(), &JSON.as_bytes()[..end]));
     }
-}
-
-/// At the front, in the middle and at the end: the first number of 20 that are deleted, each two
-/// more than the one before it, the first number of those that are put, and their step.
-const PLACES: &[(usize, usize, usize)] = &[(400, 300, 1), (480, 401, 2), (560, 600, 1)];
-
-/// Fills a store with the keys of each second number from 400 to 600, and while all memory is held
-/// deletes those of a place and puts others there. How many, until one is refused.
-fn put_without_memory(
-    rt: &impl Abort,
-    alloc: Global,
-    is_falling: bool,
-    &(old, new, step): &(usize, usize, usize),
-) -> Result<usize, AllocError> {
-    let mut store = Store::new(alloc);
-    for turn in 0..100usize {
-        let at = if is_falling { 99 - turn } else { turn };
-        store.put(name(400 + 2 * at).as_str(), "")?;
-    }
-    let hoard = Hoard::take(alloc).expect(rt, NEEDS_THE_PROVED_BUILD);
-    for turn in 0..20usize {
-        store.delete(name(old.saturating_add(2 * turn)).as_str());
-    }
-    let mut put = 0;
-    for turn in 0..100usize {
-        let key = name(new.saturating_add(step.saturating_mul(turn)));
-        if store.put(key.as_str(), "").is_err() {
-            break;
-        }
-        put = turn + 1;
-    }
-    drop(hoard);
-    Ok(put)
-}
-
-/// There is room for 128, since it is doubled.
-#[test]
-fn without_memory_keys_take_what_room_there_is(rt: HostRuntime) -> Result<(), Fail> {
-    for is_falling in [false, true] {
-        for place in PLACES {
-            let put = put_without_memory(&rt, rt.alloc(), is_falling, place)?;
-            assert!(rt; put == 48, "{put} taken, {is_falling} {place:?}");
-        }
-    }
-    Ok(())
 }
