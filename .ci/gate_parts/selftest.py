@@ -80,8 +80,8 @@ turns=$3
 echo "$turns"
 while [ "$turns" -gt 0 ]; do turns=$((turns - 1)); done
 '''
-# Four times the size takes 64 times as long: a machine that is slow for a while does not hide it.
-CUBED = '$((turns * turns / 30000 * turns / 60000))'
+# Four times the size takes 32 times as long: a machine that is slow for a while does not hide it.
+STEEP = '$((turns * turns / 60000 * (turns / 30000 + 2) / 3))'
 # It finds a row wrong that has that word.
 PLAYING = '''#!/bin/sh
 cat "$@" >/dev/null || exit 2
@@ -224,7 +224,7 @@ BROKEN = (
     ('bench', 'missing, or of no workload: from 6', 'bench/sums', '11 from 6\n', ''),
     ('bench', 'nothing was summed: from 6', 'bench/sums', '11', '0'),
     *(('bench', 'must be from 2 to 8', program, 'echo', f'turns={turns}; echo') for program, turns in (
-        (JOBS, CUBED), (WORDS, CUBED), (JOBS, '30000'))),
+        (JOBS, STEEP), (WORDS, STEEP), (JOBS, '30000'))),
     ('bench', 'too short to be compared', JOBS, 'echo', 'turns=1; echo'),
     *(('bench', 'must end with 0 and print the same', JOBS, *answer) for answer in (
         ('echo "$turns"\n', ''), ('"$turns"\n', '$$\n'), ('; done\n', '; done\nexit 3\n'))),
