@@ -2,7 +2,7 @@
 use inlinable_string::Storage;
 
 /// What a call answers.
-#[derive(Drop, Debug, PartialEq)]
+#[derive(Drop, PartialEq)]
 pub enum Answer {
     /// How it came out: one of [`WORDS`].
     Word(&'static str),

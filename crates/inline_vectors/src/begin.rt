@@ -10,7 +10,7 @@ const NOT_TYPE: Fault = Fault("not a type of text");
 const NOT_START: Fault = Fault("`room`, `after` and `before` come once, with a number or a text");
 
 /// A type of text. The number is the capacity inline.
-#[derive(Clone, Copy, Debug, PartialEq, Eq)]
+#[derive(Clone, Copy, PartialEq, Eq)]
 pub enum Kind {
     /// `InlineStringN`.
     Array(usize),
@@ -23,7 +23,7 @@ pub enum Kind {
 }
 
 /// How a text is made: empty or with room, with more before it and after it at first.
-#[derive(Drop, Debug, PartialEq)]
+#[derive(Drop, PartialEq)]
 pub struct Start {
     pub text: String,
     pub room: Option<usize>,

@@ -5,7 +5,7 @@ use std::alloc::{AllocError, AllocFailed, Global};
 use std::fmt;
 
 /// Why a row is not read or not played, in words.
-#[derive(Clone, Copy, Debug, PartialEq, Eq)]
+#[derive(Clone, Copy, PartialEq, Eq)]
 pub struct Fault(pub &'static str);
 
 /// The type lacks a call of the row.
@@ -45,7 +45,7 @@ impl From<NotEnoughSpaceError> for Fault {
 }
 
 /// Why a file or a line is not read.
-#[derive(Drop, Debug)]
+#[derive(Drop)]
 pub struct RowFault {
     /// The number of the first line of the row, from 1 on.
     pub line: usize,

@@ -34,7 +34,7 @@ pub struct Step {
 }
 
 /// What memory a call has.
-#[derive(Clone, Copy, Debug, PartialEq, Eq)]
+#[derive(Clone, Copy, PartialEq, Eq)]
 pub enum Memory {
     Ample,
     /// None: each request is refused.
