@@ -77,7 +77,7 @@ UNSAFE = {'library': 13, 'others': 3}
 # For `gate quick`: functions of the library that are proved, and by crate, tests that must pass without being
 # proved, and how many at most may say that they need the proved build.
 QUICK_PROVED = 14
-TRIED = {'inline_tests': (13, 4), 'inline_uses_tests': (60, 5)}
+TRIED = {'inline_tests': (9, 4), 'inline_uses_tests': (60, 5)}
 
 # Workloads of the bench, and on how many of them each type of text is run.
 BENCH_WORKLOADS = 82

@@ -80,18 +80,3 @@ fn a_text_in_an_array_is_used_as_a_str(rt: HostRuntime) {
         }
     }
 }
-
-/// Appends a string that fits.
-fn append(text: &mut InlineString, string: &str) {
-    if string.len() <= 30 - text.len() {
-        *text += string;
-    }
-}
-
-#[test]
-fn a_string_that_fits_is_appended_by_an_operator(rt: HostRuntime) {
-    let mut text = InlineString::new();
-    append(&mut text, "he");
-    append(&mut text, "llo");
-    assert!(&rt; text.as_str() == "hello");
-}

@@ -60,13 +60,6 @@ fn boxed_texts_of_each_storage_have_the_same_replies(rt: HostRuntime) {
 }
 
 #[test]
-fn no_texts_have_no_replies(rt: HostRuntime) {
-    let mut texts: Vec<Boxed> = Vec::new(rt.alloc());
-    run_each(&mut texts, &[Pop], &mut []);
-    assert!(&rt; texts.is_empty());
-}
-
-#[test]
 fn unlike_texts_have_unlike_replies(rt: HostRuntime) {
     let mut texts = texts_of(&rt, rt.alloc(), ["a", "é", "hello", "€"]);
     assert!(&rt; texts.len() == 4);

@@ -1,11 +1,9 @@
 //! Tests of what no row of `inline_vectors` can say: iterators, values that hold texts, texts used
-//! as a `str`, copies, boxed texts of unlike types, and scripts whose reads or writes fail.
+//! as a `str`, boxed texts of unlike types, and scripts whose reads or writes fail.
 #![tactic(auto)]
 
 #[cfg(test)]
 mod borrowed;
-#[cfg(test)]
-mod copied;
 #[cfg(test)]
 mod each;
 #[cfg(test)]
