@@ -40,6 +40,8 @@ pub fn law()
     ensures value { word ≡ 1 }
 {}
 '''
+TESTS = '\n\n'.join(f'#[test]\nfn {name}(rt: HostRuntime) -> Result<(), Fail> {{\n    assert_{asserted})\n}}' for name, asserted in (
+    ('first', 'requests(&rt, One, 0, Two, 2'), ('second', 'unseen(&rt, Two(1), 0, Three, (2, 1)')))
 EDIT = '''edit two_for_one
 refused: one returns-clause-value
 old:     1
@@ -109,11 +111,12 @@ if words[0] == 'test':
         print(f'test refusals::{name} ... ' + ('FAILED\n    ' + os.environ['FELL'] if planted in text else 'ok'))
     sys.exit()
 if words[0] == 'try':
-    for name in ('first', 'second'):
-        is_wrong = {'first': '    2\n', 'second': '    3\n'}[name] in text
-        said = os.environ['WRONG' if is_wrong else name.upper()]
+    turns = re.findall(r'fn ((first|second)_at_(\d))', text)
+    for name, of, turn in turns or [(of, of, words[-1]) for of in ('first', 'second')]:
+        is_wrong = {'first': '    2\n', 'second': '    3\n'}[of] in text
+        said = os.environ['WRONG' if is_wrong else of.upper()]
         print(f'test refusals::{name} ... ' + os.environ.get('RESULT', 'ok'))
-        for said in said.split(',')[int(words[-1]) - 1:][:1]:
+        for said in said.split(',')[int(turn) - 1:][:1]:
             print('    {} refused of {} requests, {} unseen'.format(*said.split()))
     print('test result: ok.' if 'CUT_OFF' not in os.environ else '')
     sys.exit()
@@ -134,7 +137,7 @@ TOGETHER, ALONE = 'crates/toy/must-fail-together/lib.edits', 'crates/toy/must-fa
 LISTED, DEFINITIONS = 'crates/toy/must-fail/README.md', 'crates/toy/wrong-definitions/Word.edits'
 CLAUSES, LIB = 'crates/toy/wrong-clauses/lib.edits', 'crates/toy/src/lib.rt'
 BODIES, OTHER_BODIES = 'crates/toy/wrong-bodies/lib.edits', 'crates/toy/wrong-bodies/other.edits'
-PROVED_BODIES = 'crates/toy/wrong-bodies-proved/lib.edits'
+PROVED_BODIES, SWEPT = 'crates/toy/wrong-bodies-proved/lib.edits', 'crates/toy/src/refusals.rt'
 PROOF = 'crates/toy/proofs/Toy.antt'
 ARGS, STDOUT = 'crates/inline_vectors/args', 'crates/inline_vectors/stdout'
 ONE, TWO = 'crates/inline_vectors/data/one.rows', 'crates/inline_vectors/data/two.rows'
@@ -143,7 +146,7 @@ JOBS, WORDS = 'crates/jobs/out/jobs', 'crates/word_index/out/word_index'
 REPOSITORY = {
     '.ci/floors.py': text_of(in_tree('.ci', 'floors.py')) + FLOORS, 'HANDLES': 'Handles allowed: none.\n',
     'crates.txt': 'toy:\nabove: toy\ncallers: toy\ninline_script: toy\n', 'bin/rt': STAND_IN, 'bin/program': SUMMING,
-    LIB: SOURCE, 'crates/toy/src/laws.rt': LAW, 'crates/toy/specs/Lib.antt': 'pub mod Word\n',
+    LIB: SOURCE, SWEPT: TESTS, 'crates/toy/src/laws.rt': LAW, 'crates/toy/specs/Lib.antt': 'pub mod Word\n',
     'crates/toy/specs/Word.antt': 'word = 1\n', 'crates/above/src/lib.rt': 'pub mod rows;\n',
     'crates/above/src/rows.rt': LAW.replace('law', 'row'),
     'crates/callers/src/lib.rt': SOURCE.replace('one', 'call'), TOGETHER: EDIT, LISTED: TABLE,
@@ -161,7 +164,7 @@ IN_ORDER = {
     'edits': ('--jobs 2', {'WORD': '    2\n', 'REFUSED': 'toy/one toy/other'}),
     'definitions': ('--jobs 2', {'WORD': 'word = 2', 'REFUSED': 'toy/law above/row'}),
     'callers': ('', {'WORD': 'result ≡ result', 'REFUSED': 'callers/call'}),
-    'refusals': ('', {'FIRST': 'one 2 0,one 2 0,last 2 0', 'SECOND': 'one 1 0,last 1 0,none 1 0',
+    'refusals': ('', {'FIRST': 'one 2 0,one 2 0,last 2 0', 'SECOND': 'none 2 1,one 2 1,last 2 1',
                       'WRONG': 'none 2 0,none 2 0', 'WORD': 'WRONG', 'FELL': 'more'}),
     'bench': ('bin/program', {}),
     'rows': ('', {}),
@@ -201,11 +204,14 @@ BROKEN = (
     ('callers', 'does not run as it says', 'README.md', 'main: proved', 'main: not proved'),
     ('callers', 'other C functions', 'README.md', '`read`', '`read`, `write`'),
     ('callers', 'a folder proofs', 'crates/callers/proofs/Lib.antt', '', 'one = 1\n'),
-    ('refusals', None, {'SECOND': 'none 2 1,one 2 1,last 2 1'}),
+    ('refusals', None, {'SECOND': 'one 2 0,one 2 0,last 2 0'}),
     ('refusals', 'TOO FEW', {'FIRST': 'one 1 0,last 1 0,none 1 0'}),
-    ('refusals', 'TOO FEW', '.ci/floors.py', 'PREPARED = {', "PREPARED = {'toy': 1, "),
-    ('refusals', '2 failed', {'RESULT': 'FAILED'}),
-    ('refusals', '1 failed', {'CUT_OFF': ''}),
+    ('refusals', 'first says one refused', '.ci/floors.py', 'PREPARED = {', "PREPARED = {'toy': 1, "),
+    ('refusals', '6 of 6 tests failed', {'RESULT': 'FAILED'}),
+    ('refusals', '1 of 6 tests failed', {'CUT_OFF': ''}),
+    ('refusals', 'must be a call of `assert_requests`', SWEPT, 'One', 'Some(One)'),
+    ('refusals', '3 meetings, 0 of 7 tests failed', SWEPT, '#[test]', TESTS[:TESTS.index('\n\n')].replace(
+        'first', 'unseen').replace('2)', '0)') + '\n\n#[test]'),
     *(('refusals', 'second says', {'SECOND': said}) for said in (
         'one 1 0,one 1 0', 'one 2 0,last 2 0', 'one 1 0,last 1 0,one 1 0', 'none 1 0', 'none 2 1,none 2 1',
         'one 1 1,last 1 1', 'one 1 0')),

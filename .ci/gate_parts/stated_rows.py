@@ -5,6 +5,8 @@ the request that the program itself makes after them. In the row of a case the c
 first it fails, and then it succeeds. `rt try --fail-alloc` builds a program of which one request is refused,
 always the same, counted from the start. So the program makes further requests before the calls. By a first run the
 cases find how many are granted there; by a second, each makes the number that puts the refused one where it must be.
+A run costs more than the calls in it, so the last cases of rows are played many in one run: none of these rows makes
+fewer requests than it states, or its case of one that it lacks goes wrong; if one makes more, all together do.
 """
 import os
 import re
@@ -19,8 +21,8 @@ from gate_parts.refused_scripts import WORDS, answers
 from gate_parts.rows import CRATE, files_of
 from gate_parts.tree import TOP, Failure, crate_folder, too_few, write_text
 
-# The request of the whole program that is refused. A row is read, and its text made, with fewer.
-REQUEST = 1000
+# The request of the whole program that is refused. Rows are read, and their texts made, with fewer: so many in a run.
+REQUEST, TOGETHER = 4000, 30
 QUOTED = r'''"(?:\\.|[^"\\])*"|'(?:\\[^']+|[^'\\])\''''
 ROW = re.compile(rf'''(\S+)((?:{QUOTED}|[^:"'])*): (.*)''')
 STEPS = re.compile(rf'''((?:{QUOTED}|[^;"'])+)(?:; |$)''')
@@ -92,38 +94,63 @@ def played(top, prepared):
 
 
 @lru_cache(maxsize=None)
-def befores():
-    """How many requests come before the calls of each case, so that its own is the one that is refused. Which of
-    them that is, and how the calls are made, adds none."""
-    files = {case.file: case for case in cases()}
-    said = dict(zip(files, played(TOP, [(case, REQUEST) for case in files.values()])))
-    granted = [re.match(r'(\d+) granted', said[case.file]) for case in cases()]
-    for case, count in zip(cases(), granted):
-        if not count or int(count[1]) < case.request:
-            raise Failure(f'{case.place}: no request is refused before its calls: {said[case.file]}')
-    return [int(count[1]) - case.request + 1 for case, count in zip(cases(), granted)]
+def swept():
+    """The cases as all of them are played: the last one of a spoiled row with that of a row that is right."""
+    right = [case for case in cases() if case.place not in SPOILED]
+    spoiled = [case for case in cases() if case.place in SPOILED]
+    first = next(case for case in right if case.is_last)
+    return [*in_few_runs(right), *(as_one([case, first]) if case.is_last else case for case in spoiled)]
 
 
-def faults_of(top, names=None):
-    """Each case that goes wrong, of the rows with these names, or of all and the spoiled ones, with what is printed."""
-    prepared = [(case, before) for case, before in zip(cases(), befores())
-                if names is None or case.name in names and case.place not in SPOILED]
-    for (case, _), answer in zip(prepared, played(top, prepared)):
+def in_few_runs(singles):
+    """The cases, with the last ones of rows that are played in one way together in few."""
+    lasts = defaultdict(list)
+    for case in singles:
+        if case.is_last and case.way not in ('script', 'words'):
+            lasts[case.way].append(case)
+        else:
+            yield case
+    for own in lasts.values():
+        yield from (as_one(own[at:at + TOGETHER]) for at in range(0, len(own), TOGETHER))
+
+
+def as_one(lasts):
+    """The case of the request that comes after the calls of several rows; it has the name of the first."""
+    return lasts[0]._replace(file=''.join(case.file for case in lasts),
+                             request=sum(case.request - 1 for case in lasts) + 1)
+
+
+@lru_cache(maxsize=None)
+def granted(names):
+    """By file, how many requests are granted before the calls that it has, of all cases, and of each last one of rows
+    with these names. Which request of a case is refused, and how its calls are made, adds none."""
+    files = {case.file: case for case in [*swept(), *(case for case in cases() if case.name in names)]}
+    said = played(TOP, [(case, REQUEST) for case in files.values()])
+    return {file: int((re.match(r'(\d+) granted', answer) or ('', 0))[1]) for file, answer in zip(files, said)}
+
+
+def faults_of(top, tried, names):
+    """Each of these cases that goes wrong, with what is printed; so does one before which nothing is granted."""
+    prepared = [(case, granted(names)[case.file] - case.request + 1) for case in tried]
+    for case, answer in zip(tried, played(top, prepared)):
         if answer != f'{case.wanted}, and the next request {"refused" if case.is_last else "granted"}':
             yield case, f'{case.place}, {case.name} by {case.way}, request {case.request}: {answer}'
 
 
-def wrong_rows(top, names):
-    """What is printed of those of the rows with these names that go wrong: together, and by their names."""
+def wrong_rows(top, names, own):
+    """What is printed of those of the rows with these names that go wrong: together, and by their names. Those that
+    are not among the own ones are played with none of their requests refused."""
     found = defaultdict(str)
-    for case, fault in faults_of(top, names):
+    tried = [case for case in cases() if case.place not in SPOILED and case.name in (names if case.is_last else own)]
+    for case, fault in faults_of(top, tried, names):
         found[case.name] += fault + '\n'
     return ''.join(found.values()), found
 
 
-def rows_are_swept():
-    """Refuses each request of each row in turn; whether all was well."""
-    found = list(faults_of(TOP))
+def rows_are_swept(names):
+    """Refuses each request of each row in turn; whether all was well. Wrong bodies are tried by rows with these names
+    later."""
+    found = list(faults_of(TOP, swept(), names))
     faults = [fault for case, fault in found if case.place not in SPOILED]
     faults += [f'this row is not found wrong: {row}' for row in SPOILED if row not in {case.place for case, _ in found}]
     tried = [case for case in cases() if case.place not in SPOILED]

@@ -1,7 +1,7 @@
 //! Files of rows.
 
 use crate::play::each::{Wronged, wrong_rows};
-use crate::play::refused::row_after;
+use crate::play::refused::rows_after;
 use crate::row::rows_of;
 use crate::scripts::{script_after, words_after};
 use std::env::Env;
@@ -32,7 +32,7 @@ pub fn play_files<R: Files + Print + AllocGlobal>(rt: &R, files: &[String]) -> i
     Ok(outcome)
 }
 
-/// Plays the row or the script of a file, or reads the program's words, after this number of other
+/// Plays the rows or the script of a file, or reads the program's words, after this number of other
 /// requests for memory, and prints what came of it. Whatever runs the program refuses one request.
 pub fn play_refused<R: Env + Files + Print + AllocGlobal>(
     rt: &R,
@@ -49,7 +49,7 @@ pub fn play_refused<R: Env + Files + Print + AllocGlobal>(
             let ending = script_after(alloc, script.trim_end(), before)?;
             ending.ok_or(io::ErrorKind::InvalidData)?
         }
-        _ => match row_after(alloc, content.as_str(), way, before) {
+        _ => match rows_after(alloc, content.as_str(), way, before) {
             Ok(ending) => ending,
             Err(fault) => (format!(in alloc; "{fault}")?, false),
         },

@@ -1,4 +1,4 @@
-//! A row with one request for memory refused, by whatever runs the program.
+//! Rows with one request for memory refused, by whatever runs the program.
 
 use super::playing::Playing;
 use super::wrong::{first_wrong, line_of};
@@ -10,50 +10,54 @@ use std::alloc::{AllocError, Global};
 /// What came of calls, in words, and whether the request after them was granted.
 pub type Ending = (String, bool);
 
-/// Plays the one row of a file by calls, by `run` or by `run_dyn`, with this number of other
-/// requests before the first call that states its own.
-pub fn row_after(alloc: Global, file: &str, way: &str, before: usize) -> Result<Ending, Fault> {
+/// Plays the rows of a file by calls, by `run` or by `run_dyn`, with this number of other requests
+/// before the first calls that state theirs, and one request more after all of them.
+pub fn rows_after(alloc: Global, file: &str, way: &str, before: usize) -> Result<Ending, Fault> {
     let rows = rows_of(alloc, file).map_err(|error| error.fault)?;
     let way = match way {
         "run" => Way::Run,
         "run_dyn" => Way::Dyn,
         _ => Way::Calls,
     };
-    match rows.as_slice() {
-        [row] => play_row(alloc, row, way, before),
-        _ => Err(Fault("the file has several rows")),
-    }
+    play(alloc, rows.as_slice(), way, before)
 }
 
-/// Plays a row, and makes one request more.
-fn play_row(alloc: Global, row: &Row, way: Way, before: usize) -> Result<Ending, Fault> {
+fn play<'a>(alloc: Global, rows: &'a [Row], way: Way, before: usize) -> Result<Ending, Fault> {
+    let mut playing: Vec<Playing<'a>> = Vec::new(alloc);
+    for row in rows {
+        playing.push(begin(alloc, row, way)?)?;
+    }
+    play_to_end(alloc, &mut playing, before)
+}
+
+/// Plays the calls of a row that come before those that state their requests.
+fn begin<'a>(alloc: Global, row: &'a Row, way: Way) -> Result<Playing<'a>, Fault> {
     let kind = row.kind.ok_or(NO_TYPE)?;
     let room = row.start.room;
     let mut one = Playing::new(alloc, row, Made { kind, room, way })?;
-    play_to_end(alloc, &mut one, before)
+    let stated = row.steps.iter().position(|step| step.requests.is_some());
+    one.advance(Memory::Ample, stated.unwrap_or(0));
+    Ok(one)
 }
 
-/// The same of a row that has begun. The caller drops it, at one place.
-fn play_to_end(alloc: Global, one: &mut Playing, before: usize) -> Result<Ending, Fault> {
-    let stated = one
-        .row
-        .steps
-        .iter()
-        .position(|step| step.requests.is_some());
-    one.advance(Memory::Ample, stated.unwrap_or(0));
+/// Plays the other calls. The caller drops the texts, at one place.
+fn play_to_end(alloc: Global, playing: &mut [Playing], before: usize) -> Result<Ending, Fault> {
     if let Some(ending) = refused_before(alloc, before)? {
         return Ok(ending);
     }
-    one.advance(Memory::Ample, usize::MAX);
-    let is_granted = Box::new(alloc, 0u8).is_ok();
-    if let Some(fault) = one.fault {
-        return Err(fault);
+    for one in playing.iter_mut() {
+        one.advance(Memory::Ample, usize::MAX);
     }
-    let line = match first_wrong(one) {
-        Some(wrong) => line_of(alloc, one, wrong)?,
-        None => String::from_str(alloc, "right")?,
-    };
-    Ok((line, is_granted))
+    let is_granted = Box::new(alloc, 0u8).is_ok();
+    for one in playing.iter() {
+        if let Some(fault) = one.fault {
+            return Err(fault);
+        }
+        if let Some(wrong) = first_wrong(one) {
+            return Ok((line_of(alloc, one, wrong)?, is_granted));
+        }
+    }
+    Ok((String::from_str(alloc, "right")?, is_granted))
 }
 
 /// Makes this number of requests, up to one that is refused: then it says how many were granted.
