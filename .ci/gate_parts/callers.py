@@ -51,7 +51,7 @@ def require_program(top, path, crate, uses):
     os.makedirs(os.path.join(folder, 'src'))
     write_text(os.path.join(folder, 'src', 'main.rt'), FIRST.search(readme)[1])
     write_text(crates, f'{text_of(crates)}{crate}: {" ".join(uses)}\n')
-    said, status = run_in(folder, 'rt', 'run')
+    said, status = run_in(folder, 'rt', 'run', '--jobs', '1')
     printed = said.splitlines()[-1]
     if status or f'It prints `{printed}`' not in readme:
         raise Failure(f'the first program of {path} does not run as it says:\n{said}')
@@ -60,7 +60,7 @@ def require_program(top, path, crate, uses):
 
 def require_trusted():
     """The README names each C function that the program calls, and no other."""
-    said, _ = run_in(crate_folder(PROGRAM), 'rt', 'check', '--list-axioms')
+    said, _ = run_in(crate_folder(PROGRAM), 'rt', 'check', '--list-axioms', '--jobs', '1')
     reached = set(REACHED.findall(said))
     named = set(re.findall(r'`(\w+)`', TRUSTED.search(text_of(in_tree('README.md')))[1]))
     if not reached or reached != named:
