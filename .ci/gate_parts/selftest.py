@@ -40,8 +40,9 @@ pub fn law()
     ensures value { word ≡ 1 }
 {}
 '''
-TESTS = '\n\n'.join(f'#[test]\nfn {name}(rt: HostRuntime) -> Result<(), Fail> {{\n    assert_{asserted})\n}}' for name, asserted in (
-    ('first', 'requests(&rt, One, 0, Two, 2'), ('second', 'unseen(&rt, Two(1), 0, Three, (2, 1)')))
+TESTS = '\n\n'.join(
+    f'#[test]\nfn {name}(rt: HostRuntime) -> Result<(), Fail> {{\n    assert_{asserted})\n}}' for name, asserted in (
+        ('first', 'requests(&rt, One, 0, Two, 2'), ('second', 'unseen(&rt, Two(1), 0, Three, (2, 1)')))
 EDIT = '''edit two_for_one
 refused: one returns-clause-value
 old:     1

@@ -21,7 +21,7 @@ from gate_parts.refused_scripts import WORDS, answers
 from gate_parts.rows import CRATE, files_of
 from gate_parts.tree import TOP, Failure, crate_folder, too_few, write_text
 
-# The request of the whole program that is refused. Rows are read, and their texts made, with fewer: so many in a run.
+# The request of the whole program that is refused. With fewer this number of rows are read, and their texts made.
 REQUEST, TOGETHER = 4000, 30
 QUOTED = r'''"(?:\\.|[^"\\])*"|'(?:\\[^']+|[^'\\])\''''
 ROW = re.compile(rf'''(\S+)((?:{QUOTED}|[^:"'])*): (.*)''')
@@ -95,11 +95,11 @@ def played(top, prepared):
 
 @lru_cache(maxsize=None)
 def swept():
-    """The cases as all of them are played: the last one of a spoiled row with that of a row that is right."""
+    """The cases as all of them are played: the last one of a spoiled row behind that of a row that is right."""
     right = [case for case in cases() if case.place not in SPOILED]
     spoiled = [case for case in cases() if case.place in SPOILED]
     first = next(case for case in right if case.is_last)
-    return [*in_few_runs(right), *(as_one([case, first]) if case.is_last else case for case in spoiled)]
+    return [*in_few_runs(right), *(as_one([first, case]) if case.is_last else case for case in spoiled)]
 
 
 def in_few_runs(singles):
@@ -115,9 +115,9 @@ def in_few_runs(singles):
 
 
 def as_one(lasts):
-    """The case of the request that comes after the calls of several rows; it has the name of the first."""
-    return lasts[0]._replace(file=''.join(case.file for case in lasts),
-                             request=sum(case.request - 1 for case in lasts) + 1)
+    """The case of the request that comes after the calls of several rows; it has the name of the last."""
+    return lasts[-1]._replace(file=''.join(case.file for case in lasts),
+                              request=sum(case.request - 1 for case in lasts) + 1)
 
 
 @lru_cache(maxsize=None)

@@ -1,8 +1,8 @@
 //! The requests for memory of each call, failing in turn, by `rt try --test --fail-alloc N`, which
 //! fails the Nth of each test. A test passes whichever fails, and says whether one did and how many
 //! there are by its row. Each makes 24 requests before its call, and one at its end. `.ci/gate
-//! refusals` builds them once for the 25th, with a copy of each test for each request of its call
-//! and for the last: one request more is then left out before the call.
+//! refusals` builds them once, to fail the 25th, with each test once for each request of its call
+//! and for the last one, each time with one request less before the call.
 use crate::names::name;
 use inlinable_string::InlineStringN;
 use std::alloc::{AllocError, Global};
