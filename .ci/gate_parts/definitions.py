@@ -13,7 +13,7 @@ from time import monotonic
 from floors import WRONG_DEFINITIONS
 from gate_parts.edit_files import DEFINITIONS as FOLDER, edits_of, texts_with
 from gate_parts.edits import listed
-from gate_parts.rooms import Room, require_below, said_of, tried_in_copies
+from gate_parts.rooms import Room, require_libraries, said_of, tried_in_copies
 from gate_parts.said import ill_formed, open_goals
 from gate_parts.tree import Failure, crate_folder, crates_with, text_of
 
@@ -207,7 +207,7 @@ def main(given):
     crates = sorted({crate for files, _, _ in tasks for crate in (files.library, files.crate)})
     count = sum(map(len, edits.values()))
     print(f'{count} wrong definitions in {len(tasks)} checks', flush=True)
-    require_below(given.jobs, crates)
+    require_libraries(given.jobs, crates)
     wrong = len(set().union(*tried_in_copies(crates, given.jobs, lambda top, task: tried(top, *task), tasks)))
     print(f'{count - wrong} wrong definitions refused as they say, {wrong} not')
     return not wrong

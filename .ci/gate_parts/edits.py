@@ -1,9 +1,10 @@
 """gate edits [CRATE ..] [--named WORD] [--proved] [--jobs N]: tries wrong code, several edits in one check.
 
 With --named only those edits are tried whose name has the word in it. The functions that they name must be
-proved as they are; after `rt ci`, --proved says that they are. docs/TESTING.md says which edits go together, and
-why that is as strict as to try each alone. Which functions a change breaks is told by the layout of `rt fmt` and
-by their last names: an edit that names another of the same name leaves that one proved, and fails.
+proved as they are; after `rt ci`, --proved says that they are, and only libraries are built. docs/TESTING.md
+says which edits go together, and why that is as strict as to try each alone. Which functions a change breaks is
+told by the layout of `rt fmt` and by their last names: an edit that names another of the same name leaves that
+one proved, and fails.
 """
 import os
 import re
@@ -14,7 +15,7 @@ from time import monotonic
 from floors import EDITS, MUST_FAIL
 from gate_parts.edit_files import (
     edits_of, place_of, read_edit, refuse_repetitions, require_as_many, texts_with)
-from gate_parts.rooms import Room, require_below, require_proofs, said_of, tried_in_copies
+from gate_parts.rooms import Room, require_libraries, require_proofs, said_of, tried_in_copies
 from gate_parts.said import answers_of, refused_in
 from gate_parts.tree import Failure, crate_folder, crates_with, text_of
 
@@ -191,7 +192,7 @@ def main(given):
                    key=lambda task: -len(task[1]))
     functions = {crate: functions_of([edit for other, group in tasks if other == crate for edit in group])
                  for crate, _ in tasks}
-    (require_below if given.proved else require_proofs)(given.jobs, functions)
+    (require_libraries if given.proved else require_proofs)(given.jobs, functions)
     well = tried_in_copies(sorted(functions), given.jobs, tried, tasks)
     good = sum(len(group) for (_, group), is_well in zip(tasks, well) if is_well)
     others = sum(len(group) for _, group in tasks) - good

@@ -6,7 +6,8 @@ from concurrent.futures import ThreadPoolExecutor
 from contextlib import ExitStack, contextmanager
 from queue import SimpleQueue
 
-from gate_parts.tree import TOP, Failure, below, crate_folder, run_in, text_of, with_those_below, write_text
+from gate_parts.tree import (
+    TOP, Failure, below, crate_folder, in_tree, run_in, text_of, with_those_below, write_text)
 
 # Read by `rt` beside the crates.
 AT_THE_TOP = ('crates.txt', 'HANDLES')
@@ -27,9 +28,10 @@ def require_proof(top, crate, jobs, functions=()):
         raise Failure(f'{crate} is not proved as it is:\n{said}')
 
 
-def require_below(jobs, crates):
-    """The same of all that these crates stand on, one at a time, since each check keeps the others out of it."""
-    for crate in sorted(below(crates)):
+def require_libraries(jobs, crates):
+    """The same of those of these crates that others stand on, and of all that they stand on, one at a time, since
+    each check keeps the others out of it."""
+    for crate in sorted(with_those_below(crates) & below(os.listdir(in_tree('crates')))):
         require_proof(TOP, crate, jobs)
 
 

@@ -146,10 +146,10 @@ LLVM, RATTLE = (f'crates/inline_vectors/out/inline_vectors{ending}' for ending i
 JOBS, WORDS = 'crates/jobs/out/jobs', 'crates/word_index/out/word_index'
 REPOSITORY = {
     '.ci/floors.py': text_of(in_tree('.ci', 'floors.py')) + FLOORS, 'HANDLES': 'Handles allowed: none.\n',
-    'crates.txt': 'toy:\nabove: toy\ncallers: toy\ninline_script: toy\n', 'bin/rt': STAND_IN, 'bin/program': SUMMING,
-    LIB: SOURCE, SWEPT: TESTS, 'crates/toy/src/laws.rt': LAW, 'crates/toy/specs/Lib.antt': 'pub mod Word\n',
-    'crates/toy/specs/Word.antt': 'word = 1\n', 'crates/above/src/lib.rt': 'pub mod rows;\n',
-    'crates/above/src/rows.rt': LAW.replace('law', 'row'),
+    'crates.txt': 'toy:\nabove: toy\ncallers: toy\ninline_script: toy\ninline_vectors:\njobs:\nword_index:\n',
+    'bin/rt': STAND_IN, 'bin/program': SUMMING, LIB: SOURCE, SWEPT: TESTS, 'crates/toy/src/laws.rt': LAW,
+    'crates/toy/specs/Lib.antt': 'pub mod Word\n', 'crates/toy/specs/Word.antt': 'word = 1\n',
+    'crates/above/src/lib.rt': 'pub mod rows;\n', 'crates/above/src/rows.rt': LAW.replace('law', 'row'),
     'crates/callers/src/lib.rt': SOURCE.replace('one', 'call'), TOGETHER: EDIT, LISTED: TABLE,
     'crates/inline_script/src/main.rt': 'fn main() {}\n',
     ALONE: 'file: src/lib.rt\nold:     one()\nnew:     2\n', DEFINITIONS: DEFINITION, CLAUSES: CLAUSE,
@@ -177,7 +177,7 @@ BROKEN = (
     ('edits', 'one: returns-clause-value is not refused', {'REFUSED': 'toy/other'}),
     ('edits', 'other: returns-clause-value is not refused', {'REFUSED': 'toy/one'}),
     ('edits', 'toy is not proved as it is', {'WORD': '    1\n'}),
-    ('edits --proved', None, {'WORD': '    1\n'}),
+    ('edits --proved', 'toy is not proved as it is', {'WORD': '    1\n'}),
     ('edits', 'clause-other is not refused', TOGETHER, 'clause-value', 'clause-other'),
     ('edits', 'which is not of toy', TOGETHER, ': one', ': above/row'),
     ('edits', 'two_for_one: this is 0 times', TOGETHER, 'old:     1', 'old:     3'),
