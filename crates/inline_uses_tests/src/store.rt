@@ -3,7 +3,7 @@ use inlinable_string::InlinableString;
 use inline_uses::store::Store;
 use inline_uses::store::json::{ReadError, copied};
 use inline_uses::text_map::TextMap;
-use std::alloc::Global;
+use std::alloc::{AllocError, Global};
 use std::test::Fail;
 use test_support::letters::LETTERS_31;
 
@@ -17,16 +17,25 @@ const JSON: &str =
 #[test]
 fn a_store_and_its_copy_are_written_as_these_bytes(rt: HostRuntime) -> Result<(), Fail> {
     for (entries, json) in [(&ENTRIES[..0], "{}"), (ENTRIES, JSON)] {
-        let mut store = Store::new(rt.alloc());
-        for (key, value) in entries {
-            store.put(key, value)?;
-        }
-        let bytes = copied(&store)?.to_bytes()?;
-        let map: TextMap<InlinableString> = TextMap::from_bytes(rt.alloc(), &bytes)?;
+        let bytes = copied(&store_of(rt.alloc(), entries)?)?.to_bytes()?;
         assert!(rt; bytes.as_slice() == json.as_bytes());
-        assert!(rt; map.to_bytes()?.as_slice() == json.as_bytes());
+        assert!(rt; bytes_of_map(rt.alloc(), &bytes)?.as_slice() == json.as_bytes());
     }
     Ok(())
+}
+
+fn store_of(alloc: Global, entries: &[(&str, &str)]) -> Result<Store, AllocError> {
+    let mut store = Store::new(alloc);
+    for (key, value) in entries {
+        store.put(key, value)?;
+    }
+    Ok(store)
+}
+
+/// The bytes of the map that is read from these.
+fn bytes_of_map(alloc: Global, bytes: &[u8]) -> Result<Vec<u8>, ReadError> {
+    let map: TextMap<InlinableString> = TextMap::from_bytes(alloc, bytes)?;
+    Ok(map.to_bytes()?)
 }
 
 /// What is no JSON, or no object of strings.
