@@ -18,8 +18,8 @@ from gate_parts.said import ill_formed, open_goals
 from gate_parts.tree import Failure, crate_folder, crates_with, text_of
 
 OPTIONS = 'crates --named --jobs'
-# How many are tried in one check: what it prints should be readable where one is not refused.
-TOGETHER = 40
+# How many are tried in one check, which takes long before the first: of a crate all, or half of them.
+TOGETHER = 90
 # The number of a copy, in the path of an error.
 COPY = re.compile(r'^[^:]*?/[Er](\d+)(?![a-z])')
 # A file of definitions or of lemmas, as they and the sources name it.
