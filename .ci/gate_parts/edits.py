@@ -8,7 +8,7 @@ one proved, and fails.
 """
 import os
 import re
-from collections import Counter, namedtuple
+from collections import namedtuple
 from functools import lru_cache
 from time import monotonic
 
@@ -100,12 +100,20 @@ def functions_broken(folder, change, named):
 
 @lru_cache(maxsize=None)
 def text_of_function(crate, function):
-    """The functions of its name, with contracts, and its answers; None where none is found."""
-    folder = crate_folder(crate)
-    found = ['\n'.join(text.split('\n')[body.first:body.closed + 1]) for text in sources(folder)
-             for body in bodies(text) if body.kind == 'fn' and body.name == function.split('::')[-1]]
-    answers = os.path.join(folder, 'proofs', *function.split('::'), 'Answers.antt')
+    """The functions of its name, in its own file if that has one, with contracts, and its answers; None where none
+    is found."""
+    folder, (*modules, name) = crate_folder(crate), function.split('::')
+    paths = [os.path.join(folder, 'src', *modules[:depth]) + '.rt' for depth in range(len(modules), 0, -1)]
+    own = [text_of(path) for path in filter(os.path.exists, paths)][:1]
+    found = texts_of(name, own) or texts_of(name, sources(folder))
+    answers = os.path.join(folder, 'proofs', *modules, name, 'Answers.antt')
     return '\n'.join(found + ([text_of(answers)] if os.path.exists(answers) else [])) if found else None
+
+
+def texts_of(name, files):
+    """The functions of this name in the texts of files."""
+    return ['\n'.join(text.split('\n')[body.first:body.closed + 1]) for text in files for body in bodies(text)
+            if body.kind == 'fn' and body.name == name]
 
 
 def sources(folder):
@@ -130,19 +138,25 @@ def are_apart(edit, other):
 
 
 def groups_of(crate, edits):
-    """The edits in lists, each for one check."""
+    """The edits in lists, each for one check: in few, since each check takes long before its first function."""
     alone = [edit for edit in edits if not edit.touches and not stays_in_its_functions(crate, edit)]
-    uses = Counter(function for edit in edits for function in edit.functions())
-    groups = [[] for _ in range(max(uses.values(), default=0))]
-    # first those that are hardest to place
-    for edit in sorted((edit for edit in edits if edit not in alone),
-                       key=lambda edit: (stays_in_its_functions(crate, edit), -len(edit.functions()))):
-        able = [group for group in groups if all(are_apart(edit, other) for other in group)]
+    others = [edit for edit in edits if edit not in alone]
+    against = [{at for at, other in enumerate(others) if at != own and not are_apart(edit, other)}
+               for own, edit in enumerate(others)]
+    found = (placed(against, count) for count in range(1, len(others) + 1))
+    return [[others[at] for at in group] for group in next(filter(None, found), [])] + [[edit] for edit in alone]
+
+
+def placed(against, count):
+    """The numbers of edits in so many lists, as even as can be, none with one that it is against: first those that
+    are hardest to place. None where one finds no place."""
+    groups = [[] for _ in range(count)]
+    for own in sorted(range(len(against)), key=lambda at: -len(against[at])):
+        able = [group for group in groups if against[own].isdisjoint(group)]
         if not able:
-            groups.append([])
-            able = groups[-1:]
-        min(able, key=len).append(edit)
-    return [group for group in groups if group] + [[edit] for edit in alone]
+            return None
+        min(able, key=len).append(own)
+    return groups
 
 
 def functions_of(group):

@@ -129,9 +129,13 @@ def on_changes(place):
         return Edit(name, [Goal('toy', name, 'returns')], [Change('src/lib.rt', old, new)], touches)
 
     size, length, limit = edit('size', "b('{'", "i('{'"), edit('len', '  c\n', '  i\n'), edit('g', '> K', '>')
+    # a function with the name of another, which is in its own file
+    write_text(os.path.join(place, 'src', 'other.rt'), 'fn len() {\n    b()\n}\n')
+    other = Edit('other', [Goal('toy', 'other::len', 'returns')], [Change('src/other.rt', 'b()', 'c()')])
     with mock.patch.object(edits, 'crate_folder', lambda crate: place):
         for group, sizes in (([size, length], [2]), ([size, size], [1, 1]), ([length, limit], [1, 1]),
                              ([length, limit._replace(touches=('usize',))], [1, 1]),
+                             ([other, limit._replace(touches=('usize',))], [2]),
                              ([length, limit._replace(touches=('LIMIT',))], [2])):
             yield f'which go together of {group}', list(map(len, edits.groups_of('toy', group))) == sizes
 
