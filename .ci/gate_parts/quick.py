@@ -48,7 +48,9 @@ def program_runs():
 
 
 def main(_):
-    steps, found = [part_is_proved, *(partial(tests_pass, crate) for crate in TRIED), program_runs], []
+    # what takes longest first, so that at the end no processor is left alone with it
+    crates, found = sorted(TRIED, key=TRIED.get, reverse=True), []
+    steps = [*(partial(tests_pass, crate) for crate in crates), part_is_proved, program_runs]
     with ThreadPoolExecutor(PROCESSORS) as pool:
         for is_well, told, said in pool.map(lambda step: step(), steps):
             found.append(is_well)
