@@ -74,10 +74,9 @@ PROOFS, CITED = 1_300, 400
 # Blocks of `unsafe`, each with its condition in ARCHITECTURE or in a test: just as many.
 UNSAFE = {'library': 13, 'others': 3}
 
-# For `gate quick`: functions of the library that are proved, and by crate, tests that must pass without being
-# proved, and how many at most may say that they need the proved build.
-QUICK_PROVED = 14
-TRIED = {'inline_tests': (9, 4), 'inline_uses_tests': (60, 5)}
+# For `gate quick`: functions of the library that are proved, and tests of `inline_tests` that must pass without
+# being proved, and how many at most may say that they need the proved build.
+QUICK_PROVED, QUICK_PASSED, QUICK_HELD = 14, 9, 4
 
 # Workloads of the bench, and on how many of them each type of text is run.
 BENCH_WORKLOADS = 82

@@ -1,39 +1,38 @@
-"""gate quick: a newcomer's check, some three minutes on two processors. The gate is `.ci/run`.
+"""gate quick: a newcomer's check, some two minutes on two processors. The gate is `.ci/run`.
 
-One part of the library is proved, lists of commands; the tests of two crates run unproved, by `rt try`; and the
-program prints what is stored of its own script.
+One part of the library is proved, lists of commands; the tests of the library that are no rows run unproved, by
+`rt try`; and the program prints what is stored of its own script.
 """
 import os
 import re
 import subprocess
 from concurrent.futures import ThreadPoolExecutor
-from functools import partial
 
-from floors import QUICK_PROVED, TRIED
+from floors import QUICK_HELD, QUICK_PASSED, QUICK_PROVED
 from gate_parts.refusals import ENDED, TEST
 from gate_parts.tree import PROCESSORS, crate_folder, run_in, text_of
 
-LIBRARY, PART, PROGRAM = 'inlinable_string', 'run', 'inline_script'
+LIBRARY, PART, TESTS, PROGRAM = 'inlinable_string', 'run', 'inline_tests', 'inline_script'
 PROVED = re.compile(r'^only=(\d+) proved=\1$', re.MULTILINE)
 HELD = 'this test needs the proved build'
 
 
 def part_is_proved():
     """Whether the part of the library is proved, and how many functions."""
-    said, status = run_in(crate_folder(LIBRARY), 'rt', 'check', '--only', PART)
+    # by one job: two take more of the processor, which the tests beside it have use for
+    said, status = run_in(crate_folder(LIBRARY), 'rt', 'check', '--jobs', '1', '--only', PART)
     proved = int((PROVED.search(said) or [0, 0])[1])
     return status == 0 and proved >= QUICK_PROVED, f'{proved} functions of {LIBRARY}::{PART} are proved', said
 
 
-def tests_pass(crate):
-    """Whether the tests of a crate pass without being proved, and in words how many did."""
-    said, _ = run_in(crate_folder(crate), 'rt', 'try', '--test', '--seconds', '600')
+def tests_pass():
+    """Whether the tests pass without being proved, and in words how many did."""
+    said, _ = run_in(crate_folder(TESTS), 'rt', 'try', '--test', '--seconds', '600')
     found = [(how == 'ok', HELD in printed) for _, how, printed in TEST.findall(said)]
     passed, held = sum(is_well for is_well, _ in found), found.count((False, True))
     failed = len(found) - passed - held + (not ENDED.search(said))
-    least, most_held = TRIED[crate]
-    told = f'{crate}: {passed} tests passed, {failed} failed, {held} need the proved build'
-    return not failed and passed >= least and held <= most_held, told, said
+    told = f'{TESTS}: {passed} tests passed, {failed} failed, {held} need the proved build'
+    return not failed and passed >= QUICK_PASSED and held <= QUICK_HELD, told, said
 
 
 def program_runs():
@@ -48,11 +47,10 @@ def program_runs():
 
 
 def main(_):
-    # what takes longest first, so that at the end no processor is left alone with it
-    crates, found = sorted(TRIED, key=TRIED.get, reverse=True), []
-    steps = [*(partial(tests_pass, crate) for crate in crates), part_is_proved, program_runs]
+    found = []
     with ThreadPoolExecutor(PROCESSORS) as pool:
-        for is_well, told, said in pool.map(lambda step: step(), steps):
+        # what takes longest first, so that at the end no processor is left alone with it
+        for is_well, told, said in pool.map(lambda step: step(), (part_is_proved, tests_pass, program_runs)):
             found.append(is_well)
             print(f'{told}: well' if is_well else f'{told}: NOT WELL:\n{said}', flush=True)
     print('Not tried: all other proofs and tests, and what must be refused or answered. The gate is .ci/run.')
