@@ -20,6 +20,7 @@ REFUSALS, WRONG_BODIES, WRONG_BODIES_PROVED = {'toy': (2, 3)}, {'toy': 2}, {'toy
 BENCH_WORKLOADS, BENCH_TEXTS = 1, {'One': 1, 'Two': 1}
 GROWTH = {'jobs toy': 30_000, 'word_index': 4_000}
 PROOFS, CITED, UNSAFE, ROWS = 2, 2, {}, 3
+QUICK_PROVED, QUICK_PASSED, QUICK_HELD = 2, 1, 1
 '''
 SOURCE = '''pub const LIMIT: usize = 1;
 
@@ -93,6 +94,9 @@ for file; do
 done
 ! grep -q wrong "$@"
 '''
+# What `rt try --test` says of two tests, of which one needs the proved build.
+HELD = 'test two ... FAILED\n    this test needs the proved build\n'
+TRIED = f'test one ... ok\n{HELD}test result: FAILED.'
 # It says what the variables of its environment tell it to: where WORD stands in a source or a
 # definition, the functions of REFUSED are refused, with a line ERROR before that.
 STAND_IN = r'''#!/usr/bin/env python3
@@ -107,6 +111,12 @@ def is_refused(function):
     copy = re.match('copied::r(.*)::', function)
     own = ''.join(texts[path] for path in texts if f'/E{copy[1]}' in path) if copy else text
     return crate + '/' + function.split('::')[-1] in os.environ.get('REFUSED', '').split() and os.environ['WORD'] in own
+if words[:2] == ['try', '--']:
+    print(open(os.environ['PRINTED']).read(), end='')
+    sys.exit(int(os.environ['STATUS']))
+if crate in ('inlinable_string', 'inline_tests'):
+    print(os.environ[crate.upper()])
+    sys.exit(int(os.environ['STATUS']))
 if words[0] == 'test':
     for name, planted in ('first', '    2\n'), ('second', '    3\n'):
         print(f'test refusals::{name} ... ' + ('FAILED\n    ' + os.environ['FELL'] if planted in text else 'ok'))
@@ -143,15 +153,19 @@ PROOF = 'crates/toy/proofs/Toy.antt'
 ARGS, STDOUT = 'crates/inline_vectors/args', 'crates/inline_vectors/stdout'
 ONE, TWO = 'crates/inline_vectors/data/one.rows', 'crates/inline_vectors/data/two.rows'
 LLVM, RATTLE = (f'crates/inline_vectors/out/inline_vectors{ending}' for ending in ('', '.by-rattle'))
+SHOWN = 'crates/inline_script/stdout'
 JOBS, WORDS = 'crates/jobs/out/jobs', 'crates/word_index/out/word_index'
 REPOSITORY = {
     '.ci/floors.py': text_of(in_tree('.ci', 'floors.py')) + FLOORS, 'HANDLES': 'Handles allowed: none.\n',
-    'crates.txt': 'toy:\nabove: toy\ncallers: toy\ninline_script: toy\ninline_vectors:\njobs:\nword_index:\n',
+    'crates.txt': 'toy:\nabove: toy\ncallers: toy\ninlinable_string:\ninline_script: toy\ninline_tests:\ninline_vectors:\n'
+                  'jobs:\nword_index:\n',
     'bin/rt': STAND_IN, 'bin/program': SUMMING, LIB: SOURCE, SWEPT: TESTS, 'crates/toy/src/laws.rt': LAW,
     'crates/toy/specs/Lib.antt': 'pub mod Word\n', 'crates/toy/specs/Word.antt': 'word = 1\n',
     'crates/above/src/lib.rt': 'pub mod rows;\n', 'crates/above/src/rows.rt': LAW.replace('law', 'row'),
     'crates/callers/src/lib.rt': SOURCE.replace('one', 'call'), TOGETHER: EDIT, LISTED: TABLE,
-    'crates/inline_script/src/main.rt': 'fn main() {}\n',
+    'crates/inline_script/src/main.rt': 'fn main() {}\n', SHOWN: 'done\n',
+    'crates/inline_script/args': 'inline\n', 'crates/inline_script/stdin': 'clear\n',
+    'crates/inlinable_string/args': '', 'crates/inline_tests/args': '',
     ALONE: 'file: src/lib.rt\nold:     one()\nnew:     2\n', DEFINITIONS: DEFINITION, CLAUSES: CLAUSE,
     BODIES: BODY, PROVED_BODIES: PROVED_BODY, OTHER_BODIES: OTHER_BODY.replace('two_for', 'three_for').replace('old:', IN_LIB),
     'bench/sums.py': text_of(in_tree('bench', 'sums.py')), 'bench/workloads.py': WORKLOADS,
@@ -169,6 +183,7 @@ IN_ORDER = {
                       'WRONG': 'none 2 0,none 2 0', 'WORD': 'WRONG', 'FELL': 'more'}),
     'bench': ('bin/program', {}),
     'rows': ('', {}),
+    'quick': ('', {'INLINABLE_STRING': 'only=2 proved=2', 'INLINE_TESTS': TRIED, 'PRINTED': 'stdout', 'STATUS': '0'}),
     'counts': ('', {})}
 ILL = './specs/E1Word.antt:1:1: error: `word`: expected type `ℕ`'
 # A part, what it must say, and what is broken: another environment, or in a file a text, and what is in its
@@ -249,6 +264,14 @@ BROKEN = (
     (f'rows {ONE} {TWO}', None, ARGS, 'two.rows\n', ''),
     (f'rows {ONE} {TWO}', 'status 1: NOT WELL', TWO, 'call', 'wrong'),
     ('rows none.rows', 'status 2: NOT WELL', {}),
+    *(('quick', 'inlinable_string::run are proved: NOT WELL', broken) for broken in (
+        {'INLINABLE_STRING': 'only=2 proved=1'}, {'INLINABLE_STRING': 'only=1 proved=1'}, {'STATUS': '1'})),
+    *(('quick', f'{found} need the proved build: NOT WELL', {'INLINE_TESTS': TRIED.replace(*changed)})
+      for found, *changed in (
+          ('0 tests passed, 1 failed, 1', 'ok', 'FAILED'), ('1 tests passed, 1 failed, 1', 'test result: FAILED.', ''),
+          ('0 tests passed, 0 failed, 1', 'test one ... ok', ''), ('1 tests passed, 0 failed, 2', HELD, HELD + HELD))),
+    *(('quick', 'inline_script runs its script: NOT WELL', *broken) for broken in (
+        ({'PRINTED': 'stdin'},), ({'STATUS': '1'},), (SHOWN, 'done\n', ''))),
     ('counts', 'there is no toy/src/other.rt', 'README.md', 'lib.rt', 'other.rt'),
     ('counts', 'is no word of std', 'README.md', 'has `rows', 'lies in `rows'),
     ('counts', 'there is no rows::law', 'README.md', 'rows::row', 'rows::law'),
