@@ -19,7 +19,7 @@ ENSURES = re.compile(r'^ *ensures\b', re.MULTILINE)
 FIRST = re.compile(r'^```rust\n(.*?)^```$', re.MULTILINE | re.DOTALL)
 # A C function that a program reaches, and what the README says of them.
 REACHED = re.compile(r'^ *\S+::(\w+) +reached$', re.MULTILINE)
-TRUSTED = re.compile(r'of which the program calls\s+(.*?)\.$', re.MULTILINE | re.DOTALL)
+TRUSTED = re.compile(r'of which `inline_script` calls\s+(.*?)\.$', re.MULTILINE | re.DOTALL)
 
 
 def require_callers():

@@ -34,7 +34,8 @@ pub enum Storage {
 /// A text that can be edited, inline or on the heap. Lengths and indices are in bytes.
 ///
 /// `AllocError` means that an allocation failed; the text and its storage are unchanged. A growing
-/// method may fail wherever `String`'s would, except when the result fits in the current capacity.
+/// method may fail wherever `String`'s would, except for a push within the current capacity, and an
+/// insertion within the limit of an inline text.
 pub trait StringExt {
     /// What a contract sees of the value.
     ghost state: { Self → TextState };

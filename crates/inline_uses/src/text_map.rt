@@ -23,8 +23,8 @@ mod json;
 /// A deletion moves one entry. A contract sees the list of the keys, each as its bytes, with their
 /// values, in the order of the keys.
 ///
-/// For a hundred keys or more this is faster than a [`Store`](crate::store::Store), whose entries
-/// stand in one slice in the order of their keys, and which is faster for few.
+/// With some tens of keys or more this is faster than a [`Store`](crate::store::Store), whose
+/// entries stand in one slice in the order of their keys.
 #[derive(Drop)]
 pub struct TextMap<V> {
     alloc: Global,

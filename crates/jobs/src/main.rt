@@ -1,8 +1,9 @@
 //! Does a job that a user of the libraries waits for, on inputs of its own, and prints a digest of
-//! all results. `bench/workloads.txt` lists the jobs, and `bench/run OLD NEW` times them.
+//! all results. `bench/workloads.txt` lists workloads, and `bench/run OLD NEW` times them.
 //!
 //! The arguments are a job, a seed, the size of an input and the number of inputs. The job `each`
-//! does all of those, one after the other, and prints a line for each. `bench/growth` times others.
+//! does those of the workloads and `map`, one after the other, and prints a line for each.
+//! `bench/growth` times others.
 #![tactic(auto)]
 
 mod digest;
