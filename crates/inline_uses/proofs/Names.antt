@@ -31,7 +31,6 @@ pub use Rattle.std.specs.Prelude.{⊤}
 pub use Rattle.std.specs.Result.{IfErr}
 pub use Rattle.std.specs.Vec.{with_item}
 pub use Rattle.std.specs.declared.alloc.AllocError.{AllocError}
-pub use Rattle.inlinable_string.proofs.Compared.{ties_are_equal}
 pub use Rattle.inlinable_string.specs.declared.inlinable_string.InlinableStringN.{InlinableStringN}
 pub use Rattle.inline_uses.specs.Index.{HaveFirsts, IsAt, IsChanged, IsIndex, IsMark, IsOrdered, IsPlace, IsShared, IsSplit, IsSpot, common, compare_fronts, first_front, ids_at, ids_in, ids_of, index_of, last_of, longest_front, mark_order, runs_of, with_run}
 pub use Rattle.inline_uses.specs.Symbols.{HaveOneId, IsGap, IsOrderOf, bytes_at, key_order, text_at, with_ids}
