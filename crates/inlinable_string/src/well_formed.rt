@@ -171,7 +171,7 @@ pub(crate) fn is_ascii(bytes: &[u8]) -> bool
 
 /// Returns `string`. The prover knows a `&str` to be UTF-8 only as a parameter, not out of an
 /// iterator.
-pub(crate) fn assume_utf8_param(string: &str) -> &str
+pub(crate) fn utf8_param(string: &str) -> &str
     ensures value { result.now ≡ string.now }
     ensures utf8 { IsUtf8 string.now }
 {

@@ -10,7 +10,7 @@ ghost use Rattle.inlinable_string.specs.Text.{bytes_of, size};
 ghost use Rattle.inlinable_string.specs.Joins.{text_of_strs, text_of_strs_with};
 
 use super::{InlineStringN, NotEnoughSpaceError};
-use crate::well_formed::assume_utf8_param;
+use crate::well_formed::utf8_param;
 
 impl<const N: usize> InlineStringN<N> {
     /// Appends the characters of an iterator that ends, one by one.
@@ -57,7 +57,7 @@ impl<const N: usize> InlineStringN<N> {
             (λ run. size self.old + size (text_of_strs run.items) ≤ N) → IsOk result }
     {
         for string in items {
-            self.push_str(assume_utf8_param(string))?;
+            self.push_str(utf8_param(string))?;
         }
         Ok(())
     }

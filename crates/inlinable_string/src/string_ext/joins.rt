@@ -7,7 +7,7 @@ ghost use Rattle.inlinable_string.specs.State.{HasRoom};
 ghost use Rattle.inlinable_string.specs.Joins.{text_of_chars, text_of_strs, IsExtended, IsRefusedLast};
 
 use crate::string_ext::StringExt;
-use crate::well_formed::assume_utf8_param;
+use crate::well_formed::utf8_param;
 use std::alloc::AllocError;
 
 /// Appends the characters of an iterator that ends, one by one. Its `size_hint` is not used.
@@ -61,7 +61,7 @@ pub fn extend_strs<'a, S: StringExt, I: Iterator<Item = &'a str>>(
     // `len` states the laws of the value.
     let _ = text.len();
     for string in items {
-        text.push_str(assume_utf8_param(string))?;
+        text.push_str(utf8_param(string))?;
     }
     Ok(())
 }

@@ -6,7 +6,7 @@ use Rattle.inlinable_string.proofs.inline_string.InlineStringN.extend_strs.Goals
 
 pub returns-in_err-push_str : goal.returns-in_err-push_str
 returns-in_err-push_str g c =
-    let known = c.assume_utf8_param.ensures in
+    let known = c.utf8_param.ensures in
     let push = c.in_err-push_str.ensures in
     let end = last_refused text_of_strs _ c.next.new.self _
     c.into_iter-string-iterator.ensures.into_iter_gives c.loop-string.yielded_by _ _

@@ -5,7 +5,7 @@ use Rattle.inlinable_string.proofs.string_ext.joins.extend_strs.Goals as goal
 
 pub loop-string-preserved : goal.loop-string-preserved
 loop-string-preserved g c =
-    let known = c.assume_utf8_param.ensures in
+    let known = c.utf8_param.ensures in
     let push = c.in_ok-push_str.ensures in
     grown_more _ _ _ _ _ _ _ c.loop-string.invariant (text_of_strs-more _ c.in-Some.string)
     (sym (size-chars _ known.utf8)) (rw known.value at push.text) (rw known.value at push.storage)
@@ -13,7 +13,7 @@ loop-string-preserved g c =
 
 pub returns-in_err-push_str : goal.returns-in_err-push_str
 returns-in_err-push_str g c =
-    let known = c.assume_utf8_param.ensures in
+    let known = c.utf8_param.ensures in
     let push = c.in_err-push_str.ensures in
     let end = stopped text_of_strs _ c.next.new.self _
     c.into_iter-string-iterator.ensures.into_iter_gives c.loop-string.yielded_by _
