@@ -97,4 +97,9 @@ WORDS = (
     ('failed_read_of_words', [], b'', 'stdin-dir', b'word_index: the input cannot be read\n', 2),
     ('failed_write_of_words', [], b'a', 'stdout-full', b'word_index: the output cannot be written\n', 2),
     ('long_words_and_progress', ['--top', '1'], b'a\n' * 100_000 + b'l' * 100_000, '',
-     b'word_index: 100000 lines\n %d       1 a\n' % 100_000, 0))
+     b'word_index: 100000 lines\n %d       1 a\n' % 100_000, 0),
+    ('thousand_of_more_words', ['--top', '1000'], b''.join(b'w%04d\n' % at for at in range(1200)), '',
+     b''.join(b'      1 %7d w%04d\n' % (at + 1, at) for at in range(1000)), 0),
+    ('lines_past_a_million', [], b'\n' * 69_999 + b'b\n' + b'\n' * 930_000 + b'a\n', '',
+     b''.join(b'word_index: %d00000 lines\n' % at for at in range(1, 11))
+     + b'      1 1000001 a\n      1   70000 b\n', 0))
