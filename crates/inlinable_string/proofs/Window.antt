@@ -8,7 +8,7 @@ use Rattle.std.proofs.lemmas.Bool.Decides.{nat_tests}
 use Rattle.std.proofs.lemmas.List.{drop-append-le, drop-drop, drop-take, take_all, drop_all, drop-set-add, take_more_set}
 use Rattle.std.proofs.lemmas.Str.{IsUtf8-had, IsUtf8-append, IsUtf8-take, IsUtf8-drop, chars-append, encodes-chars, IsUtf8-past_char, chars_past_char, encode_ascii, IsUtf8-encode}
 use Rattle.inlinable_string.specs.Text.{bytes_of, size, IsCut, IsPlace, IsSplice, IsRemoval}
-use Rattle.inlinable_string.specs.declared.inline_string.Window.{Window}
+use Rattle.inlinable_string.specs.declared.inline_string.window.Window.{Window}
 use Rattle.inlinable_string.proofs.Ranges.{range-utf8, range-chars, splice_from_range}
 use Rattle.inlinable_string.proofs.Text.{Holds, holds, bytes_are, size_of, boundary, cut_at, popped-chars, place_within, size-pushed, char_size}
 
@@ -46,6 +46,42 @@ module _ {t w : List ℕ} {l : ℕ} (h : Holds t w l) where
     splice_from_range (range-chars h a at at (omega arith) e),
   )
 
+  pub place_in : {p : ℕ} → IsPlace t p → p ≤ l
+  place_in {p} at = omega (arith, place_within t p at, size_of h)
+
+  -- the text cut at p
+  pub truncated : {p : ℕ} {v : List ℕ} → IsPlace t p → v ≡ take p w
+      → ∥ IsUtf8 v ∥₁ × ((rest : List ℕ) × IsCut t p (chars v) rest)
+  truncated {p} at e =
+      let b = boundary h at in
+      (∣ rw e (IsUtf8-take w p h.utf8 b) ∣₁, (chars (drop p w), rw e (cut_at h p b)))
+
+  -- the text without the bytes before p
+  pub dropped : {p : ℕ} {v : List ℕ} → IsPlace t p → v ≡ drop p w
+      → ∥ IsUtf8 v ∥₁ × (v ≡ drop p (bytes_of t))
+  dropped {p} at e = (
+    ∣ rw e (IsUtf8-drop w p h.utf8 (boundary h at)) ∣₁,
+    e ∙ ap (drop p) (bytes_are h),
+  )
+
+  -- the text without its last character c, where front is what comes before that
+  module _ (all rest front : List ℕ) (c : ℕ) (is : all ≡ bytes_of t)
+      (steps : all ≡ rest ++ encode_utf8 c) (e : front ≡ rest) where
+    whole : w ≡ front ++ encode_utf8 c
+    whole = bytes_are h ∙ sym is ∙ steps ∙ ap (λ x. x ++ encode_utf8 c) (sym e)
+
+    pub front_within : length front ≤ l
+    front_within =
+        omega (arith, h.long, ap length whole, length-append front (encode_utf8 c))
+
+    pub popped : {v : List ℕ} → IsUtf8 front → v ≡ take (l - (l - length front)) w
+        → ∥ IsUtf8 v ∥₁ × (t ≡ chars v ++ c ∷ [])
+    popped {v} u taken =
+        let count : l - (l - length front) ≡ length front = omega (arith, front_within) in
+        let same : v ≡ front = taken ∙ ap (λ k. take k w) count ∙ ap (take (length front)) whole
+        ∙ take_at front (encode_utf8 c) (length front) refl in
+        (∣ rw same u ∣₁, rw same (sym h.shown ∙ popped-chars _ front c h.utf8 u whole))
+
   -- the bytes of the character at p taken out
   pub removed : {p : ℕ} (c : ℕ) (rest : List ℕ) {v : List ℕ} → IsPlace t p
       → drop p w ≡ encode_utf8 c ++ rest → v ≡ take p w ++ rest
@@ -68,29 +104,6 @@ pub inserted_last : (w s : List ℕ) (l : ℕ) → length w ≡ l → insert_sli
 inserted_last w s l e =
     rw (take_all l w (omega (arith, e)), drop_all l w (omega (arith, e)), append-nil) refl
 
--- one byte written after l bytes from s on
-pub written_behind : (bs : List ℕ) (s l c : ℕ) → s + l < length bs
-    → take (l + 1) (drop s (set bs (s + l) c)) ≡ take l (drop s bs) ++ c ∷ []
-written_behind bs s l c h =
-    rw drop-set-add (take_more_set (drop s bs) l c (omega (arith, h, length-drop s bs)))
-
--- bytes written after them
-extended : (old new u : List ℕ) (s l m : ℕ) → s + l ≡ m → m ≤ length old
-    → take (m + length u) new ≡ take m old ++ u
-    → take (l + length u) (drop s new) ≡ take l (drop s old) ++ u
-extended old new u s l m sum h e =
-    let short : s ≤ length (take m old) = omega (arith, length-take-le m old h) in
-    let whole = drop-take s (l + length u) new in
-    let front = drop-take s l old in
-    grind (arith, e, sum, short, whole, front, drop-append-le s (take m old) u short)
-
--- bytes written after the window of an array
-pub window_extended : {N : ℕ} (s : Window N) → s.start + s.len ≤ length s.bytes
-    → (u new : List ℕ)
-    → take (s.start + s.len + length u) new ≡ take (s.start + s.len) s.bytes ++ u
-    → take (s.len + length u) (drop s.start new) ≡ take s.len (drop s.start s.bytes) ++ u
-window_extended s inside u new e = extended s.bytes new u s.start s.len _ refl inside e
-
 -- the text t of an array, and its window there
 module _ {N : ℕ} {t : List ℕ} (s : Window N) (view : chars (take s.len (drop s.start s.bytes)) ≡ t)
     (inv : (length s.bytes ≡ N) × (s.start + s.len ≤ N)
@@ -102,66 +115,5 @@ module _ {N : ℕ} {t : List ℕ} (s : Window N) (view : chars (take s.len (drop
     long = length-take-le s.len (drop s.start s.bytes)
         (omega (arith, inv.0, inv.1, length-drop s.start s.bytes));
   }
-
-  -- the window cut at a place
-  pub window_truncated : {p : ℕ} → IsPlace t p
-      → ((s.start + p ≤ N) × ∥ IsUtf8 (take p (drop s.start s.bytes)) ∥₁)
-      × ((rest : List ℕ) × IsCut t p (chars (take p (drop s.start s.bytes))) rest)
-  window_truncated {p} at =
-      let short : p ≤ s.len = omega (arith, place_within t p at, size_of held) in
-      let b = boundary held at in
-      let same : take p (take s.len (drop s.start s.bytes)) ≡ take p (drop s.start s.bytes) =
-      take-take p s.len (drop s.start s.bytes) short in (
-        (omega (arith, inv.1, short), ∣ rw same at (IsUtf8-take _ p held.utf8 b) ∣₁),
-        (_, rw same at (cut_at held p b)),
-      )
-
-  -- the window without the bytes before a place
-  pub window_dropped : {p : ℕ} → IsPlace t p → (p ≤ s.len)
-      × ∥ IsUtf8 (take (s.len - p) (drop (s.start + p) s.bytes)) ∥₁
-      × (take (s.len - p) (drop (s.start + p) s.bytes) ≡ drop p (bytes_of t))
-  window_dropped {p} at =
-      let short : p ≤ s.len = omega (arith, place_within t p at, size_of held) in
-      let ws = drop s.start s.bytes in
-      let parts : p + (s.len - p) ≡ s.len = omega (arith, short) in
-      let same : take (s.len - p) (drop (s.start + p) s.bytes) ≡ drop p (take s.len ws) =
-      ap (take (s.len - p)) (sym (drop-drop p s.start s.bytes))
-      ∙ sym (drop-take p (s.len - p) ws) ∙ ap (λ k. drop p (take k ws)) parts in (
-        short,
-        ∣ rw same (IsUtf8-drop _ p held.utf8 (boundary held at)) ∣₁,
-        same ∙ ap (drop p) (bytes_are held),
-      )
-
-  -- the window without its last character c, where front is what stands before that
-  pub window_popped : (all rest front : List ℕ) (c : ℕ) → all ≡ bytes_of t
-      → all ≡ rest ++ encode_utf8 c → front ≡ rest → IsUtf8 front
-      → ((s.start + length front ≤ N) × ∥ IsUtf8 (take (length front) (drop s.start s.bytes)) ∥₁)
-      × (t ≡ chars (take (length front) (drop s.start s.bytes)) ++ c ∷ [])
-  window_popped all rest front c is steps e u =
-      let ws = drop s.start s.bytes in
-      let last = encode_utf8 c in
-      let whole : take s.len ws ≡ front ++ last =
-      bytes_are held ∙ sym is ∙ steps ∙ ap (λ x. x ++ last) (sym e) in
-      let sizes : s.len ≡ length front + length last =
-      sym held.long ∙ ap length whole ∙ length-append front last in
-      let same : take (length front) ws ≡ front =
-      sym (take-take (length front) s.len ws (omega (arith, sizes)))
-      ∙ ap (take (length front)) whole ∙ take_at front last (length front) refl in (
-        (omega (arith, inv.1, sizes), ∣ rw same u ∣₁),
-        rw same (sym view ∙ popped-chars _ front c held.utf8 u whole),
-      )
-
-  -- bytes written over the window
-  pub window_replaced : (u new : List ℕ) {bytes : List ℕ} → u ≡ bytes → IsUtf8 bytes
-      → length bytes ≡ s.len → take (s.start + length u) new ≡ take s.start s.bytes ++ u
-      → ((s.start + s.len ≤ N) × ∥ IsUtf8 (take s.len (drop s.start new)) ∥₁)
-      × (bytes_of (chars (take s.len (drop s.start new))) ≡ bytes)
-  window_replaced u new {bytes} is utf8 count e =
-      let sizes : s.len ≡ 0 + length u = omega (arith, ap length is) in
-      let same : take s.len (drop s.start new) ≡ bytes =
-      ap (λ k. take k (drop s.start new)) sizes
-      ∙ extended s.bytes new u s.start 0 s.start (omega arith) (omega (arith, inv.0, inv.1)) e
-      ∙ is in
-      ((inv.1, ∣ rw same utf8 ∣₁), rw same (encodes-chars bytes utf8))
 
 pub ruleset one_char = (chars_one, size_one, size-pushed, char_size)

@@ -9,12 +9,12 @@ ghost use Rattle.std.specs.List.{list_all};
 ghost use Rattle.std.specs.Str.{all_scalars, chars, IsCharBoundary};
 ghost use Rattle.inlinable_string.specs.Text.{bytes_of, size, IsCut, IsPlace, IsSplice, IsRemoval};
 
-use crate::cells::{insert_byte, insert_in, remove_in, write_at, write_front};
 use crate::well_formed::text_in;
 use std::alloc::AllocError;
 use std::error::Error;
 use std::marker::Model;
 use std::{fmt, str};
+use window::Window;
 
 mod ascii_case;
 mod borrowed;
@@ -30,6 +30,7 @@ mod room;
 mod split;
 mod trimmed;
 mod utf8;
+mod window;
 
 /// The capacity of an [`InlineString`] in bytes, as in the crate `inlinable_string`.
 pub const INLINE_STRING_CAPACITY: usize = 30;
@@ -82,18 +83,6 @@ impl fmt::Display for ReplaceError {
 #[derive(Drop)]
 pub struct InlineStringN<const N: usize> {
     window: Window<N>,
-}
-
-/// An array, and the part of it that is the text: the `len` bytes from `start` on, so that an edit
-/// near the front moves few bytes.
-// `Copy`, so that a copy of a text is one value. Field by field it is made on the stack first: the
-// array in pieces that overlap, across which it is then read, and the processor waits for them.
-// `len` comes second, as in std's `String`, so that an `InlinableStringN` has it in one place.
-#[derive(Clone, Copy)]
-struct Window<const N: usize> {
-    start: usize,
-    len: usize,
-    bytes: [u8; N],
 }
 
 impl<const N: usize> Model for InlineStringN<N> {
@@ -167,11 +156,7 @@ impl<const N: usize> InlineStringN<N> {
         ensures refused { OnFalse result (self.new ≡ self.old) }
     {
         if ch.is_ascii() {
-            let end = self.window.start + self.window.len;
-            if end < N {
-                // The length first: else LLVM joins this with a push onto the heap, by a jump.
-                self.window.len += 1;
-                self.window.bytes[end] = ch as u8;
+            if self.window.push_byte(ch as u8) {
                 return true;
             }
         }
@@ -210,27 +195,7 @@ impl<const N: usize> InlineStringN<N> {
         ensures len { OnOk result (size self.new ≡ size self.old + length string.now) }
         ensures err { OnErr result (self.new ≡ self.old) }
     {
-        let len = self.window.len;
-        let end = self.window.start + len;
-        // The usual case by itself, and first: there is room after the text, and nothing moves.
-        if string.len() <= N - end {
-            let new_len = len + string.len();
-            write_at(&mut self.window.bytes[..], end, string.as_bytes());
-            self.window.len = new_len;
-            return Ok(());
-        }
-        if N - len < string.len() {
-            return Err(NotEnoughSpaceError);
-        }
-        let start = insert_in(
-            &mut self.window.bytes[..],
-            self.window.start,
-            len,
-            len,
-            string.as_bytes(),
-        );
-        self.window.start = start;
-        self.window.len = len + string.len();
+        self.window.append(string.as_bytes())?;
         Ok(())
     }
 
@@ -254,18 +219,7 @@ impl<const N: usize> InlineStringN<N> {
         ensures behind { OnOk result (IsPlace self.new (idx + size (ch ∷ []))) }
     {
         if ch.is_ascii() {
-            let len = self.window.len;
-            if len == N {
-                return Err(NotEnoughSpaceError);
-            }
-            insert_byte(
-                &mut self.window.bytes[..],
-                &mut self.window.start,
-                len,
-                idx,
-                ch as u8,
-            );
-            self.window.len = len + 1;
+            self.window.insert_byte(idx, ch as u8)?;
             return Ok(());
         }
         let mut buffer = [0; 4];
@@ -291,20 +245,7 @@ impl<const N: usize> InlineStringN<N> {
         ensures within { idx ≤ size self.old }
         ensures behind { OnOk result (IsPlace self.new (idx + length string.now)) }
     {
-        let old_len = self.window.len;
-        if N - old_len < string.len() {
-            return Err(NotEnoughSpaceError);
-        }
-        let new_len = old_len + string.len();
-        let start = insert_in(
-            &mut self.window.bytes[..],
-            self.window.start,
-            old_len,
-            idx,
-            string.as_bytes(),
-        );
-        self.window.start = start;
-        self.window.len = new_len;
+        self.window.insert(idx, string.as_bytes())?;
         Ok(())
     }
 
@@ -317,7 +258,7 @@ impl<const N: usize> InlineStringN<N> {
         ensures len { size self.new ≡ new_len }
         ensures back { self.old ≡ self.new ++ chars (drop new_len (bytes_of self.old)) }
     {
-        self.window.len = new_len;
+        self.window.truncate(new_len);
     }
 
     /// Removes and returns the last character; `None` if the text is empty.
@@ -329,10 +270,11 @@ impl<const N: usize> InlineStringN<N> {
             (λ c. size self.new + size (c ∷ []) ≡ size self.old) }
         ensures bound { size self.new ≤ size self.old }
     {
+        let len = self.window.len;
         let mut rest = self.as_str().chars();
         let last = rest.next_back()?;
         let rest_len = rest.as_str().len();
-        self.window.len = rest_len;
+        self.window.drop_back(len - rest_len);
         Some(last)
     }
 
@@ -347,16 +289,7 @@ impl<const N: usize> InlineStringN<N> {
         ensures at { IsPlace self.new idx }
     {
         let (ch, next) = char_at(self.as_str(), idx);
-        let len = self.window.len;
-        let start = remove_in(
-            &mut self.window.bytes[..],
-            self.window.start,
-            len,
-            idx,
-            next,
-        );
-        self.window.start = start;
-        self.window.len = len - (next - idx);
+        self.window.remove(idx, next);
         ch
     }
 
@@ -366,7 +299,7 @@ impl<const N: usize> InlineStringN<N> {
     pub fn clear(&mut self)
         ensures { self.new ≡ [] }
     {
-        self.window.len = 0;
+        self.window.clear();
     }
 
     /// Overwrites the text with `bytes`, which must have its length and be UTF-8. The length is
@@ -389,11 +322,7 @@ impl<const N: usize> InlineStringN<N> {
         let Some(string) = text_in(bytes) else {
             return Err(ReplaceError::NotUtf8);
         };
-        write_at(
-            &mut self.window.bytes[..],
-            self.window.start,
-            string.as_bytes(),
-        );
+        self.window.overwrite(string.as_bytes());
         Ok(())
     }
 
@@ -440,9 +369,7 @@ impl<const N: usize> InlineStringN<N> {
     pub fn into_bytes(self) -> [u8; N]
         ensures { result ≡ bytes_of self.entry ++ replicate (N - size self.entry) 0 }
     {
-        let mut bytes = [0; N];
-        write_front(&mut bytes[..], self.as_str().as_bytes());
-        bytes
+        self.window.to_bytes()
     }
 
     /// Returns the text as a `str`. Its character boundaries are those of the text.

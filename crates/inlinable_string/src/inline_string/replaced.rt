@@ -7,7 +7,6 @@ ghost use Rattle.inlinable_string.specs.Text.{bytes_of, size, IsPlace};
 ghost use Rattle.inlinable_string.specs.Ranges.{IsRangeReplaced};
 
 use super::{InlineStringN, NotEnoughSpaceError};
-use crate::cells::{insert_in, remove_in};
 use std::ops::Range;
 
 impl<const N: usize> InlineStringN<N> {
@@ -41,27 +40,8 @@ impl<const N: usize> InlineStringN<N> {
         ensures within { range.end ≤ size self.old }
         ensures behind { OnOk result (IsPlace self.new (range.start + length replace_with.now)) }
     {
-        let rest_len = self.window.len - (range.end - range.start);
-        if N - rest_len < replace_with.len() {
-            return Err(NotEnoughSpaceError);
-        }
-        let (from, to) = (range.start, range.end);
-        let cut = remove_in(
-            &mut self.window.bytes[..],
-            self.window.start,
-            self.window.len,
-            from,
-            to,
-        );
-        let start = insert_in(
-            &mut self.window.bytes[..],
-            cut,
-            rest_len,
-            from,
-            replace_with.as_bytes(),
-        );
-        self.window.start = start;
-        self.window.len = rest_len + replace_with.len();
+        self.window
+            .replace(range.start, range.end, replace_with.as_bytes())?;
         Ok(())
     }
 }

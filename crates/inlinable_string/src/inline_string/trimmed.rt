@@ -47,7 +47,6 @@ impl<const N: usize> InlineStringN<N> {
         ensures text { self.new ≡ chars (drop count (bytes_of self.old)) }
         ensures bytes { bytes_of self.new ≡ drop count (bytes_of self.old) }
     {
-        self.window.start += count;
-        self.window.len -= count;
+        self.window.drop_front(count);
     }
 }
