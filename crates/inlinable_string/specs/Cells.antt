@@ -30,3 +30,8 @@ start_after_insertion {N} w p n = start_with_more w.start (N - w.len - w.start) 
 -- its start after the bytes from p to q are removed
 abbrev pub start_after_removal : {N : ℕ} → Window N → ℕ → ℕ → ℕ
 start_after_removal w p q = start_with_less w.start w.len p (q - p)
+
+-- its text is the bytes bs, which start at s
+abbrev pub IsTextAt : {N : ℕ} → Window N → ℕ → List ℕ → Type 0
+IsTextAt w s bs =
+    IsInside w × (w.start ≡ s) × (w.len ≡ length bs) × (window_bytes w ≡ bs)

@@ -7,6 +7,8 @@ ghost use Rattle.inlinable_string.specs.Cells.{window_bytes, IsInside, start_wit
 use super::NotEnoughSpaceError;
 use crate::cells::{insert_byte, insert_in, remove_in, write_at, write_front};
 
+mod rows;
+
 /// An array, and the part of it that is the text: the `len` bytes from `start` on, so that an edit
 /// near the front moves few bytes.
 // `Copy`, so that a copy of a text is one value. Field by field it is made on the stack first: the
