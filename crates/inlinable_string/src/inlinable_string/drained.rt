@@ -18,6 +18,7 @@ impl<const N: usize> InlinableStringN<N> {
     ///
     /// Allocates only if `range` has more than `N` bytes, once and exactly. Cannot fail if it has
     /// not, or if the text is inline. An `AllocError` leaves the text unchanged.
+    #[tactic(auto, using(crate::proofs::Text::place_within))]
     pub fn drain(&mut self, range: Range<usize>) -> Result<Self, AllocError>
         requires start { IsPlace (inlinable_state N self.old).text range.start }
         requires end { IsPlace (inlinable_state N self.old).text range.end }
@@ -32,6 +33,10 @@ impl<const N: usize> InlinableStringN<N> {
         ensures err { OnErr result
             (IsSameText (inlinable_state N self.old) (inlinable_state N self.new)) }
 
+        // Where the bytes were, there is a character boundary.
+        ensures within { range.end ≤ size (inlinable_state N self.old).text }
+        ensures at { IsPlace (inlinable_state N self.new).text range.start }
+
         // Where both are stored, and when the part needs no allocation.
         ensures storage { (inlinable_state N self.new).storage
             ≡ (inlinable_state N self.old).storage }
@@ -41,6 +46,8 @@ impl<const N: usize> InlinableStringN<N> {
             ≡ (inlinable_state N self.old).policy }
         ensures drained_storage { IfOk result (λ part. (inlinable_state N part).storage
             ≡ storage_when_made (inlinable_policy N) (size (inlinable_state N part).text)) }
+        ensures drained_capacity { IfOk result (λ part. (inlinable_state N part).storage
+            ≡ Storage.Inline → (inlinable_state N part).capacity ≡ N) }
         ensures granted { range.end ≤ range.start + N → IsOk result }
         ensures inline_granted { (inlinable_state N self.old).storage ≡ Storage.Inline
             → IsOk result }
