@@ -39,18 +39,15 @@ pub fn line_of(alloc: Global, one: &Playing, (number, what): Wrong) -> Result<St
 
 /// What is wrong first with a row that was played to its end.
 pub fn first_wrong(one: &Playing) -> Option<Wrong> {
-    let room = one.made.room.unwrap_or(0);
-    if let Some(what) = wrong_start(one.row.start.text.as_str(), room, &one.start) {
+    if let Some(what) = wrong_start(one) {
         return Some((0, what));
     }
     let mut before = &one.start;
-    let mut may_spill = room > 30 || before.text.len() > 30;
     let mut number = 0usize;
     for (step, prepared) in one.row.steps.iter().zip(&one.steps) {
         let found = &prepared.found;
         number = number.saturating_add(1);
-        may_spill = is_spilled_after(may_spill, step, before, found);
-        if let Some(what) = wrong_step(step, before, found, may_spill) {
+        if let Some(what) = wrong_step(step, before, found) {
             return Some((number, what));
         }
         before = found;
@@ -59,30 +56,36 @@ pub fn first_wrong(one: &Playing) -> Option<Wrong> {
 }
 
 /// What is wrong with a text as it is made.
-fn wrong_start(text: &str, room: usize, start: &Found) -> Option<&'static str> {
-    if start.text.as_str() != text {
-        Some("the text is wrong")
-    } else if start.capacity < room {
+fn wrong_start(one: &Playing) -> Option<&'static str> {
+    let (wanted, found) = (&one.row.start, &one.start);
+    let room = one.made.room.unwrap_or(0);
+    if found.text.as_str() != wanted.text.as_str() {
+        return Some("the text is wrong");
+    }
+    let len = wanted.front.len().saturating_add(wanted.text.len());
+    let most = len.saturating_add(wanted.back.len()).max(room);
+    let wrong = wrong_value(found, is_past_limit(found, most));
+    if wrong.is_none() && found.capacity < room {
         Some("the capacity is wrong")
     } else {
-        wrong_value(start)
+        wrong
     }
 }
 
-/// What is wrong with a text whatever a row wants.
-fn wrong_value(found: &Found) -> Option<&'static str> {
-    match (found.storage, found.limit) {
+/// What is wrong with a text whatever a row wants, where it must be on the heap or inline.
+fn wrong_value(found: &Found, is_on_heap: bool) -> Option<&'static str> {
+    match found.storage {
         _ if !found.is_one => Some("calls differ on the text"),
-        (Some(Storage::Inline), Some(limit)) if found.capacity != limit => {
+        Some(storage) if is_on_heap != (storage == Storage::Heap) => Some("the storage is wrong"),
+        Some(Storage::Inline) if found.limit != Some(found.capacity) => {
             Some("the capacity is wrong")
         }
-        (Some(Storage::Inline), None) => Some("the storage is wrong"),
         _ => None,
     }
 }
 
 /// What is wrong with a step.
-fn wrong_step(step: &Step, before: &Found, found: &Found, may_spill: bool) -> Option<&'static str> {
+fn wrong_step(step: &Step, before: &Found, found: &Found) -> Option<&'static str> {
     let Some(wanted) = &step.wanted else {
         return Some("no answer is wanted");
     };
@@ -102,10 +105,10 @@ fn wrong_step(step: &Step, before: &Found, found: &Found, may_spill: bool) -> Op
         Some("the text is wrong")
     } else if !is_capacity_right(step, before, found) {
         Some("the capacity is wrong")
-    } else if !is_storage_right(storage, found, may_spill) {
+    } else if storage.is_some() && found.storage != storage {
         Some("the storage is wrong")
     } else {
-        wrong_value(found)
+        wrong_value(found, is_on_heap_after(step, before, found))
     }
 }
 
@@ -118,16 +121,6 @@ fn is_wanted(answer: &Answer, wanted: &Answer, found: &Found) -> bool {
             text == wanted && is_long == (*storage == Storage::Heap)
         }
         _ => answer == wanted,
-    }
-}
-
-/// Whether a text is stored where the row states, or else where its type has it: on the heap if
-/// that has no capacity inline, and inline unless the text may have been moved.
-fn is_storage_right(wanted: Option<Storage>, found: &Found, may_spill: bool) -> bool {
-    match wanted {
-        Some(_) => found.storage == wanted,
-        None if found.limit.is_none() => found.storage == Some(Storage::Heap),
-        None => may_spill || found.storage != Some(Storage::Heap),
     }
 }
 
@@ -160,22 +153,31 @@ fn is_capacity_right(step: &Step, before: &Found, found: &Found) -> bool {
     }
 }
 
-/// Whether a text may be on the heap after a step: it was made, reserved or grown past its
-/// capacity inline.
-fn is_spilled_after(was: bool, step: &Step, before: &Found, found: &Found) -> bool {
-    let limit = found.limit.unwrap_or(0);
-    let (word, number) = (step.call.word, step.call.number);
-    let is_long = limit < found.text.len();
-    if !is_done(found) {
-        return was || is_long;
+/// Whether this many bytes are more than a text has inline.
+fn is_past_limit(found: &Found, len: usize) -> bool {
+    match found.limit {
+        Some(limit) => limit < len,
+        None => true,
     }
+}
+
+/// Whether a text is on the heap after a step: it was grown or reserved past its capacity inline,
+/// or made so, and not moved back since, by shrinking or by what makes another text.
+fn is_on_heap_after(step: &Step, before: &Found, found: &Found) -> bool {
+    let was = before.storage == Some(Storage::Heap);
+    let (word, number) = (step.call.word, step.call.number);
+    let is_long = is_past_limit(found, found.text.len());
     match step.call.effect {
-        _ if word == "clone" => was || is_long,
-        _ if word == "with_capacity" => limit < number,
+        // Nothing is left of a text that is handed out, and all of one that comes back.
+        _ if matches!(word, "into_bytes" | "into_string") => {
+            is_long || was && matches!(found.answers.last(), Some(Answer::Word(_)))
+        }
+        _ if !is_done(found) || matches!(word, "clone" | "boxed") => was || is_long,
+        _ if word == "with_capacity" => is_past_limit(found, number),
         Effect::RemakesOnHeap => true,
         Effect::Remakes | Effect::Shrinks => is_long,
         Effect::Keeps if matches!(word, "reserve" | "reserve_exact") => {
-            was || limit < before.text.len().saturating_add(number)
+            was || is_past_limit(found, before.text.len().saturating_add(number))
         }
         Effect::Keeps => was || is_long,
     }
