@@ -20,10 +20,21 @@ UNREAD = {
     'a row without an answer': ('InlineString "": len = 0, ""\nInlineString "a": pop\n', 2),
     'a line that is no row': ('InlineString "": len = 0, ""\nInlineString "" len = 0, ""\n', 2),
     'a line that goes on with no row': ('  InlineString "": len = 0, ""\n', 1)}
-# Files with a row that is wrong on one of its two types alone.
-OF_ONE_TYPE = {
-    'a row that is wrong on its first type': 'InlinableString, String "ab": pop = \'b\', "a" heap\n',
-    'a row that is wrong on its second type': 'InlinableString, String "ab": pop = \'b\', "a" inline\n'}
+CAPACITY, ROOM, STORAGE = 'the capacity is wrong', 'the answer is wrong: no room', 'the storage is wrong'
+# Files with a row that is wrong in one thing alone, and what is found: the step, what is wrong, and where.
+WRONG = {
+    'InlinableString, String "ab": pop = \'b\', "a" heap': ('step 1', STORAGE, 'on InlinableString'),
+    'InlinableString, String "ab": pop = \'b\', "a" inline': ('step 1', STORAGE, 'on String'),
+    'every "a": eq "a" * 31 = false, unchanged': ('step 1', 'the answer is wrong', 'on InlineString'),
+    'every "a": to_json = "a", unchanged': ('step 1', 'the answer is wrong', 'on InlinableString'),
+    'String "a" * 31 room 100: shrink_to_fit = done, unchanged': ('step 1', CAPACITY, 'on String room 100'),
+    'String "a" room 31: reserve 100 asking 60 = no room, "a" heap': ('step 1', CAPACITY, 'on String room 31'),
+    'String "a" room 31 asking 30: len = 1, unchanged': ('step 0', CAPACITY, 'on String room 31'),
+    'InlinableString "foo": reserve 28 asking 27 = done, "foo" inline': ('step 1', ROOM, 'on InlinableString'),
+    'String "": with_capacity 31 asking 30 = done, ""': ('step 1', ROOM, 'on String'),
+    'every "": reserve_exact 10 asking 9 = done, ""': ('step 1', ROOM, 'on String'),
+    'every "a" asking 30: push \'b\' = done, "ab"': ('step 0', STORAGE, 'on InlinableString room 31'),
+    'InlinableString "a" room 30 asking 31: len = 1, unchanged': ('step 0', STORAGE, 'on InlinableString room 30')}
 
 
 def unquoted(row):
@@ -62,11 +73,13 @@ def spoiled(name, text):
 
 def is_found(run_of):
     """Whether a program ends as it must after this file, and names this line of it and no other."""
-    program, path, number, statuses = run_of
+    program, path, number, statuses, *words = run_of
     output, status = run(program, Case(path, [path]))
     # how many are wrong is printed too, if all could be read
     line, lines = (f'{path}:{number}: ', 2) if status == 1 else (f'{path}: line {number}: ', 1)
-    return status in statuses and output.startswith(line.encode()) and output.count(b'\n') == lines
+    is_whole = output.startswith(line.encode()) and output.count(b'\n') == lines
+    is_named = not words or re.search('{}: {}.*, {}\n'.format(*words), output.decode()) is not None
+    return status in statuses and is_whole and is_named
 
 
 def shown():
@@ -79,12 +92,12 @@ def shown():
     except Failure as failure:
         return [(str(failure), False)]
     files += [(what, text, line, (2,)) for what, (text, line) in UNREAD.items()]
-    files += [(what, text, 1, (1,)) for what, text in OF_ONE_TYPE.items()]
+    files += [(row, f'{row}\n', 1, (1,), *words) for row, words in WRONG.items()]
     with tempfile.TemporaryDirectory() as place:
         whats, runs = [], []
-        for at, (what, text, number, statuses) in enumerate(files):
+        for at, (what, text, *wanted) in enumerate(files):
             path = os.path.join(place, f'{at}.rows')
             write_text(path, text)
             whats += [f'{what}, {name}' for name in builds]
-            runs += [(program, path, number, statuses) for program in builds.values()]
+            runs += [(program, path, *wanted) for program in builds.values()]
         return list(zip(whats, all_runs(is_found, runs)))

@@ -7,7 +7,7 @@ use inlinable_string::INLINE_STRING_CAPACITY;
 
 const NOT_TYPE: Fault = Fault("not a type of text");
 
-const NOT_START: Fault = Fault("`room`, `after` and `before` come once, with a number or a text");
+const NOT_START: Fault = Fault("a word of the start comes twice, or lacks its number or text");
 
 /// A type of text. The number is the capacity inline.
 #[derive(Clone, Copy, PartialEq, Eq)]
@@ -27,6 +27,8 @@ pub enum Kind {
 pub struct Start {
     pub text: String,
     pub room: Option<usize>,
+    /// The capacity that the text is made with, if it is another.
+    pub asked: Option<usize>,
     /// What stood before it and is removed.
     pub front: String,
     /// What stood after it and is cut off.
@@ -84,6 +86,7 @@ pub fn making_of(reader: &mut RowReader, text: String) -> Result<Start, Fault> {
     let mut start = Start {
         text,
         room: None,
+        asked: None,
         front: String::new(reader.alloc),
         back: String::new(reader.alloc),
     };
@@ -91,6 +94,11 @@ pub fn making_of(reader: &mut RowReader, text: String) -> Result<Start, Fault> {
         if reader.takes_word("room") {
             let room = reader.number()?;
             if start.room.replace(room).is_some() {
+                return Err(NOT_START);
+            }
+        } else if reader.takes_word("asking") {
+            let asked = reader.number()?;
+            if start.asked.replace(asked).is_some() {
                 return Err(NOT_START);
             }
         } else if reader.takes_word("after") {

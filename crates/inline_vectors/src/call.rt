@@ -14,6 +14,8 @@ pub struct Call {
     pub number: usize,
     /// The end of a range.
     pub end: usize,
+    /// The amount or the capacity that the library is given.
+    pub asked: usize,
     /// A text, or a character as one.
     pub text: String,
     pub bytes: Vec<u8>,
@@ -28,6 +30,8 @@ pub struct Call {
 pub enum Argument {
     /// A place, an amount, a width or a capacity.
     Number,
+    /// An amount or a capacity, and perhaps another that the library is given.
+    Room,
     /// A range of places.
     Range,
     Char,
@@ -53,7 +57,7 @@ pub enum Effect {
     RemakesOnHeap,
 }
 
-use Argument::{Bytes, Char, List, Number, Other, Range, Text, TextOrList, Units};
+use Argument::{Bytes, Char, List, Number, Other, Range, Room, Text, TextOrList, Units};
 use Effect::{Keeps, Remakes, RemakesOnHeap, Shrinks};
 
 /// The words of the calls.
@@ -71,7 +75,7 @@ const CALLS: &[(&[Argument], Effect, &[&str])] = &[
     (&[Bytes], Keeps, &["replace_bytes", "from_utf8_lossy"]),
     (&[Other], Keeps, &["eq", "cmp", "partial_cmp"]),
     (&[Number], Keeps, &["truncate", "remove", "split_off"]),
-    (&[Number], Keeps, &["reserve", "reserve_exact"]),
+    (&[Room], Keeps, &["reserve", "reserve_exact"]),
     (&[Number], Keeps, &["padded", "cut"]),
     (&[], Keeps, &["pop", "clear", "retain_odd"]),
     (&[], Keeps, &["make_ascii_uppercase"]),
@@ -85,7 +89,8 @@ const CALLS: &[(&[Argument], Effect, &[&str])] = &[
     (&[], Remakes, &["new", "default", "clone", "copy"]),
     (&[], Remakes, &["into_bytes", "into_string"]),
     (&[], Remakes, &["into_array", "boxed"]),
-    (&[Number], Remakes, &["with_capacity", "with_limit"]),
+    (&[Room], Remakes, &["with_capacity"]),
+    (&[Number], Remakes, &["with_limit"]),
     (&[Char], Remakes, &["try_from_char"]),
     (&[Text], Remakes, &["from", "from_str", "from_string"]),
     (&[Text], Remakes, &["from_chars", "from_json", "try_from"]),
@@ -114,6 +119,7 @@ impl Call {
                         effect,
                         number: 0,
                         end: 0,
+                        asked: 0,
                         text: String::new(alloc),
                         bytes: Vec::new(alloc),
                         units: Vec::new(alloc),

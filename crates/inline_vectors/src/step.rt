@@ -63,6 +63,13 @@ fn give(reader: &mut RowReader, call: &mut Call) -> Result<(), Fault> {
     for &argument in call.arguments {
         match argument {
             Argument::Number => call.number = reader.number()?,
+            Argument::Room => {
+                call.number = reader.number()?;
+                call.asked = call.number;
+                if reader.takes_word("asking") {
+                    call.asked = reader.number()?;
+                }
+            }
             Argument::Range => give_range(reader, call)?,
             Argument::Char => call.text.push(character(reader)?)?,
             Argument::TextOrList if reader.is_at("[") => {

@@ -17,8 +17,8 @@ pub fn command_of(call: &Call) -> Option<Command<'_>> {
         "remove" => Command::Remove(call.number),
         "clear" => Command::Clear,
         "replace_bytes" => Command::ReplaceBytes(call.bytes.as_slice()),
-        "reserve" => Command::Reserve(call.number),
-        "reserve_exact" => Command::ReserveExact(call.number),
+        "reserve" => Command::Reserve(call.asked),
+        "reserve_exact" => Command::ReserveExact(call.asked),
         "shrink_to_fit" => Command::ShrinkToFit,
         _ => return None,
     })

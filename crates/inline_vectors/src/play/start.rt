@@ -11,7 +11,7 @@ use std::alloc::Global;
 
 /// The text that a row begins with.
 pub fn text_of(alloc: Global, start: &Start, made: Made) -> Result<Text, Fault> {
-    let mut text = Text::empty(alloc, made.kind, made.room)?;
+    let mut text = Text::empty(alloc, made.kind, start.asked.or(made.room))?;
     fill(alloc, &mut text, start, made.way)?;
     Ok(text)
 }

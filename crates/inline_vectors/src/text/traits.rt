@@ -21,7 +21,7 @@ pub fn make<S: StringMake + Drop>(
     let units = call.units.as_slice();
     match call.word {
         "new" => put(text, Ok::<S, AllocError>(S::new(alloc)), "no memory"),
-        "with_capacity" => put(text, S::with_capacity(alloc, call.number), "no memory"),
+        "with_capacity" => put(text, S::with_capacity(alloc, call.asked), "no memory"),
         "from_utf8" => match S::from_utf8(alloc, given.take_vec()) {
             Ok(made) => put(text, Ok::<S, AllocError>(made), "no memory"),
             Err(error) => Ok(Answer::NotUtf8(error.into_bytes())),
@@ -70,8 +70,8 @@ pub fn edit<S: StringExt>(text: &mut S, call: &Call, given: &mut Given) -> Resul
                 Some((before, after)) => given.pair(before, after),
                 None => Ok(Answer::Word("none")),
             },
-            "reserve" => done_or(text.reserve(call.number), "no memory"),
-            "reserve_exact" => done_or(text.reserve_exact(call.number), "no memory"),
+            "reserve" => done_or(text.reserve(call.asked), "no memory"),
+            "reserve_exact" => done_or(text.reserve_exact(call.asked), "no memory"),
             "shrink_to_fit" => done_or(text.shrink_to_fit(), "no memory"),
             "extend_chars" => done_or(extend_chars(text, call.text.chars()), "no memory"),
             "extend_strs" => done_or(extend_strs(text, given.strs.iter().copied()), "no memory"),
