@@ -1,9 +1,11 @@
 """gate rows [FILE ..]: plays files of rows on both builds of `inline_vectors`, and prints what they print.
 
 Without FILE it plays those of its `data/`, after a look at them: `args` names each, `stdout` has the number of its
-rows, which is not 0, and no row comes twice. `.ci/floors.py` has how many rows there are.
+rows, which is not 0, and no row comes twice. `.ci/floors.py` has how many rows there are. How often they are
+played, `stdout` alone says, as both builds must print it.
 """
 import os
+import re
 
 from floors import ROWS
 from gate_parts.programs import Case, chosen, run
@@ -11,6 +13,8 @@ from gate_parts.tree import crate_folder, text_of
 
 OPTIONS = 'files'
 CRATE = 'inline_vectors'
+# How often the rows of a file were played.
+PLAYS = re.compile('; plays: .+')
 
 
 def rows_of(text):
@@ -38,9 +42,10 @@ def files_of(folder):
 
 def faults(folder, files):
     """In words, what is wrong with these files, or with what is stored of them."""
-    wanted = {'args': files, 'stdout': [f'{name}: {len(rows)} rows, 0 wrong' for name, rows in files.items()]}
+    wanted = {'args': files, 'stdout': [f'{name}: {len(rows)} rows, 0 wrong; plays: ..' for name, rows in files.items()]}
     for stored, lines in wanted.items():
-        if text_of(os.path.join(folder, stored)) != ''.join(f'{line}\n' for line in lines):
+        text = text_of(os.path.join(folder, stored))
+        if PLAYS.sub('; plays: ..', text) != ''.join(f'{line}\n' for line in lines):
             yield '\n'.join([f'{stored} must be these {len(lines)} lines:', *lines])
     first, count = {}, 0
     for name, rows in files.items():

@@ -87,10 +87,11 @@ while [ "$turns" -gt 0 ]; do turns=$((turns - 1)); done
 # Four times the size takes 32 times as long: a machine that is slow for a while does not hide it.
 STEEP = '$((turns * turns / 60000 * (turns / 30000 + 2) / 3))'
 # It finds a row wrong that has that word.
-PLAYING = '''#!/bin/sh
+PLAYS = '; plays: String 2; calls 1, run 1\n'
+PLAYING = f'''#!/bin/sh
 cat "$@" >/dev/null || exit 2
 for file; do
-    echo "$file: $(grep -c '^[^ #]' "$file") rows, $(grep -c wrong "$file") wrong"
+    echo "$file: $(grep -c '^[^ #]' "$file") rows, $(grep -c wrong "$file") wrong{PLAYS[:-1]}"
 done
 ! grep -q wrong "$@"
 '''
@@ -169,7 +170,7 @@ REPOSITORY = {
     ALONE: 'file: src/lib.rt\nold:     one()\nnew:     2\n', DEFINITIONS: DEFINITION, CLAUSES: CLAUSE,
     BODIES: BODY, PROVED_BODIES: PROVED_BODY, OTHER_BODIES: OTHER_BODY.replace('two_for', 'three_for').replace('old:', IN_LIB),
     'bench/sums.py': text_of(in_tree('bench', 'sums.py')), 'bench/workloads.py': WORKLOADS,
-    ARGS: 'one.rows\ntwo.rows\n', STDOUT: 'one.rows: 2 rows, 0 wrong\ntwo.rows: 1 rows, 0 wrong\n',
+    ARGS: 'one.rows\ntwo.rows\n', STDOUT: f'one.rows: 2 rows, 0 wrong{PLAYS}two.rows: 1 rows, 0 wrong{PLAYS}',
     ONE: '# Two rows.\nfirst:\n  call\nsecond: call\n', TWO: 'third: call\n', LLVM: PLAYING, RATTLE: PLAYING,
     'bench/sums': '11 from 6\n', JOBS: GROWING, WORDS: GROWING, PROOF: 'one = 1\n',
     'README.md': '```rust\nfn main() {}\n```\nIt prints `fn pasted::main: proved`. `toy/src/lib.rt` has `rows::row`.\n'
@@ -252,14 +253,17 @@ BROKEN = (
         ('echo "$turns"\n', ''), ('"$turns"\n', '$$\n'), ('; done\n', '; done\nexit 3\n'))),
     ('bench', 'is not there', WORDS, '', None),
     ('rows', 'args must be these 2 lines', ARGS, 'two.rows\n', ''),
-    ('rows', 'stdout must be these 2 lines', STDOUT, ': 2', ': 1'),
+    *(('rows', 'stdout must be these 2 lines', STDOUT, *fault) for fault in ((': 2', ': 1'), (PLAYS, '\n'))),
+    # A type, a way or a room is lost: of the room both numbers are less.
+    *(('rows', 'status 0: NOT WELL', program, *fault) for program in (LLVM, RATTLE) for fault in (
+        ('String 2', 'String 0'), ('run 1', 'run 0'), ('String 2; calls 1', 'String 1; calls 0'))),
     ('rows', 'two.rows has no row', TWO, 'third', '# third'),
     ('rows', 'two.rows:1: the row is that of one.rows:2', TWO, 'third', 'first'),
     ('rows', 'there are 2 rows', ONE, 'second', ' second'),
     ('rows', 'there are 3 rows', '.ci/floors.py', '{}, 3\n', '{}, 2\n'),
     ('rows', 'two.rows: 1 rows, 1 wrong', TWO, 'call', 'wrong'),
     *(('rows', *fault) for program in (LLVM, RATTLE) for fault in (
-        ('status 0: NOT WELL', program, ' wrong"', ' bad"'), ('status 1: NOT WELL', program, '! ', ''),
+        ('status 0: NOT WELL', program, ' wrong;', ' bad;'), ('status 1: NOT WELL', program, '! ', ''),
         ('is not there', program, '', None))),
     (f'rows {ONE} {TWO}', None, ARGS, 'two.rows\n', ''),
     (f'rows {ONE} {TWO}', 'status 1: NOT WELL', TWO, 'call', 'wrong'),

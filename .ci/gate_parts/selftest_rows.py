@@ -35,6 +35,14 @@ WRONG = {
     'every "": reserve_exact 10 asking 9 = done, ""': ('step 1', ROOM, 'on String'),
     'every "a" asking 30: push \'b\' = done, "ab"': ('step 0', STORAGE, 'on InlinableString room 31'),
     'InlinableString "a" room 30 asking 31: len = 1, unchanged': ('step 0', STORAGE, 'on InlinableString room 30')}
+# Rows that are right, and how often each is played: of four types with 6 rooms, in up to 3 ways.
+PLAYED = {
+    'every "a": push \'b\' = done, "ab"; remove 2 = bad place, unchanged':
+        'InlineStringN 2, InlinableStringN 18, BoxableString 18, String 18, HeapText 18; '
+        'calls 25, moved 1, run 24, run_dyn 24, one run 24; answers 148, own 26',
+    'every "": to_json = "\\"\\"", ""':
+        'InlineStringN 0, InlinableStringN 6, BoxableString 0, String 0, HeapText 0; '
+        'calls 6, moved 0, run 0, run_dyn 0, one run 0; answers 6, own 0'}
 
 
 def unquoted(row):
@@ -72,9 +80,12 @@ def spoiled(name, text):
 
 
 def is_found(run_of):
-    """Whether a program ends as it must after this file, and names this line of it and no other."""
+    """Whether a program ends as it must after this file, and names this line of it and no other; a right row is line
+    0, of which it says how often it was played."""
     program, path, number, statuses, *words = run_of
     output, status = run(program, Case(path, [path]))
+    if number == 0 and status == 0:
+        return statuses == (0,) and output.decode() == f'{path}: 1 rows, 0 wrong; plays: {words[0]}\n'
     # how many are wrong is printed too, if all could be read
     line, lines = (f'{path}:{number}: ', 2) if status == 1 else (f'{path}: line {number}: ', 1)
     is_whole = output.startswith(line.encode()) and output.count(b'\n') == lines
@@ -93,6 +104,7 @@ def shown():
         return [(str(failure), False)]
     files += [(what, text, line, (2,)) for what, (text, line) in UNREAD.items()]
     files += [(row, f'{row}\n', 1, (1,), *words) for row, words in WRONG.items()]
+    files += [(row, f'{row}\n', 0, (0,), plays) for row, plays in PLAYED.items()]
     with tempfile.TemporaryDirectory() as place:
         whats, runs = [], []
         for at, (what, text, *wanted) in enumerate(files):

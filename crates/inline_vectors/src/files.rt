@@ -1,6 +1,7 @@
 //! Files of rows.
 
 use crate::play::each::{Wronged, wrong_rows};
+use crate::play::plays::Plays;
 use crate::play::refused::rows_after;
 use crate::row::rows_of;
 use crate::scripts::{script_after, words_after};
@@ -59,7 +60,7 @@ pub fn play_refused<R: Env + Files + Print + AllocGlobal>(
     Ok(Outcome::Right)
 }
 
-/// Plays each row of a file, and prints those that are wrong and how many there are.
+/// Plays each row of a file, and prints those that are wrong, how many there are, and their plays.
 fn play_file<R: Files + Print + AllocGlobal>(rt: &R, file: &str) -> io::Result<Outcome> {
     let alloc = rt.alloc();
     let content = match fs::read_to_string(rt, file) {
@@ -70,12 +71,14 @@ fn play_file<R: Files + Print + AllocGlobal>(rt: &R, file: &str) -> io::Result<O
         Ok(rows) => rows,
         Err(fault) => return print_fault(rt, file, &fault),
     };
-    let wrong = match wrong_rows(alloc, &rows) {
+    let mut plays = Plays::default();
+    let wrong = match wrong_rows(alloc, &rows, &mut plays) {
         Ok(wrong) => wrong,
         Err(fault) => return print_fault(rt, file, &fault),
     };
     let outcome = print_wrong(rt, file, &wrong)?;
-    println!(rt; "{file}: {} rows, {} wrong", rows.len(), wrong.len())?;
+    let (count, wrong) = (rows.len(), wrong.len());
+    println!(rt; "{file}: {count} rows, {wrong} wrong; plays: {plays}")?;
     Ok(outcome)
 }
 

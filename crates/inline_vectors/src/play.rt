@@ -8,6 +8,7 @@ mod commands;
 pub mod each;
 pub mod memory;
 pub mod playing;
+pub mod plays;
 pub mod refused;
 mod run_of_all;
 mod start;

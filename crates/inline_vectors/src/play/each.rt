@@ -3,6 +3,7 @@
 use super::commands::command_of;
 use super::memory::play_all;
 use super::playing::Playing;
+use super::plays::Plays;
 use super::run_of_all::other_by_run;
 use super::wrong::{Wrong, first_wrong, line_of};
 use super::{Made, Way};
@@ -28,8 +29,13 @@ const WAYS: &[Way] = &[Way::Calls, Way::Moved, Way::Run, Way::Dyn];
 /// What is wrong with a row: a line on the first difference, or a fault.
 pub type Wronged = Result<String, Fault>;
 
-/// Plays rows, and returns a line for each that is wrong, with the line of the file that it is on.
-pub fn wrong_rows<'a>(alloc: Global, rows: &'a [Row]) -> Result<Vec<(usize, Wronged)>, Fault> {
+/// Plays rows, counts their plays, and returns a line for each that is wrong, with the line of the
+/// file that it is on.
+pub fn wrong_rows<'a>(
+    alloc: Global,
+    rows: &'a [Row],
+    plays: &mut Plays,
+) -> Result<Vec<(usize, Wronged)>, Fault> {
     let mut playing: Vec<Playing<'a>> = Vec::new(alloc);
     let mut ends = Vec::new(alloc);
     for row in rows {
@@ -43,7 +49,7 @@ pub fn wrong_rows<'a>(alloc: Global, rows: &'a [Row]) -> Result<Vec<(usize, Wron
         let played = playing.get(first..end).unwrap_or(&[]);
         let found = match fault {
             Some(fault) => Err(fault),
-            None => wrong_in(alloc, row, played),
+            None => wrong_in(alloc, row, played, plays),
         };
         if let Some(found) = found.transpose() {
             wrong.push((row.line, found))?;
@@ -120,7 +126,12 @@ fn is_played(row: &Row, kind: Kind, way: Way) -> bool {
 
 /// What is wrong first with a row on its texts, of which one must have its calls. A row of all
 /// types is not played on those that lack them.
-fn wrong_in(alloc: Global, row: &Row, played: &[Playing]) -> Result<Option<String>, Fault> {
+fn wrong_in(
+    alloc: Global,
+    row: &Row,
+    played: &[Playing],
+    plays: &mut Plays,
+) -> Result<Option<String>, Fault> {
     let mut is_played = false;
     for one in played {
         match one.fault {
@@ -128,7 +139,8 @@ fn wrong_in(alloc: Global, row: &Row, played: &[Playing]) -> Result<Option<Strin
             Some(fault) => return Err(fault),
             None => is_played = true,
         }
-        if let Some(wrong) = wrong_at(alloc, one)? {
+        plays.add(one);
+        if let Some(wrong) = wrong_at(alloc, one, plays)? {
             return Ok(Some(line_of(alloc, one, wrong)?));
         }
     }
@@ -140,7 +152,7 @@ fn wrong_in(alloc: Global, row: &Row, played: &[Playing]) -> Result<Option<Strin
 }
 
 /// What is wrong first with a row on one text.
-fn wrong_at(alloc: Global, one: &Playing) -> Result<Option<Wrong>, Fault> {
+fn wrong_at(alloc: Global, one: &Playing, plays: &mut Plays) -> Result<Option<Wrong>, Fault> {
     let wrong = first_wrong(one);
     let is_ample = one
         .row
@@ -148,6 +160,7 @@ fn wrong_at(alloc: Global, one: &Playing) -> Result<Option<Wrong>, Fault> {
         .iter()
         .all(|step| step.memory == Memory::Ample);
     if wrong.is_none() && one.made.way == Way::Run && is_ample {
+        plays.whole_runs = plays.whole_runs.saturating_add(1);
         return other_by_run(alloc, one);
     }
     Ok(wrong)

@@ -30,7 +30,7 @@ pub struct Playing<'a> {
 /// What a step needs, which is made before memory is held, and freed after it.
 #[derive(Drop)]
 pub struct Prepared<'a> {
-    given: Vec<Given<'a>>,
+    pub given: Vec<Given<'a>>,
     pub found: Found,
 }
 

@@ -20,7 +20,9 @@ pub fn play_array<const N: usize>(
 {
     let string = call.text.as_str();
     match call.word {
-        "from" | "eq" | "cmp" | "partial_cmp" if N < string.len() => Ok(Answer::Word("too long")),
+        "from" | "eq" | "cmp" | "partial_cmp" if N < string.len() => {
+            given.own(Answer::Word("too long"))
+        }
         "from" => put_made(text, InlineStringN::from(string)),
         "eq" | "cmp" | "partial_cmp" => {
             let mut other = InlineStringN::new();
@@ -35,7 +37,7 @@ pub fn play_array<const N: usize>(
         "try_from" => put(text, InlineStringN::try_from(string), "full"),
         "try_from_char" => put(text, InlineStringN::try_from(first(call)?), "full"),
         "from_string" => put(text, InlineStringN::try_from(given.take_string()), "full"),
-        "from_utf8" if N < call.bytes.len() => Ok(Answer::Word("too long")),
+        "from_utf8" if N < call.bytes.len() => given.own(Answer::Word("too long")),
         "from_utf8" => put(
             text,
             InlineStringN::from_utf8(call.bytes.as_slice()),
@@ -86,13 +88,14 @@ fn change<const N: usize>(
     changed!(
         text,
         call,
+        given,
         "full",
         match call.word {
             "split_off" => given.text(text.split_off(call.number).as_str()),
             "drain" => {
                 let (from, to) = (call.number, call.end);
                 if to < from || !text.is_char_boundary(from) || !text.is_char_boundary(to) {
-                    return Ok(Answer::Word("bad place"));
+                    return given.own(Answer::Word("bad place"));
                 }
                 given.text(text.drain(from..to).as_str())
             }
@@ -100,12 +103,12 @@ fn change<const N: usize>(
             "is_full" => Ok(truth(text.is_full())),
             "extend_chars" => done_or(text.extend_chars(string.chars()), "full"),
             "extend_strs" => done_or(text.extend_strs(given.strs.iter().copied()), "full"),
-            "add" if N - text.len() < string.len() => Ok(Answer::Word("full")),
+            "add" if N - text.len() < string.len() => given.own(Answer::Word("full")),
             "add" => {
                 *text += string;
                 Ok(Answer::Word("done"))
             }
-            "capacity" => Ok(number(N)),
+            "capacity" => given.own(number(N)),
             "into_bytes" => {
                 let bytes = text.copy().into_bytes();
                 text.clear();

@@ -22,6 +22,8 @@ pub struct Given<'a> {
     /// The JSON value that the call's text is.
     pub json: Option<Value>,
     spare: Vec<u8>,
+    /// Whether the program has answered, without the call.
+    pub is_own: bool,
 }
 
 impl<'a> Given<'a> {
@@ -44,7 +46,14 @@ impl<'a> Given<'a> {
             strs,
             json,
             spare: Vec::with_capacity(alloc, room)?,
+            is_own: false,
         })
+    }
+
+    /// An answer that the program gives by itself, without the call.
+    pub fn own(&mut self, answer: Answer) -> Result<Answer, Fault> {
+        self.is_own = true;
+        Ok(answer)
     }
 
     /// Takes over the string that was made of the call's text.

@@ -94,13 +94,14 @@ fn change<const N: usize>(
     changed!(
         text,
         call,
+        given,
         "no memory",
         match call.word {
             "split_off" => placed(text.split_off(call.number), given),
             "drain" => {
                 let (from, to) = (call.number, call.end);
                 if to < from || !text.is_char_boundary(from) || !text.is_char_boundary(to) {
-                    return Ok(Answer::Word("bad place"));
+                    return given.own(Answer::Word("bad place"));
                 }
                 placed(text.drain(from..to), given)
             }

@@ -29,7 +29,7 @@ pub fn make<S: StringMake + Drop>(
         "from_utf8_unchecked" => {
             let vec = given.take_vec();
             let Ok(_) = str::from_utf8(vec.as_slice()) else {
-                return Ok(Answer::NotUtf8(vec));
+                return given.own(Answer::NotUtf8(vec));
             };
             let made = unsafe { S::from_utf8_unchecked(alloc, vec) };
             put(text, Ok::<S, AllocError>(made), "no memory")

@@ -17,7 +17,7 @@ macro_rules! edited {
             "push" => done_or($text.push(first($call)?), $fault),
             "push_str" => done_or($text.push_str($call.text.as_str()), $fault),
             "insert" | "insert_str" | "truncate" if !$text.is_char_boundary($call.number) => {
-                Ok(Answer::Word("bad place"))
+                $given.own(Answer::Word("bad place"))
             }
             "insert" => done_or($text.insert($call.number, first($call)?), $fault),
             "insert_str" => {
@@ -28,7 +28,7 @@ macro_rules! edited {
                 Ok(Answer::Word("done"))
             }
             "remove" if $call.number >= $text.len() || !$text.is_char_boundary($call.number) => {
-                Ok(Answer::Word("bad place"))
+                $given.own(Answer::Word("bad place"))
             }
             "remove" => Ok(Answer::Char($text.remove($call.number))),
             "pop" => Ok(match $text.pop() {
@@ -54,7 +54,7 @@ pub(crate) use edited;
 
 /// What a call answers that `String` has and the traits lack; else what `others` do.
 macro_rules! changed {
-    ($text:ident, $call:ident, $fault:literal, $others:expr) => {{
+    ($text:ident, $call:ident, $given:ident, $fault:literal, $others:expr) => {{
         match $call.word {
             "retain" => $text.retain(|ch| $call.text.contains(ch)),
             "retain_odd" => {
@@ -72,12 +72,12 @@ macro_rules! changed {
             "replace_range" => {
                 let (from, to) = ($call.number, $call.end);
                 if to < from || !$text.is_char_boundary(from) || !$text.is_char_boundary(to) {
-                    return Ok(Answer::Word("bad place"));
+                    return $given.own(Answer::Word("bad place"));
                 }
                 return done_or($text.replace_range(from..to, $call.text.as_str()), $fault);
             }
             "split_off" if !$text.is_char_boundary($call.number) => {
-                return Ok(Answer::Word("bad place"));
+                return $given.own(Answer::Word("bad place"));
             }
             _ => return $others,
         }
