@@ -1,6 +1,8 @@
 //! Texts that are joined from iterators and from strings out of an enum, printed, written into, and
 //! used as a `str`.
-ghost use Rattle.std.specs.Prelude.{◌≡◌, ◌+◌, ◌≤◌, ◌↔◌, ◌++◌, ◌∷◌, length, codes, IfOk, IfErr, IsOk, OnOk, IsTrue};
+ghost use Rattle.std.specs.Prelude.{◌≡◌, ◌+◌, ◌≤◌, ◌<◌, ◌↔◌, ◌++◌, ◌∷◌, length, codes, IfOk, IfErr, IsOk, OnOk, OnErr, IsTrue};
+ghost use Rattle.std.specs.Iterator.{IsFinite};
+ghost use Rattle.std.specs.Iterator.Runs.{SomeRun, WholeRun, EachRunFrom};
 ghost use Rattle.std.specs.Str.{chars};
 ghost use Rattle.std.specs.Str.Iter.{chars_rest};
 ghost use Rattle.std.specs.String.{string_bytes};
@@ -35,6 +37,26 @@ pub fn path_of(names: &[&str]) -> Result<InlineStringN<64>, NotEnoughSpaceError>
 {
     sizes_are_sums();
     InlineStringN::from_strs_with("/", names.iter().copied())
+}
+
+/// The fields of a row, with a separator of the caller's choice, inline where they fit.
+pub fn row_of<'a, const N: usize, I: Iterator<Item = &'a str>>(
+    alloc: Global,
+    separator: &str,
+    fields: I,
+) -> Result<InlinableStringN<N>, AllocError>
+    requires can { I.can_next fields }
+    requires ends { IsFinite (I.remaining fields) }
+    ensures text { IfOk result (λ row. WholeRun I.next_gives fields (λ run.
+        (inlinable_state N row).text ≡ text_of_strs_with (chars separator.now) run.items)) }
+    ensures storage { IfOk result (λ row. (inlinable_state N row).storage
+        ≡ storage_when_made (inlinable_policy N) (size (inlinable_state N row).text)) }
+    ensures err { OnErr result (SomeRun I.next_gives fields
+        (λ run. N < size (text_of_strs_with (chars separator.now) run.items))) }
+    ensures granted { EachRunFrom I.next_gives fields
+        (λ run. size (text_of_strs_with (chars separator.now) run.items) ≤ N) → IsOk result }
+{
+    InlinableStringN::from_strs_with(alloc, separator, fields)
 }
 
 /// Characters appended to a text, by references too, and then words.

@@ -1,11 +1,11 @@
 //! Parts of a text: what is taken out of it, what stands before and after a character, what is
 //! left without white space, and what is made of copies.
-ghost use Rattle.std.specs.Prelude.{◌≡◌, ◌+◌, ◌*◌, ◌≤◌, ◌↔◌, ◌++◌, [], ◌∷◌, length, IsTrue, IfOk, IfSome, IsSome, IsOk, OnOk, OnErr, IsUtf8};
+ghost use Rattle.std.specs.Prelude.{◌≡◌, ◌+◌, ◌*◌, ◌≤◌, ◌<◌, ◌↔◌, ◌++◌, ◌==◌, [], ◌∷◌, length, IsTrue, IfOk, IfNone, IfSome, IsSome, IsOk, OnOk, OnErr, IsUtf8};
 ghost use Rattle.std.specs.List.{remove_range, repeat, slice_range};
-ghost use Rattle.std.specs.Str.{chars, trim};
+ghost use Rattle.std.specs.Str.{chars, NonePass, trim};
 ghost use Rattle.inlinable_string.specs.Text.{bytes_of, size, IsPlace};
 ghost use Rattle.inlinable_string.specs.State.{IsSameText};
-ghost use Rattle.inlinable_string.specs.Values.{inlinable_state};
+ghost use Rattle.inlinable_string.specs.Values.{inlinable_policy, inlinable_state};
 
 use inlinable_string::laws::drained_parts_are_those_of_bytes;
 use inlinable_string::string_ext::split_once;
@@ -33,11 +33,83 @@ pub fn cut_out<const N: usize>(
     line.drain(from..to)
 }
 
+/// Moves the first `n` bytes of a line to its end, where there is room for them. Needs no memory
+/// if the line is inline.
+pub fn rotate<const N: usize>(line: &mut InlinableStringN<N>, n: usize) -> Result<(), AllocError>
+    requires { IsPlace (inlinable_state N line.old).text n }
+    ensures len { size (inlinable_state N line.new).text
+        ≡ size (inlinable_state N line.old).text }
+    ensures storage { (inlinable_state N line.new).storage
+        ≡ (inlinable_state N line.old).storage }
+    ensures inline { (inlinable_state N line.old).storage ≡ Storage.Inline → IsOk result }
+{
+    let _ = line.len();
+    let first = line.drain(0..n)?;
+    let Ok(()) = line.push_str(first.as_str()) else {
+        unreachable!();
+    };
+    Ok(())
+}
+
+/// Types over a selection, or before it if there is no memory for taking it out. Returns what was
+/// taken out, and the number of bytes that come after.
+pub fn type_over<const N: usize>(
+    line: &mut InlinableStringN<N>,
+    from: usize,
+    to: usize,
+    typed: &str,
+) -> Result<(Option<InlinableStringN<N>>, usize), AllocError>
+    requires from { IsPlace (inlinable_state N line.old).text from }
+    requires to { IsPlace (inlinable_state N line.old).text to }
+    requires order { from ≤ to }
+    ensures after { IfOk result
+        (λ taken. to + taken.1 ≡ size (inlinable_state N line.old).text) }
+{
+    let len = line.len();
+    let selection = line.drain(from..to).ok();
+    let after = len - to;
+    line.insert_str(from, typed)?;
+    Ok((selection, after))
+}
+
+/// Takes a short line off a buffer and ends it. It is inline, and has the room of that.
+pub fn next_line<const N: usize>(
+    buffer: &mut InlinableStringN<N>,
+    end: usize,
+) -> InlinableStringN<N>
+    requires place { IsPlace (inlinable_state N buffer.old).text end }
+    requires short { end < N }
+    ensures size { size (inlinable_state N result).text ≡ end + 1 }
+    ensures storage { (inlinable_state N result).storage ≡ Storage.Inline }
+    ensures room { N ≤ (inlinable_state N result).capacity }
+{
+    let Ok(mut line) = buffer.drain(0..end) else {
+        unreachable!();
+    };
+    let Ok(()) = line.push('\n') else {
+        unreachable!();
+    };
+    line
+}
+
+/// Deletes a word of a line in an array, and returns the number of bytes that came after it.
+pub fn delete_word<const N: usize>(line: &mut InlineStringN<N>, from: usize, to: usize) -> usize
+    requires from { IsPlace line.old from }
+    requires to { IsPlace line.old to }
+    requires order { from ≤ to }
+    ensures { to + result ≡ size line.old }
+{
+    let len = line.len();
+    let _ = line.drain(from..to);
+    len - to
+}
+
 /// Takes a word of known length off the start of a line in an array.
 pub fn take_word<const N: usize>(line: &mut InlineStringN<N>, end: usize) -> InlineStringN<N>
     requires { IsPlace line.old end }
     ensures word { size result ≡ end }
     ensures left { end + size line.new ≡ size line.old }
+    ensures fits { size result ≤ N }
 {
     line.drain(0..end)
 }
@@ -46,6 +118,7 @@ pub fn take_word<const N: usize>(line: &mut InlineStringN<N>, end: usize) -> Inl
 pub fn key_and_value<S: StringExt>(line: &S) -> Option<(&str, &str)>
     ensures parts { IfSome result (λ pair. (S.state line.now).text
         ≡ chars pair.0.now ++ 61 ∷ chars pair.1.now) }
+    ensures none { IfNone result (NonePass (λ c. c == 61) (S.state line.now).text) }
 {
     split_once(line, '=')
 }
@@ -64,6 +137,8 @@ pub fn tidy_any<const N: usize>(typed: &mut InlinableStringN<N>)
         ≡ trim (bytes_of (inlinable_state N typed.old).text) }
     ensures storage { (inlinable_state N typed.new).storage
         ≡ (inlinable_state N typed.old).storage }
+    ensures policy { (inlinable_state N typed.new).policy
+        ≡ (inlinable_state N typed.old).policy }
 {
     typed.trim_in_place();
 }
@@ -84,6 +159,7 @@ pub fn indentation<const N: usize>(
     ensures size { IfOk result (λ tabs. size (inlinable_state N tabs).text ≡ depth) }
     ensures shallow { depth ≤ N → IfOk result
         (λ tabs. (inlinable_state N tabs).storage ≡ Storage.Inline) }
+    ensures policy { IfOk result (λ tabs. (inlinable_state N tabs).policy ≡ inlinable_policy N) }
     ensures granted { depth ≤ N → IsOk result }
 {
     InlinableStringN::repeat(alloc, "\t", depth)
