@@ -1,7 +1,7 @@
 //! Given `-`, answers the questions of standard input, rows and scripts, as this library has to: as std's
 //! `String` and the crate `inlinable_string` 0.1.15 do, except for the departures that `departures.rs` lists.
-//! Given files of rows, prints each row that expects something else. At its end it reports, to standard error,
-//! how often it met each departure. replay/README.md says how it is built and run.
+//! Given files of rows, prints each row that expects something else; then, and given `- met`, it reports to standard
+//! error how often it met each departure. replay/README.md says how it is built and run.
 use std::error::Error;
 use std::fmt::Write;
 use std::ops::Deref;
@@ -76,8 +76,11 @@ fn main() -> Result<ExitCode, Box<dyn Error>> {
     // whether the original panics is in the answers
     std::panic::set_hook(Box::new(|_| {}));
     let paths: Vec<String> = std::env::args().skip(1).collect();
-    let is_right = if paths == ["-"] { answer_lines()? } else { rows::check(&paths)? };
-    departures::report();
+    let is_question = paths.first().is_some_and(|path| path == "-");
+    let is_right = if is_question { answer_lines()? } else { rows::check(&paths)? };
+    if paths != ["-"] {
+        departures::report();
+    }
     Ok(if is_right { ExitCode::SUCCESS } else { ExitCode::FAILURE })
 }
 
