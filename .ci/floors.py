@@ -34,21 +34,26 @@ BESIDE = {'calls': 40_000, 'script': 40_000}
 OURS, SCRIPTS = 'InlinableString InlinableStringN<8>', 'inline inline0 inline8 heap'
 GROWTHS = 'push push_str insert insert_str'
 BESIDE_OF_EACH = dict.fromkeys((
-    *each(f'InlineString {OURS} String', f'{GROWTHS} new from clone write_str write_char pop remove truncate '
-          'clear len is_empty as_bytes as_str into_bytes eq eq_str hash display padded cut debug cmp '
-          'partial_cmp'),
-    *each(f'{OURS} String', 'collect with_capacity from_utf8 from_utf8_unchecked from_utf8_lossy from_utf16 '
-          'from_utf16_lossy extend reserve reserve_exact shrink_to_fit capacity heap'),
-    *each(OURS, 'from_str from_string add extend_char_refs into_string inline'), 'InlineString copy',
-    *each(f'InlineString {OURS}', 'default from_chars from_strs extend_chars extend_strs retain '
-          'replace_range split_off make_ascii_uppercase make_ascii_lowercase'),
-    *each('insert insert_str truncate remove replace_range split_off', 'bad_place'),
-    *each('eq eq_str', 'true false'), *each('cmp partial_cmp', 'less equal greater'), *each(GROWTHS, 'full'),
-    *each('write_str write_char', 'write_fault'), *each('from eq', 'too_long'), 'pop none',
-    *each('reserve reserve_exact with_capacity', 'no_memory'), *each('from_utf8', 'done not_UTF-8'),
+    *each(f'InlineString {OURS} String', f'{GROWTHS} new from clone write write_str write_char pop remove '
+          'truncate clear len capacity is_empty as_bytes as_str into_bytes eq eq_str hash display padded cut '
+          'debug cmp partial_cmp replace_bytes from_utf8 from_str extend_chars extend_strs'),
+    *each(f'{OURS} String', 'collect with_capacity from_utf8_unchecked from_utf8_lossy from_utf16 '
+          'from_utf16_lossy extend reserve reserve_exact shrink_to_fit heap split_once'),
+    *each(OURS, 'extend_char_refs into_string inline'),
+    *each('InlineString', 'copy parse try_from try_from_char remaining_capacity is_full'),
+    *each(f'InlineString {OURS}', 'default from_string from_chars from_strs from_strs_with repeat add retain '
+          'retain_odd replace_range split_off drain trim_in_place trim_start_in_place trim_end_in_place '
+          'make_ascii_uppercase make_ascii_lowercase'),
+    *each('insert insert_str truncate remove replace_range split_off drain', 'bad_place'),
+    *each('pop remove split_off drain split_once', 'value'), *each('pop split_once', 'none'),
+    *each('eq eq_str is_full', 'true false'), *each('cmp partial_cmp', 'less equal greater'),
+    *each(f'{GROWTHS} from_str parse try_from from_strs_with repeat add replace_range', 'full'),
+    *each('write write_str write_char', 'write_fault'), *each('from eq from_utf8', 'too_long'),
+    *each('reserve reserve_exact with_capacity repeat', 'no_memory'), *each('from_utf8', 'done not_UTF-8'),
+    *each('replace_bytes', 'done wrong_length not_UTF-8'), 'remaining_capacity 0',
     *each('from_utf8_lossy', 'borrowed owned'), *each('from_utf16', 'done unpaired'), 'shrink_to_fit demotes',
-    *each(f'{GROWTHS} write_str write_char add extend extend_chars extend_char_refs extend_strs reserve '
-          'reserve_exact', 'promotes'),
+    *each(f'{GROWTHS} write write_str write_char add extend extend_chars extend_char_refs extend_strs reserve '
+          'reserve_exact replace_range from_strs_with repeat', 'promotes'),
     *each(f'{SCRIPTS} string', '0 2 command heap'), *each(SCRIPTS, 'inline')), 50)
 
 # The cases of `replay/named_cases.py`, of `inline_script` and of `word_index`.

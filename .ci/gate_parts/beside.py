@@ -69,7 +69,7 @@ def counted(output):
             continue
         before = {'InlineString': '', 'String': 'heap'}.get(name, 'inline')
         for word, answer, storage in STEP_FORM.findall(steps):
-            names.update([f'{name} {word}', f'{word} {answer.replace(" ", "_")}'])
+            names.update([f'{name} {word}', f'{word} {answer.replace(" ", "_") or "value"}'])
             if before != storage:
                 names[f'{word} {"promotes" if storage == "heap" else "demotes"}'] += 1
             before = storage

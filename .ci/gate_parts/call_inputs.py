@@ -3,41 +3,49 @@ from contextlib import suppress
 
 from gate_parts.draw import ESCAPED, MARKS, Draw, is_alike
 from gate_parts.encodings import nearly_utf8, nearly_utf16
-from gate_parts.good_scripts import a_growth, at_the_ends, good_script, line_of, way_back
-from gate_parts.language import COMMANDS, GREATEST, STARTS, Text, Undecided, answer, command_of, width
+from gate_parts.good_scripts import a_growth, an_edge, at_the_ends, good_script, line_of, way_back
+from gate_parts.language import ABSURD, COMMANDS, GREATEST, STARTS, Text, Undecided, answer, command_of, width
 from gate_parts.programs import Case
 
 ARRAY, HEAP, SHORT, STRING = 'InlineString', 'InlinableString', 'InlinableStringN<8>', 'String'
 # By type: the word of the script language whose text it is, as the model has it.
 TYPES = {ARRAY: 'inline', HEAP: 'inline', SHORT: 'inline8', STRING: 'string'}
-READERS = 'from_utf8 from_utf8_unchecked from_utf8_lossy from_utf16 from_utf16_lossy'
+HEAP_READERS = 'from_utf8_unchecked from_utf8_lossy from_utf16 from_utf16_lossy'
+READERS = f'from_utf8 {HEAP_READERS}'
 JOINS = 'add extend extend_chars extend_char_refs extend_strs'
-OWN_MAKERS = 'from_str from_string from_chars from_strs'
-EDITS = 'retain replace_range split_off make_ascii_uppercase make_ascii_lowercase'
+OWN_MAKERS = 'from_string from_chars from_strs from_strs_with'
+EDITS = 'retain retain_odd replace_range drain split_off make_ascii_uppercase make_ascii_lowercase'
+# By word: what Python's `str` has instead, which is given the white space.
+TRIMS = {'trim_in_place': str.strip, 'trim_start_in_place': str.lstrip, 'trim_end_in_place': str.rstrip}
+# The calls of an array alone.
+CONVERSIONS, ROOM_LEFT = 'parse try_from try_from_char', 'remaining_capacity is_full'
 # By kind: how often it comes beside the others, more often where there is more to answer, and the words
 # that are drawn most.
 KINDS = {
-    'growths': (1, 'push push_str insert insert_str write_str write_char'),
+    'growths': (1, f'push push_str insert insert_str write_str write_char {ROOM_LEFT}'),
     'cuts': (1, 'pop remove truncate clear'),
     'edits': (3, f'{EDITS} into_string copy'),
-    'slides': (1, 'slide pop remove'),
-    'makers': (1, f'new default from clone {OWN_MAKERS} collect with_capacity'),
+    'trims': (2, ' '.join(TRIMS)),
+    'parts': (2, 'drain split_off split_once replace_bytes as_str'),
+    'slides': (2, f'slide pop remove {ROOM_LEFT}'),
+    'makers': (4, f'new default from from_str clone {OWN_MAKERS} {CONVERSIONS} repeat collect with_capacity '
+                 'from_utf8'),
     'room': (2, 'reserve reserve_exact with_capacity shrink_to_fit capacity push_str'),
     'readers': (3, READERS),
-    'joins': (2, f'{JOINS} write_str write_char'),
+    'joins': (2, f'{JOINS} write_str write_char write'),
     'comparisons': (2, 'eq eq_str hash cmp partial_cmp'),
     'prints': (1, 'display padded cut debug'),
     'views': (1, 'len is_empty as_bytes as_str into_bytes clone capacity'),
 }
-# What `good_scripts.py` draws, and what is drawn between the words of a kind.
-SCRIPTED = COMMANDS.keys() - {'replace_bytes'}
+# What is drawn between the words of a kind.
 BETWEEN = 'push push_str insert insert_str pop remove truncate slide'.split()
 # What a type lacks.
 LACKING = {
-    ARRAY: f'{READERS} from_str from_string add extend extend_char_refs collect with_capacity reserve '
-           'reserve_exact shrink_to_fit capacity into_string',
-    HEAP: 'copy', SHORT: 'copy',
-    STRING: f'default {OWN_MAKERS} {EDITS} add copy extend_chars extend_char_refs extend_strs into_string'}
+    ARRAY: f'{HEAP_READERS} extend extend_char_refs collect with_capacity reserve reserve_exact '
+           'shrink_to_fit into_string split_once',
+    **dict.fromkeys((HEAP, SHORT), f'copy {CONVERSIONS} {ROOM_LEFT}'),
+    STRING: f'default {OWN_MAKERS} {CONVERSIONS} repeat {EDITS} {" ".join(TRIMS)} {ROOM_LEFT} add copy '
+            'extend_char_refs into_string'}
 # Of a kind with fewer words than FEWEST there is none on a type. A text is cut at LONGEST.
 FEWEST, LONGEST = 3, 40
 # How many calls there are at most, after the one that a text begins with.
@@ -46,8 +54,13 @@ SIZES = (0, 1, 2, 7, 8, 9, 26, 27, 28, 28, 29, 29, 30, 30, 31, 32)
 # How a text that is compared is made, with how many bytes more it had; or on the heap. How many scripts of a
 # hundred have one byte wrong.
 WAYS, ON_HEAP, SPOILT = {'': 0, ' other after "𝄞"': 4, ' other before "more"': 4}, ' other room 31', 10
+# All white space. What is drawn at the ends of a text that is trimmed: also what only looks like it.
+WHITE = ''.join(map(chr, (*range(9, 14), 0x20, 0x85, 0xa0, 0x1680, *range(0x2000, 0x200b), 0x2028, 0x2029,
+                          0x202f, 0x205f, 0x3000)))
+ENDS = (' ', WHITE[:6], WHITE, WHITE, '\0\x08\x0e\x1c\x1f\u180e\u200b\u200d\u2060\ufeff')
 # The words that are given a character, and what rows write by an escape.
-CHARACTERS = {'write_char', *(word for word, (_, kinds) in COMMANDS.items() if 'character' in kinds)}
+CHARACTERS = {'write_char', 'try_from_char', 'split_once',
+              *(word for word, (_, kinds) in COMMANDS.items() if 'character' in kinds)}
 LETTERS = {ord(char): '\\' + letter for char, letter in zip('\n\r\t\0\\', 'nrt0\\')}
 IN_TEXT = {**{code: f'\\u{{{code:x}}}' for code in (*range(32), *range(127, 160))}, **LETTERS}
 IN_BYTES = {**{code: f'\\x{code:02x}' for code in (*range(32), *range(127, 256))}, **LETTERS}
@@ -65,10 +78,16 @@ class Played:
         if self.text.size + width(added) <= self.most:
             self.text.obey(command)
 
-    def becomes(self, string, *storage):
+    def becomes(self, string, storage=None):
         if width(string) <= self.most:
-            self.text = Text(TYPES[self.name], *storage)
+            self.text = Text(TYPES[self.name], storage if self.name != ARRAY else None)
             self.text.push_str(string)
+
+    def holds(self, string):
+        """After an edit, which leaves the text where it is stored if it fits there."""
+        if width(string) <= self.most:
+            self.text.chars, self.text.size = list(string), width(string)
+            self.text.make_room(self.text.size)
 
 
 def value(given, quote='"'):
@@ -109,6 +128,8 @@ def scripted(played, line):
     """The call of a line of a script."""
     word, *parts = command_of(line)
     parts = [alike(part) if isinstance(part, str) else part for part in parts]
+    if word == 'replace_bytes' and not all(map(is_alike, parts[0].decode(errors='replace'))):
+        parts = [b'']
     played.obey([word, *parts])
     return call(word, *parts)
 
@@ -128,17 +149,34 @@ def some_strings(draw, text):
 
 def joined(draw, played, word):
     """What is added or made."""
-    if word.endswith('strs'):
-        given = some_strings(draw, played.text)
-    elif word == 'write_char':
+    is_added = word in f'write write_str write_char {JOINS}'.split()
+    between = [alike(any_text(draw))[:draw.choice((0, 1, 1, 4))]] * (word == 'from_strs_with')
+    has_list = word in ('collect', 'extend') and played.name != STRING and draw.chance(50)
+    if has_list or 'strs' in word:
+        given = some_strings(draw, played.text) or [''] * has_list
+    elif word in CHARACTERS:
         given = alike(draw.char())
     else:
-        given = alike(any_text(draw) if draw.chance(30) else draw.string(a_growth(draw, played.text)))
-    if word in f'write_str write_char {JOINS}'.split():
-        played.obey(['push_str', ''.join(given)])
+        given = alike(any_text(draw) if draw.chance(30) else draw.string(
+            a_growth(draw, played.text if is_added else Text(TYPES[played.name]))))
+    string = ''.join(between).join(given)
+    if is_added:
+        played.obey(['push_str', string])
     else:
-        played.becomes(''.join(given))
-    return call(word, given)
+        played.becomes(string)
+    return call(word, *between, given)
+
+
+def repeated(draw, played, word):
+    """To about an edge, or as often as makes too much, wraps to little, or is a great many times nothing."""
+    string = draw.string(draw.choice((0, 1, 1, 2, 3, 4, 5, 7, 8, 15, 29, 30, 31)))
+    size = width(string)
+    times = max(0, an_edge(draw, played.text) // max(1, size) + draw.choice((-1, 0, 0, 1, 2)))
+    if draw.chance(30):
+        times = draw.choice((ABSURD, 2 ** 63 - 1, 2 ** 63, GREATEST, -(-2 ** 64 // max(2, size))))
+    if size * times < ABSURD:
+        played.becomes(string * min(times, LONGEST))
+    return call(word, string, times)
 
 
 def emptied(_, played, word):
@@ -147,8 +185,25 @@ def emptied(_, played, word):
 
 
 def kept(draw, played, word):
-    """About three of four characters."""
-    return call(word, ''.join(char for char in dict.fromkeys(played.text.chars) if draw.chance(75)))
+    """About three of four characters, or each second one."""
+    chars = played.text.chars
+    string = ''.join(char for char in dict.fromkeys(chars) if draw.chance(75))
+    played.holds(''.join(chars[::2] if word == 'retain_odd' else (char for char in chars if char in string)))
+    return call(word, *[string] * (word == 'retain'))
+
+
+def trimmed(draw, played, word):
+    """A text that is given ends first."""
+    ends = [''.join(map(draw.choice, draw.choices(ENDS, draw.choice((0, 1, 1, 2, 3))))) for _ in range(2)]
+    calls = [scripted(played, line + end) for line, end in zip(('insert_str 0 ', 'push_str '), ends)]
+    played.holds(TRIMS[word](''.join(played.text.chars), WHITE))
+    return '; '.join([*calls, word])
+
+
+def parted(draw, played, word):
+    """At a character of the text, or at any."""
+    chars = played.text.chars
+    return call(word, draw.choice(chars) if chars and draw.chance(70) else alike(draw.char()))
 
 
 def split(draw, played, word):
@@ -157,10 +212,14 @@ def split(draw, played, word):
 
 
 def ranged(draw, played, word):
-    """From a place to another, of which one is bad at times."""
+    """From a place to another, of which one is bad at times, or after the other."""
     _, place, added = command_of(line_of(draw, played.text, 'insert_str'))
-    start, end = sorted((place % 2 ** 16, draw.choice(list(played.text.places()))))
-    return call(f'{word} {start}..{end}', alike(added))
+    start, end = sorted((place % 2 ** 16, draw.choice(list(played.text.places()))), reverse=draw.chance(5))
+    given = [alike(added)] * (word == 'replace_range')
+    chars, first, past = played.text.chars, *map(played.text.index_of, (start, end))
+    if None not in (first, past) and first <= past:
+        played.holds(''.join([*chars[:first], *given, *chars[past:]]))
+    return call(f'{word} {start}..{end}', *given)
 
 
 def with_capacity(draw, played, word):
@@ -208,17 +267,18 @@ def printed(draw, played, word):
     return call(word, max(0, draw.choice((size - 1, size, size + 1, size + 3, draw.randint(0, 40)))))
 
 
-# The words that are not SCRIPTED; any other is a call alone.
+# The words that are no COMMANDS; any other is a call alone.
 SORTS = {
     slide: 'slide', emptied: 'new default into_bytes into_string', with_capacity: 'with_capacity',
-    read: READERS, kept: 'retain', split: 'split_off', ranged: 'replace_range',
-    joined: f'from {OWN_MAKERS} collect write_str write_char {JOINS}',
+    read: READERS, kept: 'retain retain_odd', split: 'split_off', ranged: 'replace_range drain',
+    joined: f'from from_str {OWN_MAKERS} {CONVERSIONS} collect write write_str write_char {JOINS}',
+    repeated: 'repeat', trimmed: ' '.join(TRIMS), parted: 'split_once',
     compared: 'eq eq_str cmp partial_cmp', printed: 'padded cut'}
 DRAWN = {word: sort for sort, words in SORTS.items() for word in words.split()}
 
 
 def a_call(draw, played, word):
-    if word in SCRIPTED:
+    if word in COMMANDS:
         return scripted(played, line_of(draw, played.text, word))
     return DRAWN[word](draw, played, word) if word in DRAWN else word
 

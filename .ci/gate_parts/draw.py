@@ -14,7 +14,7 @@ ESCAPED = '\0\x01\t\n\r\x1b\x1f "\'\\~\x7f\x80\x85\x9f\xa0\xad\u200b\u2028\ufeff
 MARKS = 'aeé\xe5\u0300\u0301\u030a\u0903\u0e31\u200d\u20dd\u3099\ufe0f\U0001d165\U0001f3fd'
 # `Debug` goes by the version of Unicode: 17.0 in Rust 1.95, and 18.0 in the kit, which writes the
 # 12,970 characters that are new there as themselves. In these ranges there is none of them.
-ALIKE = ((0x20, 0x557), (0x58d, 0x208e), (0x20c5, 0x2e5f), (0x2e64, 0xa7dc), (0xab6e, 0xd7ff),
+ALIKE = ((0, 0x557), (0x58d, 0x208e), (0x20c5, 0x2e5f), (0x2e64, 0xa7dc), (0xab6e, 0xd7ff),
          (0xe000, 0x107ba), (0x12687, 0x18cd5), (0x191d3, 0x1b122), (0x1fafb, 0x2b81d),
          (0x2b81f, 0x3cfff), (0x3fc40, 0x10ffff))
 KNOWN = frozenset(''.join((*CHARS, ESCAPED, MARKS)))

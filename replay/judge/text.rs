@@ -107,6 +107,7 @@ fn array(text: &mut InlineString, call: &Call) -> Option<String> {
     }
     Some(of_both!(InlineString, text, call, string, match call.word {
         "copy" => done(*text = text.clone()),
+        "capacity" => INLINE_STRING_CAPACITY.to_string(),
         "remaining_capacity" => (INLINE_STRING_CAPACITY - text.len()).to_string(),
         "repeat" => {
             let size = string.len().checked_mul(call.number);
@@ -121,6 +122,8 @@ fn array(text: &mut InlineString, call: &Call) -> Option<String> {
             Some(string) => done(*text = InlineString::from(string)),
             None => "not UTF-8".into(),
         },
+        "from_str" | "from_string" | "parse" | "try_from" | "try_from_char" => made(text, |new| new.push_str(string)),
+        "add" => or("full", text.push_str(string)),
         "from_chars" => made(text, |made| string.chars().try_for_each(|ch| made.push(ch))),
         "from_strs" => {
             let strings = call.strings()?;
@@ -198,8 +201,7 @@ pub fn inlinable<T: Text>(text: &mut T, call: &Call) -> Option<String> {
         "cmp" => order(T::cmp(text, &other())),
         "partial_cmp" => order(T::partial_cmp(text, &other())?),
         "debug" => call::text(&format!("{text:?}")),
-        "repeat" if string.len().checked_mul(call.number).is_none() => {
-            meet_panic(Departure::TooMuch, || string.repeat(call.number));
+        "repeat" if !has_room(string.len().saturating_mul(call.number), || string.repeat(call.number)) => {
             "no memory".into()
         }
         "repeat" => done(*text = T::from(&string.repeat(call.number)[..])),
