@@ -57,7 +57,7 @@ BESIDE_OF_EACH = dict.fromkeys((
     *each(f'{SCRIPTS} string', '0 2 command heap'), *each(SCRIPTS, 'inline')), 50)
 
 # The cases of `replay/named_cases.py`, of `inline_script` and of `word_index`.
-NAMED_CASES, WORD_CASES = 70, 15
+NAMED_CASES, WORD_CASES = 75, 15
 
 # Hostile inputs: how many, and how many of them must be accepted and so run, and lead to each fault and to
 # each reply. (No input brings about an allocation failure before a run.)
