@@ -81,7 +81,7 @@ UNSAFE = {'library': 13, 'others': 3}
 
 # For `gate quick`: functions of the library that are proved, and tests of `inline_tests` that must pass without
 # being proved, and how many at most may say that they need the proved build.
-QUICK_PROVED, QUICK_PASSED, QUICK_HELD = 14, 9, 4
+QUICK_PROVED, QUICK_PASSED, QUICK_HELD = 14, 12, 5
 
 # Workloads of the bench, and on how many of them each type of text is run.
 BENCH_WORKLOADS = 82

@@ -60,6 +60,26 @@ fn boxed_texts_of_each_storage_have_the_same_replies(rt: HostRuntime) {
 }
 
 #[test]
+fn no_texts_have_no_replies(rt: HostRuntime) {
+    let mut texts: Vec<Boxed> = Vec::new(rt.alloc());
+    run_each(&mut texts, &[Push('a'), Pop], &mut []);
+    assert!(&rt; texts.is_empty());
+}
+
+/// Whether both pushes succeed.
+fn takes_pushes(text: &mut dyn StringExt) -> bool {
+    text.push_str("it work").is_ok() && text.push('s').is_ok()
+}
+
+#[test]
+fn texts_grow_through_a_reference_to_the_trait(rt: HostRuntime) {
+    let mut text = InlinableString::from(rt.alloc(), "inline").expect(&rt, "memory");
+    let mut string = String::from_str(rt.alloc(), "String").expect(&rt, "memory");
+    assert!(&rt; takes_pushes(&mut text) && takes_pushes(&mut string));
+    assert!(&rt; text.as_str() == "inlineit works" && string.as_str() == "Stringit works");
+}
+
+#[test]
 fn unlike_texts_have_unlike_replies(rt: HostRuntime) {
     let mut texts = texts_of(&rt, rt.alloc(), ["a", "é", "hello", "€"]);
     assert!(&rt; texts.len() == 4);

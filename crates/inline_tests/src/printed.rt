@@ -31,6 +31,13 @@ fn a_value_that_holds_a_text_is_written_into_others(rt: HostRuntime) {
     assert!(&rt; text.as_str() == "é     | 12; é     | 12; é     | 12");
 }
 
+#[test]
+fn an_inline_text_is_centred_between_stars(rt: HostRuntime) {
+    let text = InlinableString::from(rt.alloc(), "he").expect(&rt, "memory");
+    let printed = format!(in rt.alloc(); "{text:*^6}").expect(&rt, "memory");
+    assert!(&rt; text.storage() == Storage::Inline && printed.as_str() == "**he**");
+}
+
 /// What was written before stays.
 #[test]
 fn a_write_without_memory_fails_at_the_piece_that_is_not_inline(rt: HostRuntime) {
