@@ -18,7 +18,7 @@ REFUSALS = {'inline_vectors': (174, 171), 'inline_uses_tests': (29, 50)}
 PREPARED = {'inline_uses_tests': 24}
 
 # Edits in `wrong-bodies/` and `wrong-bodies-proved/`, by crate: just as many.
-WRONG_BODIES = {'inlinable_string': 19, 'inline_uses': 25}
+WRONG_BODIES = {'inlinable_string': 28, 'inline_uses': 25}
 WRONG_BODIES_PROVED = {'inline_uses': 5}
 
 
