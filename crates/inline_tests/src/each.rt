@@ -68,15 +68,17 @@ fn no_texts_have_no_replies(rt: HostRuntime) {
 
 /// Whether both pushes succeed.
 fn takes_pushes(text: &mut dyn StringExt) -> bool {
-    text.push_str("it work").is_ok() && text.push('s').is_ok()
+    text.push_str("it works").is_ok() && text.push('!').is_ok()
 }
 
 #[test]
 fn texts_grow_through_a_reference_to_the_trait(rt: HostRuntime) {
     let mut text = InlinableString::from(rt.alloc(), "inline").expect(&rt, "memory");
-    let mut string = String::from_str(rt.alloc(), "String").expect(&rt, "memory");
+    let plain = "this is a plain std::string::String";
+    let mut string = String::from_str(rt.alloc(), plain).expect(&rt, "memory");
     assert!(&rt; takes_pushes(&mut text) && takes_pushes(&mut string));
-    assert!(&rt; text.as_str() == "inlineit works" && string.as_str() == "Stringit works");
+    assert!(&rt; text.as_str() == "inlineit works!" && text.storage() == Inline);
+    assert!(&rt; string.as_str() == "this is a plain std::string::Stringit works!");
 }
 
 #[test]
