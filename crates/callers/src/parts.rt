@@ -5,7 +5,7 @@ ghost use Rattle.std.specs.List.{remove_range, repeat, slice_range};
 ghost use Rattle.std.specs.Str.{chars, NonePass, trim};
 ghost use Rattle.inlinable_string.specs.Text.{bytes_of, size, IsPlace};
 ghost use Rattle.inlinable_string.specs.State.{IsSameText};
-ghost use Rattle.inlinable_string.specs.Values.{inlinable_policy, inlinable_state};
+ghost use Rattle.inlinable_string.specs.Values.{inlinable_state};
 
 use inlinable_string::laws::drained_parts_are_those_of_bytes;
 use inlinable_string::string_ext::split_once;
@@ -27,6 +27,8 @@ pub fn cut_out<const N: usize>(
         ≡ remove_range (bytes_of (inlinable_state N line.old).text) from to) }
     ensures err { OnErr result
         (IsSameText (inlinable_state N line.old) (inlinable_state N line.new)) }
+    ensures room { IfOk result (λ taken. size (inlinable_state N taken).text
+        ≤ (inlinable_state N taken).capacity) }
     ensures short { to ≤ from + N → IsOk result }
 {
     drained_parts_are_those_of_bytes();
@@ -51,14 +53,13 @@ pub fn rotate<const N: usize>(line: &mut InlinableStringN<N>, n: usize) -> Resul
     Ok(())
 }
 
-/// Types over a selection, or before it if there is no memory for taking it out. Returns what was
-/// taken out, and the number of bytes that come after.
+/// Types over a selection, and returns it with the number of bytes that come after it.
 pub fn type_over<const N: usize>(
     line: &mut InlinableStringN<N>,
     from: usize,
     to: usize,
     typed: &str,
-) -> Result<(Option<InlinableStringN<N>>, usize), AllocError>
+) -> Result<(InlinableStringN<N>, usize), AllocError>
     requires from { IsPlace (inlinable_state N line.old).text from }
     requires to { IsPlace (inlinable_state N line.old).text to }
     requires order { from ≤ to }
@@ -66,7 +67,7 @@ pub fn type_over<const N: usize>(
         (λ taken. to + taken.1 ≡ size (inlinable_state N line.old).text) }
 {
     let len = line.len();
-    let selection = line.drain(from..to).ok();
+    let selection = line.drain(from..to)?;
     let after = len - to;
     line.insert_str(from, typed)?;
     Ok((selection, after))
@@ -137,8 +138,6 @@ pub fn tidy_any<const N: usize>(typed: &mut InlinableStringN<N>)
         ≡ trim (bytes_of (inlinable_state N typed.old).text) }
     ensures storage { (inlinable_state N typed.new).storage
         ≡ (inlinable_state N typed.old).storage }
-    ensures policy { (inlinable_state N typed.new).policy
-        ≡ (inlinable_state N typed.old).policy }
 {
     typed.trim_in_place();
 }
@@ -159,7 +158,6 @@ pub fn indentation<const N: usize>(
     ensures size { IfOk result (λ tabs. size (inlinable_state N tabs).text ≡ depth) }
     ensures shallow { depth ≤ N → IfOk result
         (λ tabs. (inlinable_state N tabs).storage ≡ Storage.Inline) }
-    ensures policy { IfOk result (λ tabs. (inlinable_state N tabs).policy ≡ inlinable_policy N) }
     ensures granted { depth ≤ N → IsOk result }
 {
     InlinableStringN::repeat(alloc, "\t", depth)

