@@ -1,12 +1,11 @@
 -- A text in a part of an array.
-use Rattle.std.proofs.Common.{◌≡◌, ℕ, ◌+◌, ◌-◌, ◌<◌, ◌≤◌, true, List, [], ◌∷◌, ◌++◌, length, take, drop, refl, sym, ap, ◌∙◌, arith, length-append, length-take-le, take-take, take_at, append-nil, length-drop}
+use Rattle.std.proofs.Common.{◌≡◌, ℕ, ◌+◌, ◌-◌, ◌≤◌, true, List, [], ◌∷◌, ◌++◌, length, take, drop, refl, sym, ap, ◌∙◌, arith, length-append, length-take-le, take_at, append-nil, length-drop}
 use Rattle.std.specs.Char.{encode_utf8, is_ascii, IsScalar}
 use Rattle.std.specs.List.{insert_slice}
 use Rattle.std.specs.Str.{chars, IsUtf8}
-use Rattle.std.proofs.Math.ListN.{set}
 use Rattle.std.proofs.lemmas.Bool.Decides.{nat_tests}
-use Rattle.std.proofs.lemmas.List.{drop-append-le, drop-drop, drop-take, take_all, drop_all, drop-set-add, take_more_set}
-use Rattle.std.proofs.lemmas.Str.{IsUtf8-had, IsUtf8-append, IsUtf8-take, IsUtf8-drop, chars-append, encodes-chars, IsUtf8-past_char, chars_past_char, encode_ascii, IsUtf8-encode}
+use Rattle.std.proofs.lemmas.List.{take_all, drop_all}
+use Rattle.std.proofs.lemmas.Str.{IsUtf8-had, IsUtf8-append, IsUtf8-take, IsUtf8-drop, chars-append, IsUtf8-past_char, chars_past_char, encode_ascii, IsUtf8-encode}
 use Rattle.inlinable_string.specs.Text.{bytes_of, size, IsCut, IsPlace, IsSplice, IsRemoval}
 use Rattle.inlinable_string.specs.declared.inline_string.window.Window.{Window}
 use Rattle.inlinable_string.proofs.Ranges.{range-utf8, range-chars, splice_from_range}

@@ -1,4 +1,4 @@
-use Rattle.std.proofs.Common.{sym, ◌∙◌, arith}
+use Rattle.std.proofs.Common.{sym, ◌∙◌}
 use Rattle.inlinable_string.proofs.Text.{size_of}
 use Rattle.inlinable_string.proofs.Window.{held}
 use Rattle.std.proofs.lemmas.Str.{encodes-chars}
