@@ -1,6 +1,6 @@
 """Edits: wrong code, wrong definitions or weaker clauses, and the goals that refuse them.
 
-docs/TESTING.md has the form of a file of edits. A line `touches: NAME ..` names what else a change breaks,
+CONTRIBUTING.md has the form of a file of edits. A line `touches: NAME ..` names what else a change breaks,
 where that is no function's body: those functions whose text has one of these names.
 """
 import os
