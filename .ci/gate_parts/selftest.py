@@ -19,7 +19,7 @@ PROGRAMS = 1
 REFUSALS, WRONG_BODIES, WRONG_BODIES_PROVED = {'toy': (2, 3)}, {'toy': 2}, {'toy': 1}
 BENCH_WORKLOADS, BENCH_TEXTS = 1, {'One': 1, 'Two': 1}
 GROWTH = {'jobs toy': 30_000, 'word_index': 4_000}
-PROOFS, CITED, UNSAFE, ROWS = 2, 2, {}, 3
+PROOFS, CITED, UNSAFE, ROWS = 2, 3, {}, 3
 QUICK_PROVED, QUICK_PASSED, QUICK_HELD = 2, 1, 1
 '''
 SOURCE = '''pub const LIMIT: usize = 1;
@@ -174,7 +174,7 @@ REPOSITORY = {
     ONE: '# Two rows.\nfirst:\n  call\nsecond: call\n', TWO: 'third: call\n', LLVM: PLAYING, RATTLE: PLAYING,
     'bench/sums': '11 from 6\n', JOBS: GROWING, WORDS: GROWING, PROOF: 'one = 1\n',
     'README.md': '```rust\nfn main() {}\n```\nIt prints `fn pasted::main: proved`. `toy/src/lib.rt` has `rows::row`.\n'
-                 'C files, of which the program calls `read`.\n'}
+                 'C files, of which `inline_script` calls `read`.\n'}
 # By part, the words behind it and the environment in which it passes.
 IN_ORDER = {
     'edits': ('--jobs 2', {'WORD': '    2\n', 'REFUSED': 'toy/one toy/other'}),
@@ -279,7 +279,7 @@ BROKEN = (
     ('counts', 'there is no toy/src/other.rt', 'README.md', 'lib.rt', 'other.rt'),
     ('counts', 'is no word of std', 'README.md', 'has `rows', 'lies in `rows'),
     ('counts', 'there is no rows::law', 'README.md', 'rows::row', 'rows::law'),
-    ('counts', '1 are `names`, and at least 2 must be', 'README.md', '`rows::row`', 'a row'),
+    ('counts', '2 are `names`, and at least 3 must be', 'README.md', '`rows::row`', 'a row'),
     ('counts', '1 are `proofs`, and at least 2 must be', PROOF, '', None),
     ('counts', "unsafe blocks: {'others': 1}", LIB, '    1\n', '    unsafe { 1 }\n'),
     *(('counts', 'no code may name', LIB, 'pub fn other', f'{code}\npub fn other') for code in (
